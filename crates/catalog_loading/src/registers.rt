@@ -1,6 +1,6 @@
 //! What all owners of a catalog hold: a house, or what is read before its partitions' parts are made.
 
-ghost use Rattle.std.specs.Prelude.{◌≡◌, length, IfErr, IfOk};
+ghost use Rattle.std.specs.Prelude.{◌≡◌, IfErr, IfOk};
 ghost use Rattle.owner_house.specs.House.{register_with};
 ghost use Rattle.catalog_loading.specs.Given.{AreReadOf, holdings_with};
 

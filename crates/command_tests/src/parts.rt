@@ -1,7 +1,7 @@
 //! Asks of parts: of each partition its dearest part is charged, and the whole comes on top. What is charged was worked out by hand from
 //! these rules, and stands beside the line; the noise is that which tools/reference.py draws.
 
-use crate::commands::{INIT, RUN};
+use crate::commands::{AUDIT, INIT, RUN};
 use memory_runs::journals::empty_journals;
 use memory_runs::{KEY, file, joined};
 use query_server::Status;
@@ -44,8 +44,8 @@ type Run = (&'static [u8], &'static [u8]);
 // A script without lines.
 const NOTHING: Run = (b"", b"");
 
-// The budget in millionths, and two runs that follow one another on one journal.
-type Case = (&'static [u8], &'static [Run]);
+// The budget in millionths, two runs that follow one another on one journal, and what an `audit` writes behind them.
+type Case = (&'static [u8], &'static [Run], &'static [u8]);
 
 #[rattlefmt::skip]
 static CASES: [Case; 5] = [
@@ -53,7 +53,8 @@ static CASES: [Case; 5] = [
     (b"10", &[(
         b"hello ann\naskpart census area A 0.000006 size people\naskpart census area B 0.000006 size people\n\
         askpart census area A 0.000004 size people\nask census 0.000001 size people\nleft census\n",
-        b"hello ann\nanswer 0 406612 6\nanswer 1 87368 0\nanswer 2 497864 4\nno 40 10 11 10 6\nleft 10 10 6\n"), NOTHING]),
+        b"hello ann\nanswer 0 406612 6\nanswer 1 87368 0\nanswer 2 497864 4\nno 40 10 11 10 6\nleft 10 10 6\n"), NOTHING],
+        b"census reservations 3 answered 3 exhausted 0 lost 0 spent 10 budget 10\n"),
     // Spent is the dearest of area, of team and of place, and the whole:
     // 300000 of A; 200000 of B beside it; 100000 of x; 9 * 50000 of the visits of A; 100000 of the whole; 400000 of A would be
     // 100000 more, which is over the budget; 350000 of B is 50000 over those of A, which fits exactly; 100000 of y beside x; no more
@@ -67,7 +68,8 @@ static CASES: [Case; 5] = [
         answer 2 5 100000\nleft 400000 1000000 6\n\
         answer 3 -66 450000\nleft 850000 1000000 8\n\
         answer 4 8 100000\nleft 950000 1000000 10\nno 40 950000 1050000 1000000 10\nanswer 5 10 50000\nleft 1000000 1000000 12\n\
-        answer 6 4 0\nno 40 1000000 1000001 1000000 14\nbye\n"), NOTHING]),
+        answer 6 4 0\nno 40 1000000 1000001 1000000 14\nbye\n"), NOTHING],
+        b"census reservations 7 answered 7 exhausted 0 lost 0 spent 1000000 budget 1000000\n"),
     // A key with no rows is answered, noise alone, and charged as any: 500000, and 2 * 250000; then A has 1000000 beside it, and
     // what costs nothing is answered still
     (b"1000000", &[(
@@ -75,7 +77,8 @@ static CASES: [Case; 5] = [
         askpart census area Z 0.25 sum[0,2] (map (fn (r : text * (text * num)) => let (a, b) = r in let (c, d) = b in d) people)\n\
         askpart census area Z 0.000001 size people\naskpart census area A 1 size people\nask census 0.000001 1\nleft census\n",
         b"hello ann\nanswer 0 4 500000\nanswer 1 7 500000\nno 40 1000000 1000001 1000000 4\nanswer 2 2 0\nanswer 3 1600265 0\n\
-        left 1000000 1000000 8\n"), NOTHING]),
+        left 1000000 1000000 8\n"), NOTHING],
+        b"census reservations 4 answered 4 exhausted 0 lost 0 spent 1000000 budget 1000000\n"),
     // words that are missing, names that are unknown, in the line's order, and then the epsilon and the analyst; of a part its
     // partition's table alone can be named
     (b"1000000", &[(
@@ -85,7 +88,8 @@ static CASES: [Case; 5] = [
         askpart census area A 1 x\nhello ann\naskpart census area A 0.5 size visits\naskpart census place A 0.5 size people\n\
         askpart census area A 0.5 \naskpart  area A 1 x\naskpart census  A 1 x\nleft census\n",
         b"no 10 1\nno 10 2\nno 10 3\nno 10 4\nno 10 5\nno 12 1\nno 12 2\nno 12 3\nno 12 1\nno 12 2\nno 12 3\nno 12 3\nno 13\n\
-        no 14\nhello ann\nno 30 unbound 5 11\nno 30 unbound 5 11\nno 21 0\nno 10 1\nno 10 2\nleft 0 1000000 0\n"), NOTHING]),
+        no 14\nhello ann\nno 30 unbound 5 11\nno 30 unbound 5 11\nno 21 0\nno 10 1\nno 10 2\nleft 0 1000000 0\n"), NOTHING],
+        b"census reservations 0 answered 0 exhausted 0 lost 0 spent 0 budget 1000000\n"),
     // What was asked of parts is there in the next run: 500000 of A and 250000 of y; B is beside A up to 500000, and 250000 more of
     // it use up the budget
     (b"1000000", &[(
@@ -95,10 +99,12 @@ static CASES: [Case; 5] = [
         b"hello ann\nleft census\nrecall census 0\nrecall census 1\naskpart census area B 0.5 size people\n\
         askpart census area B 0.25 size people\nask census 0.000001 size people\nrecall census 2\nleft census\n",
         b"hello ann\nleft 750000 1000000 4\nrecall 0 answer 6 4\nno 61 1 4\nanswer 2 2 0\nanswer 3 -12 250000\n\
-        no 40 1000000 1000001 1000000 8\nrecall 2 answer 2 8\nleft 1000000 1000000 8\n")]),
+        no 40 1000000 1000001 1000000 8\nrecall 2 answer 2 8\nleft 1000000 1000000 8\n")],
+        b"census reservations 4 answered 4 exhausted 0 lost 0 spent 1000000 budget 1000000\n"),
 ];
 
-// Whether runs that follow one another on one journal write what is wanted, under the catalog with this budget and these towns.
+// Whether an `init` makes the journal, runs that follow one another on it write what is wanted, and an `audit` counts this behind them,
+// under the catalog with this budget and these towns.
 fn are_charged<R: Threads + Wait + Sync>(
     rt: &R,
     alloc: Global,
@@ -106,6 +112,7 @@ fn are_charged<R: Threads + Wait + Sync>(
     towns: &[u8],
     people: &[u8],
     runs: &[Run],
+    counted: &[u8],
 ) -> Result<bool, AllocError> {
     let catalog = catalog(alloc, budget, towns)?;
     let held = [
@@ -115,20 +122,32 @@ fn are_charged<R: Threads + Wait + Sync>(
         file("key", &KEY),
     ];
     let mut journals = empty_journals(alloc)?;
-    journals.ran(rt, alloc, INIT, &held, b"")?;
+    let made = joined(
+        alloc,
+        &[
+            (b"owner census budget ", 1),
+            (budget, 1),
+            (b" capacity 100\n", 1),
+        ],
+    )?;
+    let (status, out) = journals.ran(rt, alloc, INIT, &held, b"")?;
+    if status != Status::Done || out.as_slice() != made.as_slice() {
+        return Ok(false);
+    }
     for (script, wanted) in runs {
         let (status, out) = journals.ran(rt, alloc, RUN, &held, script)?;
         if status != Status::Done || out.as_slice() != *wanted {
             return Ok(false);
         }
     }
-    Ok(true)
+    let (status, out) = journals.ran(rt, alloc, AUDIT, &held, b"")?;
+    Ok(status == Status::Done && out.as_slice() == counted)
 }
 
 #[test]
 fn parts(rt: HostRuntime) -> Result<(), Fail> {
-    for (budget, runs) in &CASES {
-        let charged = are_charged(&rt, rt.alloc(), budget, TOWNS, PEOPLE, runs)?;
+    for (budget, runs, counted) in &CASES {
+        let charged = are_charged(&rt, rt.alloc(), budget, TOWNS, PEOPLE, runs, counted)?;
         assert!(rt; charged, "{runs:?}");
     }
     Ok(())
@@ -142,6 +161,10 @@ fn many_keys(alloc: Global) -> Result<String, AllocError> {
     }
     Ok(keys)
 }
+
+// What is counted of them.
+const COUNTED: &[u8] =
+    b"census reservations 6 answered 6 exhausted 0 lost 0 spent 750000 budget 1000000\n";
 
 const MANY: &[u8] = b"town,team,age\nk0,x,20\nk3999,y,30\nk3999,y,40\nk4000,x,50\n";
 
@@ -157,6 +180,16 @@ static OF_MANY: [Run; 1] = [(
 #[test]
 fn many_parts(rt: HostRuntime) -> Result<(), Fail> {
     let keys = many_keys(rt.alloc())?;
-    assert!(rt; are_charged(&rt, rt.alloc(), b"1000000", keys.as_bytes(), MANY, &OF_MANY)?);
+    assert!(rt;
+        are_charged(
+            &rt,
+            rt.alloc(),
+            b"1000000",
+            keys.as_bytes(),
+            MANY,
+            &OF_MANY,
+            COUNTED
+        )?
+    );
     Ok(())
 }
