@@ -9,7 +9,7 @@ make_room
 
 mkdir -p crates
 cp "$top/HANDLES" .
-for name in fz_frac fz_ast linear_types metric_law metric_values run_values value_distance; do
+for name in fz_frac fz_ast metric_values run_values value_distance; do
     mkdir "crates/$name"
     cp -r "$top/crates/$name/src" "$top/crates/$name/specs" "$top/crates/$name/proofs" "crates/$name/"
     grep "^$name:" "$top/crates.txt" >>crates.txt

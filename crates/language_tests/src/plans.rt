@@ -81,12 +81,22 @@ fn plans_and_limits(rt: HostRuntime) -> Result<(), Fail> {
     Ok(())
 }
 
-// How many walks of bags a program takes where each table has one row, if it has a plan.
-fn walks_of(alloc: Global, sig: &Sig, program: &[u8]) -> Option<u32> {
-    let term = term_of(alloc, program)?;
+/// How many walks of bags a program takes where each table has one row, or that those of one bag are too many, which is told as want of memory.
+#[derive(Clone, Copy, PartialEq, Eq)]
+enum WalkVerdict {
+    Takes(u32),
+    NoMemory,
+    NoPlan,
+}
+
+fn walks_of(alloc: Global, sig: &Sig, program: &[u8]) -> WalkVerdict {
+    let Some(term) = term_of(alloc, program) else {
+        return WalkVerdict::NoPlan;
+    };
     match shape(alloc, sig, &term) {
-        Ok(plan) => Some(plan.walks),
-        Err(_) => None,
+        Ok(plan) => WalkVerdict::Takes(plan.walks),
+        Err(ShapeFault::NoMemory) => WalkVerdict::NoMemory,
+        Err(_) => WalkVerdict::NoPlan,
     }
 }
 
@@ -99,6 +109,19 @@ const WALKED: Piece = (
 // The same of the bag before, which is used twice.
 const AGAIN: Piece = ("let a = map (fn (x : num) => x + sum[0,1] a) a in ", 1);
 
+// A bag whose function walks another for each row, and three bags 16 deep, one within the other, by such functions.
+const WITHIN: Piece = (
+    "let f = fn (b : bag num) => map (fn (x : num) => x + sum[0,1] b) people in ",
+    1,
+);
+
+const DEEP: Piece = (
+    "let a = f (![inf] people) in let a = f (![inf] a) in let a = f (![inf] a) in ",
+    1,
+);
+
+const ONE_DEEPER: &str = "let a = map (fn (x : num) => x + sum[0,1] a) people in ";
+
 // A function that takes two walks, and as many more as come.
 const MANY: Piece = (
     "size (map (fn (x : num) => let y = size people + size people in ",
@@ -106,23 +129,26 @@ const MANY: Piece = (
 );
 
 #[rattlefmt::skip]
-const WALKS: [(&[Piece], Option<u32>); 13] = [
-    (&[("size people", 1)], Some(1)),
-    (&[("size people + sum[0,9] people", 1)], Some(2)),
-    (&[("if size people <= 3 then 0 else size people", 1)], Some(2)),
-    (&[("let f = fun (x : num) => x + size people in f (f 2)", 1)], Some(2)),
-    (&[("let a = map (fn (x : num) => x + 1) people in 3", 1)], Some(0)),
+const WALKS: [(&[Piece], WalkVerdict); 15] = [
+    (&[("size people", 1)], WalkVerdict::Takes(1)),
+    (&[("size people + sum[0,9] people", 1)], WalkVerdict::Takes(2)),
+    (&[("if size people <= 3 then 0 else size people", 1)], WalkVerdict::Takes(2)),
+    (&[("let f = fun (x : num) => x + size people in f (f 2)", 1)], WalkVerdict::Takes(2)),
+    (&[("let a = map (fn (x : num) => x + 1) people in 3", 1)], WalkVerdict::Takes(0)),
     // those inside one another
-    (&[WALKED, ("size a", 1)], Some(2)),
-    (&[WALKED, ("size a + size a", 1)], Some(4)),
-    (&[WALKED, ("size (union people a)", 1)], Some(2)),
-    (&[WALKED, AGAIN, ("size a", 1)], Some(4)),
+    (&[WALKED, ("size a", 1)], WalkVerdict::Takes(2)),
+    (&[WALKED, ("size a + size a", 1)], WalkVerdict::Takes(4)),
+    (&[WALKED, ("size (union people a)", 1)], WalkVerdict::Takes(2)),
+    (&[WALKED, AGAIN, ("size a", 1)], WalkVerdict::Takes(4)),
+    // nothing but walks within one another, 64 deep and 65 deep
+    (&[WITHIN, ("let f = fn (b : bag num) => f (![inf] (f (![inf] b))) in ", 4), DEEP, (ONE_DEEPER, 15), ("sum[0,1] a", 1)], WalkVerdict::Takes(64)),
+    (&[WITHIN, ("let f = fn (b : bag num) => f (![inf] (f (![inf] b))) in ", 4), DEEP, (ONE_DEEPER, 16), ("sum[0,1] a", 1)], WalkVerdict::NoMemory),
     // each `let` doubles them: six of them take 64
-    (&[WALKED, ("let a = map (fn (x : num) => x + sum[0,1] a) a in ", 5), ("size a", 1)], Some(64)),
-    (&[WALKED, ("let a = map (fn (x : num) => x + sum[0,1] a) a in ", 6), ("size a", 1)], None),
+    (&[WALKED, ("let a = map (fn (x : num) => x + sum[0,1] a) a in ", 5), ("size a", 1)], WalkVerdict::Takes(64)),
+    (&[WALKED, ("let a = map (fn (x : num) => x + sum[0,1] a) a in ", 6), ("size a", 1)], WalkVerdict::NoMemory),
     // and so do 63 in a row
-    (&[MANY, ("let y = y + size people + size people in ", 20), ("y ", 1), ("+ size people ", 21), (") people)", 1)], Some(64)),
-    (&[MANY, ("let y = y + size people + size people in ", 20), ("y ", 1), ("+ size people ", 22), (") people)", 1)], None),
+    (&[MANY, ("let y = y + size people + size people in ", 20), ("y ", 1), ("+ size people ", 21), (") people)", 1)], WalkVerdict::Takes(64)),
+    (&[MANY, ("let y = y + size people + size people in ", 20), ("y ", 1), ("+ size people ", 22), (") people)", 1)], WalkVerdict::NoMemory),
 ];
 
 #[test]
