@@ -110,7 +110,7 @@ def owner(rng, name):
 
 
 def right(rng):
-    many = rng.choice(SIDES["owners"]) if rng.random() < 0.01 else some(rng, 16)
+    many = rng.choice(SIDES["owners"]) if rng.random() < 0.02 else some(rng, 16)
     owners = [owner(rng, name) for name in names(rng, many)]
     return Members([("analysts", names(rng, some(rng, 64))), ("owners", owners)])
 

@@ -24,7 +24,7 @@ from tables import BadTable, rows_of  # noqa: E402
 GOOD_TABLE = "town,age\nA,20\nB,30\n"
 # Where another value stands in the catalog, the value, and what is said.
 CATALOGS = [
-    (("owners",), [], "owners: 0 stand here, and 1 to 16 may"),
+    (("owners",), [], "owners: 0 stand here, and 1 to 64 may"),
     (("owners",), {}, "owners: a list is wanted here"),
     (OWNER, [], "owners[0]: an object is wanted here"),
     (("analysts", 1), 7, "analysts[1]: a text is wanted here"),

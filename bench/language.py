@@ -55,6 +55,8 @@ def in_tables(text):
 def in_blocks(text):
     for program, said, value in re.findall(r"```program\n(.*?)\n```\n\n`check` says `(.*?)`(?:, and the value is (-?\d+))?\.\n", text, re.S):
         yield program, said, int(value) if value else None
+    for program in re.findall(r"```program\n([^`]*)\n```\n\n`ask` is told `no 90`, and `check` ends with the line `memory`\.\n", text):
+        yield program, "no 90", None
 
 
 def bytes_of(name):
@@ -95,8 +97,9 @@ class Trial:
             file.write(program.encode())
             file.flush()
             ran = subprocess.run([PROGRAM, "check", CATALOG, "census", file.name], capture_output=True, cwd=TOP)
-        if ran.stdout.decode().strip() != self.judged(program):
-            self.differ("check", program, ran.stdout.decode().strip(), self.judged(program))
+        want = {"no 90": "memory"}.get(self.judged(program), self.judged(program))
+        if ran.stdout.decode().strip() != want:
+            self.differ("check", program, ran.stdout.decode().strip(), want)
         script = b"hello ann\nask census 0.01 " + program.replace("\n", " ").encode() + b"\n"
         self.ask("ask", script, CATALOG, transcript(script, self.house))
 

@@ -60,7 +60,7 @@ class Margins(unittest.TestCase):
                 self.assertTrue(m == 0 or sum(p for k, p in probabilities.items() if k <= m - 1) < float(level))
 
     def test_each_of(self):
-        for count in (1, 2, 3, 16, 250):
+        for count in (1, 2, 3, 16, 250, 4000):
             for level in noise.LEVELS:
                 with localcontext() as context:
                     context.prec = 100

@@ -20,5 +20,5 @@ shown show (None ∷ disks) (one, others) zero within = absurd cc
 shown show (Some disk ∷ disks) there zero within = refl
 shown show (d ∷ disks) (one, others) (suc o) within = shown show disks others o (omega arith)
 
-pub at_home : {D : Type 0} (show : D → Shown) (disks : List (Option D)) → AreThere disks → length disks ≡ 16 → AreAtHome (length disks) (shelf_of show disks)
+pub at_home : {D : Type 0} (show : D → Shown) (disks : List (Option D)) → AreThere disks → length disks ≡ 64 → AreAtHome (length disks) (shelf_of show disks)
 at_home show disks there all o within = (omega arith, shown show disks there o (omega arith))

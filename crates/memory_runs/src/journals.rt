@@ -1,4 +1,4 @@
-//! The disks of sixteen owners in memory, on which one command follows another.
+//! The disks of 64 owners in memory, on which one command follows another.
 
 ghost use Rattle.std.specs.Prelude.{◌≤◌, length};
 ghost use Rattle.query_server.specs.Shelves.{AreAtHome};
@@ -33,7 +33,7 @@ pub const SMALL: Limits = Limits {
     written: 8_192,
 };
 
-/// The disks of sixteen owners, at home in a bay.
+/// The disks of 64 owners, at home in a bay.
 #[derive(Drop)]
 pub struct Journals<B: Bay> {
     bay: B,
@@ -123,7 +123,7 @@ pub fn journals_on<'a>(
     failing: &'a [u64],
 ) -> Result<MemJournals<'a>, AllocError> {
     let mut disks = vec![in alloc; Some(first), Some(second)]?;
-    for _ in 2..16_usize {
+    for _ in 2..64_usize {
         disks.push(Some(MemDisk::new(alloc, &[], SMALL, &[])?))?;
     }
     Ok(Journals {
@@ -153,7 +153,7 @@ pub fn cut_journals<'a>(
     second: CutDisk<'a>,
 ) -> Result<CutJournals<'a>, AllocError> {
     let mut disks = vec![in alloc; Some(first), Some(second)]?;
-    for _ in 2..16_usize {
+    for _ in 2..64_usize {
         let empty = MemDisk::new(alloc, &[], SMALL, &[])?;
         disks.push(Some(cut_disk(empty, NEVER, NEVER)))?;
     }
