@@ -47,9 +47,10 @@ pub fn runs_are_answered()
     ensures { RunsAreAnswered }
 {}
 
-/// Where a run has answered no script, or a service has held no session, and after each audit, every owner that was opened keeps what was found: legal records within
-/// the budget, explained by the same programs, with a bounded displacement, for which each file stands that a stop may have left. So does the owner of a grant that
-/// wasn't allowed or ended before; one that was allowed leaves what was found with this grant behind it, perhaps without where it didn't end well.
+/// Where a run has answered no script, or a service has held no session, and after each audit, every owner that was opened keeps what
+/// was found: legal records within the budget, explained by the same programs, with a bounded displacement, for which each file stands
+/// that a stop may have left. So does the owner of a grant that wasn't allowed or ended before; one that was allowed leaves what was
+/// found with this grant behind it, perhaps without where it didn't end well.
 pub fn other_ends_keep_what_was_found()
     ensures runs { RunsKeepWhatWasFound }
     ensures audits { AuditsKeepWhatWasFound }
@@ -62,7 +63,8 @@ pub fn valid_commands_end_well()
     ensures { ValidCommandsEndWell }
 {}
 
-/// What is loaded for a run, a service, an init or an audit is lawful, and its key has 32 bytes; so is what a grant is made on, and its amount is in range.
+/// What is loaded for a run, a service, an init or an audit is lawful, and its key has 32 bytes; so is what a grant is made on, and its
+/// amount is in range.
 pub fn what_is_loaded_is_lawful()
     ensures loaded { WhatIsLoadedIsLawful }
     ensures granted { WhatIsGrantedIsLawful }

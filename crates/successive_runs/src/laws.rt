@@ -91,8 +91,8 @@ pub fn grants_are_made_between_runs()
         LeavesRaised one fails.version fails.found amount old new }
 {}
 
-/// A grant speaks of the journal of which the runs around it speak: where files hold the same at each read, its owner is one of the house that is
-/// read by the same names of a catalog and a key, with the same entry and header; so it is of a grant's words and a run's.
+/// A grant speaks of the journal of which the runs around it speak: where files hold the same at each read, its owner is one of the house
+/// that is read by the same names of a catalog and a key, with the same entry and header; so it is of a grant's words and a run's.
 pub fn grants_and_runs_agree()
     ensures files { (held : Contents) (catalog key owner : List ℕ) (house : KeyedHouse) (one : KeyedOwner) →
         (house_read catalog key (always held)).given ≡ Ok house → (keyed_owner_read catalog key owner (always held)).given ≡ Ok one →
