@@ -20,9 +20,13 @@ use std::alloc::{AllocFailed, Global};
 use std::hint;
 use std::snapshot::Snapshot;
 use std::sync::Wait;
+use std::time::Duration;
 
 // How often a caller that waits tries before it sleeps.
 const TRIES: u32 = 100;
+
+// How long a caller sleeps, in milliseconds, where a wake was on its way to another.
+const LONGEST_NAP: u64 = 10;
 
 // The low two bits of word 1 while a seat has the turn.
 const TAKEN: u64 = 1;
@@ -81,6 +85,11 @@ fn asleep_word(word: u64, slept: bool) -> u64
     } else {
         word.wrapping_add(SLEEPER)
     }
+}
+
+// One who slept was woken, and is on its way.
+fn is_called(word: u64) -> bool {
+    word % 8 >= CALLED
 }
 
 // The kernel compares 32 bits of a word, which are all that count fewer than 2^29 threads.
@@ -202,8 +211,8 @@ impl<T: StandsFor> Owned<T> {
             == word
     }
 
-    // Sleeps until a wake, if another still has the turn, and says whether it did. It is counted before, in the word that says that another
-    // has the turn, and the kernel puts to sleep only where the word is still the same: so the end of that turn sees it, and no wake is missed.
+    // Goes to sleep, if another still has the turn, and says whether it did. A seat is counted before, in the word that says that another has
+    // the turn, and the kernel puts to sleep only where the word is still the same: so the end of that turn sees it.
     fn sleep<W: Wait>(
         &self,
         rt: &W,
@@ -226,8 +235,21 @@ impl<T: StandsFor> Owned<T> {
         if found != word {
             return false;
         }
-        self.table.shared.park(rt, 1, low_half(asleep));
+        self.park(rt, asleep);
         true
+    }
+
+    // Sleeps while word 1 is this. Where a wake is on its way it may have been sent to this very seat, before it sleeps, and then nobody else is
+    // on the way: so that sleep ends by itself.
+    fn park<W: Wait>(&self, rt: &W, word: u64) {
+        if is_called(word) {
+            let longest = Duration::from_millis(LONGEST_NAP);
+            self.table
+                .shared
+                .park_timeout(rt, 1, low_half(word), longest);
+        } else {
+            self.table.shared.park(rt, 1, low_half(word));
+        }
     }
 
     // Counts what was added to the state in the seat's slot, and ends the turn.
