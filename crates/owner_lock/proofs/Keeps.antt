@@ -256,19 +256,19 @@ module _ {T E F : Type 0} (k : Ghosts T E F) where
             z);
       }
 
-  -- the table at the start
-  pub opens : (x : T) → k.legal (k.fixed x) (k.history x)
-      → OneHistory k (opening (length (k.history x) ∷ (if k.shut x then 2 else 0) ∷ []) (x ∷ []) (first_view k x))
-  opens x legal = record {
+  -- a table with the state at home and one seat, whoever is counted
+  pub at_home : (x : T) (word : ℕ) → word % 4 ≡ lock_word k (home x) → k.legal (k.fixed x) (k.history x)
+      → OneHistory k (opening (length (k.history x) ∷ word ∷ []) (x ∷ []) (first_view k x))
+  at_home x word says legal = record {
     fixed = k.fixed x;
     base = k.history x;
     history = k.history x;
     log = [];
     phase = home x;
-    word = if k.shut x then 2 else 0;
+    word = word;
     made = sym (append_nil (k.history x));
     words = refl;
-    says = free_low (k.shut x);
+    says = says;
     homes = refl;
     legal = legal;
     placed = (refl, refl);
@@ -287,6 +287,11 @@ module _ {T E F : Type 0} (k : Ghosts T E F) where
         }
         (λ i u no at. absurd (other_than_first i u (first_view k x) no at)) j v e;
   }
+
+  -- the table at the start
+  pub opens : (x : T) → k.legal (k.fixed x) (k.history x)
+      → OneHistory k (opening (length (k.history x) ∷ (if k.shut x then 2 else 0) ∷ []) (x ∷ []) (first_view k x))
+  opens x legal = at_home x (if k.shut x then 2 else 0) (free_low (k.shut x)) legal
 
   -- what a job meets, where the state is at home
   met : (f : F) (base h : List E) (log : List (ℕ × E)) (id : ℕ) (v : V) (x : T) → h ≡ base ++ entries_of log → k.legal f h → OneHand k log
