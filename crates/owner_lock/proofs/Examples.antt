@@ -1,14 +1,16 @@
 -- What passes know and what jobs owe, at worked sheets, on both sides of each choice.
-use Rattle.std.proofs.Common.{◌≡◌, ℕ, zero, suc, ◌+◌, ◌≤◌, ◌⊎◌, Bool, true, false, List, [], ◌∷◌, ◌++◌, length, get_or, refl, sym, ap, ◌∙◌, inl, inr, arith, Option, Some, slice_get}
+use Rattle.std.proofs.Common.{◌≡◌, ℕ, zero, suc, ◌+◌, ◌%◌, ◌≤◌, ◌⊎◌, Bool, true, false, List, [], ◌∷◌, ◌++◌, length, get_or, refl, sym, ap, ◌∙◌, inl, inr, arith, Option, Some, slice_get}
 use mathlib.Core.Option.{some}
-use Rattle.atomic_table.specs.Table.{State}
+use Rattle.std.specs.Bool.{if◌then◌else◌}
+use Rattle.atomic_table.specs.Table.{State, opening}
 use Rattle.owner_lock.specs.declared.stands.StandsFor.{Ghosts}
 use Rattle.owner_lock.specs.declared.view.View.{View}
 use Rattle.owner_lock.specs.Entries.{Ascends, Has, longer, merged}
 use Rattle.owner_lock.specs.Known.{Known, given_half, joined, kept_half, known_first, whole_share}
 use Rattle.owner_lock.specs.Jobs.{ClosesOwn, ComesBack, Knows, Meets, Owes}
 use Rattle.owner_lock.specs.Views.{first_view, known_by, settled, both}
-use Rattle.owner_lock.specs.History.{InPhase, OneHistory, Phase, held, home, homes_in}
+use Rattle.owner_lock.specs.History.{InPhase, OneHistory, Phase, held, home, homes_in, lock_word}
+use Rattle.owner_lock.proofs.Keeps.{at_home}
 
 -- A sheet has notes and room for three, and may be shut. A note of n + 10 closes one of n.
 record Sheet : Type 0 where
@@ -222,3 +224,24 @@ not_another_count h = by h.phase h.homes h.placed
         let one : 5 ∷ [] ≡ h.history = ap (λ (s : Sheet). s.notes) here ∙ is.0 in
         omega (arith, ap length one, counted)
     by (held j b) at is = cc
+
+-- Of a sheet at home word 1 doesn't say that a seat has the turn, whoever is counted above that.
+abbrev taken_at_home : State Sheet (View ℕ ℕ)
+taken_at_home = record { words = 1 ∷ 9 ∷ []; homes = some (sheet (5 ∷ [])) ∷ []; views = first_view sheets (sheet (5 ∷ [])) ∷ [] }
+
+not_taken_at_home : OneHistory sheets taken_at_home → ⊥
+not_taken_at_home h = by h.phase h.homes h.says
+  where
+    nine : h.word ≡ 9
+    nine = sym (ap (λ ws. get_or ws 1 0) h.words)
+
+    by : (p : Phase Sheet) → some (sheet (5 ∷ [])) ∷ [] ≡ homes_in sheets p → h.word % 4 ≡ lock_word sheets p → ⊥
+    by (home x) at says =
+        let here : sheet (5 ∷ []) ≡ x = cc in
+        let open_one : h.word % 4 ≡ 0 = says ∙ ap (λ (s : Sheet). if s.shut then 2 else 0) (sym here) in
+        omega (arith, open_one, nine)
+    by (held j b) at says = cc
+
+-- A caller may be counted there, that is to sleep or has slept.
+counted_at_home : OneHistory sheets (opening (1 ∷ 8 ∷ []) (sheet (5 ∷ []) ∷ []) (first_view sheets (sheet (5 ∷ []))))
+counted_at_home = at_home sheets (sheet (5 ∷ [])) 8 refl (omega arith)

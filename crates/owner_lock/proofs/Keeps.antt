@@ -1,5 +1,5 @@
 -- Each step keeps the rule.
-use Rattle.std.proofs.Common.{◌≡◌, ℕ, suc, ◌+◌, ◌-◌, ◌/◌, ◌<◌, ◌≤◌, eqb, ◌≢◌, ◌⊎◌, ◌||◌, Bool, true, false, List, [], ◌∷◌, ◌++◌, map, length, get_or, set, sym, refl, ap, ◌∙◌, subst, inl, inr, ⊎_elim, arith, Some, slice_get, eq-eqb, length-set, length-append}
+use Rattle.std.proofs.Common.{◌≡◌, ℕ, suc, ◌+◌, ◌-◌, ◌/◌, ◌%◌, ◌<◌, ◌≤◌, eqb, ◌≢◌, ◌⊎◌, ◌||◌, Bool, true, false, List, [], ◌∷◌, ◌++◌, map, length, get_or, set, sym, refl, ap, ◌∙◌, subst, inl, inr, ⊎_elim, arith, Some, slice_get, eq-eqb, length-set, length-append}
 use mathlib.Core.Option.{some, none, some-injective, some-ne-none}
 use mathlib.Core.List.{IsPrefix}
 use mathlib.Core.Logic.{dite}
@@ -27,6 +27,18 @@ half_some n l = omega arith
 
 half_left : (n : ℕ) → 2 ≤ n → 0 < n - n / 2
 half_left n l = omega arith
+
+free_low : (b : Bool) → ◌≡◌ {A = ℕ} ((if b then 2 else 0) % 4) (if b then 2 else 0)
+free_low true = refl
+free_low false = refl
+
+-- what is added to the word of a turn that ends
+abbrev to_free : Bool → ℕ
+to_free shut = if shut then 1 else 18446744073709551615
+
+freed_low : (n : ℕ) (b : Bool) → n % 4 ≡ 1 → (n + to_free b) % 18446744073709551616 % 4 ≡ (if b then 2 else 0)
+freed_low n true e = omega arith
+freed_low n false e = omega arith
 
 false_true : {X : Type 0} → false ≡ true → X
 false_true e = absurd cc
@@ -75,9 +87,10 @@ module _ {T E F : Type 0} (k : Ghosts T E F) where
         history = r.history;
         log = r.log;
         phase = r.phase;
-        awaited = r.awaited;
+        word = r.word;
         made = r.made;
         words = r.words;
+        says = r.says;
         homes = r.homes;
         legal = r.legal;
         placed = placed_snoc r.fixed r.history vs (right_half v) r.phase (placed_set r.fixed r.history s.views id v (left_half v) at (λ t. t) r.phase r.placed);
@@ -140,9 +153,10 @@ module _ {T E F : Type 0} (k : Ghosts T E F) where
           history = r.history;
           log = r.log;
           phase = r.phase;
-          awaited = r.awaited;
+          word = r.word;
           made = r.made;
-          words = same_word (length r.history) (lock_word k r.awaited r.phase) s.words r.words;
+          words = same_word (length r.history) r.word s.words r.words;
+          says = r.says;
           homes = r.homes;
           legal = r.legal;
           placed = placed_set r.fixed r.history s.views id v (settled v) at (λ t. t) r.phase r.placed;
@@ -191,9 +205,10 @@ module _ {T E F : Type 0} (k : Ghosts T E F) where
         history = r.history;
         log = log;
         phase = r.phase;
-        awaited = r.awaited;
+        word = r.word;
         made = r.made ∙ ap (λ x. r.base ++ x) (sym (entries_moved id other r.log));
         words = r.words;
+        says = r.says;
         homes = r.homes;
         legal = r.legal;
         placed = placed_set r.fixed r.history vs other w spent there (λ t. false_true (sym rw'.1 ∙ t)) r.phase
@@ -241,18 +256,19 @@ module _ {T E F : Type 0} (k : Ghosts T E F) where
             z);
       }
 
-  -- the table at the start
-  pub opens : (x : T) → k.legal (k.fixed x) (k.history x)
-      → OneHistory k (opening (length (k.history x) ∷ (if k.shut x then 2 else 0) ∷ []) (x ∷ []) (first_view k x))
-  opens x legal = record {
+  -- a table with the state at home and one seat, whoever is counted
+  pub at_home : (x : T) (word : ℕ) → word % 4 ≡ lock_word k (home x) → k.legal (k.fixed x) (k.history x)
+      → OneHistory k (opening (length (k.history x) ∷ word ∷ []) (x ∷ []) (first_view k x))
+  at_home x word says legal = record {
     fixed = k.fixed x;
     base = k.history x;
     history = k.history x;
     log = [];
     phase = home x;
-    awaited = false;
+    word = word;
     made = sym (append_nil (k.history x));
     words = refl;
+    says = says;
     homes = refl;
     legal = legal;
     placed = (refl, refl);
@@ -271,6 +287,11 @@ module _ {T E F : Type 0} (k : Ghosts T E F) where
         }
         (λ i u no at. absurd (other_than_first i u (first_view k x) no at)) j v e;
   }
+
+  -- the table at the start
+  pub opens : (x : T) → k.legal (k.fixed x) (k.history x)
+      → OneHistory k (opening (length (k.history x) ∷ (if k.shut x then 2 else 0) ∷ []) (x ∷ []) (first_view k x))
+  opens x legal = at_home x (if k.shut x then 2 else 0) (free_low (k.shut x)) legal
 
   -- what a job meets, where the state is at home
   met : (f : F) (base h : List E) (log : List (ℕ × E)) (id : ℕ) (v : V) (x : T) → h ≡ base ++ entries_of log → k.legal f h → OneHand k log
@@ -315,18 +336,19 @@ module _ {T E F : Type 0} (k : Ghosts T E F) where
   count_at : (n m : ℕ) (ws : List ℕ) → ws ≡ n ∷ m ∷ [] → get_or ws 0 0 ≡ n
   count_at n m ws e = ap (λ (u : List ℕ). get_or u 0 0) e
 
-  -- a seat that doesn't get the turn stays as it is
-  unmoved : (s : St) (r : OneHistory k s) (id : ℕ) (v : V) (cs : List (ℕ × T)) (awaited : Bool) (word : ℕ) → get_elem? s.views id ≡ some v
-      → word ≡ lock_word k awaited r.phase → OneHistory k (stepped s 1 word id cs v keeps)
-  unmoved s r id v cs awaited word at is = record {
+  -- a step that changes neither the turn nor its seat
+  unmoved : (s : St) (r : OneHistory k s) (id : ℕ) (v : V) (cs : List (ℕ × T)) (word : ℕ) → get_elem? s.views id ≡ some v
+      → word % 4 ≡ lock_word k r.phase → OneHistory k (stepped s 1 word id cs v keeps)
+  unmoved s r id v cs word at says = record {
     fixed = r.fixed;
     base = r.base;
     history = r.history;
     log = r.log;
     phase = r.phase;
-    awaited = awaited;
+    word = word;
     made = r.made;
-    words = ap (λ (u : List ℕ). set u 1 word) r.words ∙ ap (λ (n : ℕ). length r.history ∷ n ∷ []) is;
+    words = ap (λ (u : List ℕ). set u 1 word) r.words;
+    says = says;
     homes = r.homes;
     legal = r.legal;
     placed = subst (λ (z : List V). InPhase k r.fixed r.history z r.phase) (sym (set_again s.views id v at)) r.placed;
@@ -337,37 +359,26 @@ module _ {T E F : Type 0} (k : Ghosts T E F) where
         (sym (set_again s.views id v at)) r.each;
   }
 
-  -- what word 1 is while a seat has the turn
-  abbrev taken_word : Bool → ℕ
-  taken_word awaited = if awaited then 3 else 1
+  -- what the word that is found says of the turn
+  says_found : (s : St) (r : OneHistory k s) → get_or s.words 1 0 % 4 ≡ lock_word k r.phase
+  says_found s r = ap (λ (n : ℕ). n % 4) (word_at (length r.history) r.word s.words r.words) ∙ r.says
 
-  taken_or_free : (b : Bool) → taken_word b ≢ 1 → taken_word b ≢ 3 → ⊥
-  taken_or_free true one three = three refl
-  taken_or_free false one three = one refl
-
-  two_or_none : (b : Bool) → ◌≡◌ {A = ℕ} (if b then 2 else 0) 1 → ⊥
-  two_or_none true e = omega (arith, e)
-  two_or_none false e = omega (arith, e)
-
-  when_taken : (p : Phase T) (b : Bool) → lock_word k b p ≡ 1 → 3 ≡ lock_word k true p
-  when_taken (home x) b e = absurd (two_or_none (k.shut x) e)
-  when_taken (held j c) b e = refl
-
-  -- a seat announces that it may sleep
-  pub warns : (slots id : ℕ) (m : Me T V) → Allows (OneHistory k) slots id m 1 (λ n. either (eqb n 1) 3 n) (warned k (step slots 1 1 3 none) m)
-  warns slots id m s r len at small =
+  -- What is said of those who wait changes nothing else.
+  pub warns : (slots id old new : ℕ) (m : Me T V) → new % 4 ≡ old % 4
+      → Allows (OneHistory k) slots id m 1 (λ n. either (eqb n old) new n) (warned k (step slots 1 old new none) m)
+  warns slots id old new m same s r len at small =
       let n : ℕ = get_or s.words 1 0 in
-      let is : n ≡ lock_word k r.awaited r.phase = word_at (length r.history) (lock_word k r.awaited r.phase) s.words r.words in
-      exchanged n 1 3 (λ (j : ℕ). (w : V) × (a : Act T) × Valid s.homes m.1 a
-      × OneHistory k (stepped s 1 j id m.1 w a) × warned k (step slots 1 1 3 none) m n (w, carried_after m.1 a))
-      (λ e. (m.0, keeps, tt, unmoved s r id m.0 m.1 true 3 at (when_taken r.phase r.awaited (sym is ∙ e)), refl))
-      (λ d. (m.0, keeps, tt, unmoved s r id m.0 m.1 r.awaited n at is, refl))
+      let says = says_found s r in
+      exchanged n old new (λ (j : ℕ). (w : V) × (a : Act T) × Valid s.homes m.1 a
+      × OneHistory k (stepped s 1 j id m.1 w a) × warned k (step slots 1 old new none) m n (w, carried_after m.1 a))
+      (λ e. (m.0, keeps, tt, unmoved s r id m.0 m.1 new at (same ∙ (ap (λ (z : ℕ). z % 4) (sym e) ∙ says)), refl))
+      (λ d. (m.0, keeps, tt, unmoved s r id m.0 m.1 n at says, refl))
 
-  taken_now : (s : St) (r : OneHistory k s) (id : ℕ) (v : V) (awaited : Bool) (p : Phase T) → r.phase ≡ p → get_elem? s.views id ≡ some v → 0 < v.share
-      → lock_word k r.awaited p ≢ 1 → lock_word k r.awaited p ≢ 3
-      → (w : V) × (a : Act T) × Valid s.homes [] a × OneHistory k (stepped s 1 (taken_word awaited) id [] w a) × Took k v (w, carried_after [] a)
-  taken_now s r id v awaited (held j b) is at some_share one three = absurd (taken_or_free r.awaited one three)
-  taken_now s r id v awaited (home x) is at some_share one three =
+  taken_now : (s : St) (r : OneHistory k s) (id : ℕ) (v : V) (word : ℕ) (p : Phase T) → r.phase ≡ p → get_elem? s.views id ≡ some v → 0 < v.share
+      → lock_word k p ≢ 1 → word % 4 ≡ 1
+      → (w : V) × (a : Act T) × Valid s.homes [] a × OneHistory k (stepped s 1 word id [] w a) × Took k v (w, carried_after [] a)
+  taken_now s r id v word (held j b) is at some_share free taken = absurd (free refl)
+  taken_now s r id v word (home x) is at some_share free taken =
       let fit = subst (λ (z : Phase T). Fits k r.fixed r.base r.history r.log z id v) is (r.each id v at) in
       let placed = subst (λ (z : Phase T). InPhase k r.fixed r.history s.views z) is r.placed in
       let homes : s.homes ≡ some x ∷ [] = r.homes ∙ ap (homes_in k) is in
@@ -381,9 +392,10 @@ module _ {T E F : Type 0} (k : Ghosts T E F) where
           history = r.history;
           log = r.log;
           phase = held id (k.shut x);
-          awaited = awaited;
+          word = word;
           made = r.made;
-          words = ap (λ (u : List ℕ). set u 1 (taken_word awaited)) r.words;
+          words = ap (λ (u : List ℕ). set u 1 word) r.words;
+          says = taken;
           homes = ap (λ hs. set hs 0 none) homes;
           legal = r.legal;
           placed = (w, set_here s.views id w (at_within s.views id v at), refl);
@@ -414,22 +426,22 @@ module _ {T E F : Type 0} (k : Ghosts T E F) where
         (x, refl, refl, met r.fixed r.base r.history r.log id v x r.made r.legal r.one_hand fit some_share placed.0 placed.1),
       )
 
-  turns_at : (slots id free : ℕ) (awaited : Bool) (v : V) → 0 < v.share → free ≢ 1 → free ≢ 3
-      → Allows (OneHistory k) slots id (v, []) 1 (λ n. either (eqb n free) (taken_word awaited) n) (turned k (step slots 1 free (taken_word awaited) none) (v, []))
-  turns_at slots id free awaited v some_share one three s r len at small =
+  turns_at : (slots id free word : ℕ) (v : V) → 0 < v.share → free % 4 ≢ 1 → word % 4 ≡ 1
+      → Allows (OneHistory k) slots id (v, []) 1 (λ n. either (eqb n free) word n) (turned k (step slots 1 free word none) (v, []))
+  turns_at slots id free word v some_share free_one taken s r len at small =
       let n : ℕ = get_or s.words 1 0 in
-      let is : n ≡ lock_word k r.awaited r.phase = word_at (length r.history) (lock_word k r.awaited r.phase) s.words r.words in
-      exchanged n free (taken_word awaited) (λ (m : ℕ). (w : V) × (a : Act T) × Valid s.homes [] a
-      × OneHistory k (stepped s 1 m id [] w a) × turned k (step slots 1 free (taken_word awaited) none) (v, []) n (w, carried_after [] a))
-      (λ e. let t = taken_now s r id v awaited r.phase refl at some_share (λ h. one (sym e ∙ (is ∙ h))) (λ h. three (sym e ∙ (is ∙ h))) in
+      let says = says_found s r in
+      exchanged n free word (λ (m : ℕ). (w : V) × (a : Act T) × Valid s.homes [] a
+      × OneHistory k (stepped s 1 m id [] w a) × turned k (step slots 1 free word none) (v, []) n (w, carried_after [] a))
+      (λ e. let t = taken_now s r id v word r.phase refl at some_share (λ h. free_one (ap (λ (z : ℕ). z % 4) (sym e) ∙ (says ∙ h))) taken in
       (t.0, t.1, t.2, t.3, ((λ _. t.4), (λ d. absurd (d e)))))
-      (λ d. (v, keeps, tt, unmoved s r id v [] r.awaited n at is, ((λ e. absurd (d e)), λ _. refl)))
+      (λ d. (v, keeps, tt, unmoved s r id v [] n at says, ((λ e. absurd (d e)), λ _. refl)))
 
-  pub turns : (slots id free : ℕ) (awaited : Bool) (m : Me T V) → m.1 ≡ [] → 0 < m.0.share → free ≢ 1 → free ≢ 3
-      → Allows (OneHistory k) slots id m 1 (λ n. either (eqb n free) (taken_word awaited) n) (turned k (step slots 1 free (taken_word awaited) none) m)
-  turns slots id free awaited m e some_share one three =
-      subst (λ (cs : List (ℕ × T)). Allows (OneHistory k) slots id (m.0, cs) 1 (λ n. either (eqb n free) (taken_word awaited) n)
-      (turned k (step slots 1 free (taken_word awaited) none) (m.0, cs))) (sym e) (turns_at slots id free awaited m.0 some_share one three)
+  pub turns : (slots id free word : ℕ) (m : Me T V) → m.1 ≡ [] → 0 < m.0.share → free % 4 ≢ 1 → word % 4 ≡ 1
+      → Allows (OneHistory k) slots id m 1 (λ n. either (eqb n free) word n) (turned k (step slots 1 free word none) m)
+  turns slots id free word m e some_share free_one taken =
+      subst (λ (cs : List (ℕ × T)). Allows (OneHistory k) slots id (m.0, cs) 1 (λ n. either (eqb n free) word n)
+      (turned k (step slots 1 free word none) (m.0, cs))) (sym e) (turns_at slots id free word m.0 some_share free_one taken)
 
   abbrev slot_of : T → List (ℕ × T) → T
   slot_of d [] = d
@@ -491,9 +503,10 @@ module _ {T E F : Type 0} (k : Ghosts T E F) where
           history = h;
           log = log;
           phase = r.phase;
-          awaited = r.awaited;
+          word = r.word;
           made = ap (λ (z : List E). z ++ e ∷ []) r.made ∙ sym (entries_snoc r.base r.log id e);
-          words = ap (λ (u : List ℕ). set u 0 (length (k.history y))) r.words ∙ ap (λ (z : List E). length z ∷ lock_word k r.awaited r.phase ∷ []) grown;
+          words = ap (λ (u : List ℕ). set u 0 (length (k.history y))) r.words ∙ ap (λ (z : List E). length z ∷ r.word ∷ []) grown;
+          says = r.says;
           homes = r.homes;
           legal = subst (λ (z : F × List E). k.legal z.0 z.1) (λ i. (f i, grown i)) legal;
           placed = more_placed r.fixed r.history h (set s.views id (adding v e)) r.phase id v.shut t.0
@@ -530,9 +543,9 @@ module _ {T E F : Type 0} (k : Ghosts T E F) where
               });
         }
 
-    pub frees_at : (y : T) → Some (k.fixed y) ≡ v.fixed → k.history y ≡ v.seen → (v.shut ≡ true → k.shut y ≡ true)
-        → OneHistory k (stepped s 1 (if k.shut y then 2 else 0) id ((0, y) ∷ []) (freeing k v y) gives)
-    frees_at y fixed same shut =
+    pub frees_at : (y : T) (word : ℕ) → word % 4 ≡ lock_word k (home y) → Some (k.fixed y) ≡ v.fixed → k.history y ≡ v.seen
+        → (v.shut ≡ true → k.shut y ≡ true) → OneHistory k (stepped s 1 word id ((0, y) ∷ []) (freeing k v y) gives)
+    frees_at y word says fixed same shut =
         let t = mine.turn turn in
         let alive = mine.alive alive_here in
         record {
@@ -541,9 +554,10 @@ module _ {T E F : Type 0} (k : Ghosts T E F) where
           history = r.history;
           log = r.log;
           phase = home y;
-          awaited = false;
+          word = word;
           made = r.made;
-          words = ap (λ (u : List ℕ). set u 1 (if k.shut y then 2 else 0)) r.words;
+          words = ap (λ (u : List ℕ). set u 1 word) r.words;
+          says = says;
           homes = ap (λ hs. set hs 0 (some y)) (r.homes ∙ ap (homes_in k) t.0);
           legal = r.legal;
           placed = (same ∙ t.1, some_fixed (k.fixed y) r.fixed (fixed ∙ alive.0));
@@ -578,7 +592,7 @@ module _ {T E F : Type 0} (k : Ghosts T E F) where
       let v : V = m.0 in
       let t = (r.each id v at).turn turn in
       let n : ℕ = get_or s.words 0 0 in
-      let found : n ≡ old = count_at (length r.history) (lock_word k r.awaited r.phase) s.words r.words ∙ (ap length (sym t.1) ∙ sym is) in
+      let found : n ≡ old = count_at (length r.history) r.word s.words r.words ∙ (ap length (sym t.1) ∙ sym is) in
       ⊎_elim
       (λ (same : k.history y ≡ v.seen). let a = ap length same in absurd (omega arith))
       (λ (more : (e : E) × (k.history y ≡ v.seen ++ e ∷ []) × ClosesIn k v e). (
@@ -592,17 +606,19 @@ module _ {T E F : Type 0} (k : Ghosts T E F) where
       ))
       ends.adds
 
-  frees_with : (slots id : ℕ) (v : V) (y : T) (word : ℕ) → v.turn ≡ true → word ≡ (if k.shut y then 2 else 0) → Some (k.fixed y) ≡ v.fixed
+  frees_with : (slots id : ℕ) (v : V) (y : T) (added : ℕ) → v.turn ≡ true → added ≡ to_free (k.shut y) → Some (k.fixed y) ≡ v.fixed
       → k.history y ≡ v.seen → (v.shut ≡ true → k.shut y ≡ true)
-      → Allows (OneHistory k) slots id (v, (0, y) ∷ []) 1 (λ _. word) (freed k (step slots 1 word 0 none) (v, (0, y) ∷ []))
-  frees_with slots id v y word turn is fixed same shut s r len at small = (
-    freeing k v y,
-    gives,
-    tt,
-    subst (λ (m : ℕ). OneHistory k (stepped s 1 m id ((0, y) ∷ []) (freeing k v y) gives))
-        (sym is) (frees_at s r id v at turn y fixed same shut),
-    (refl, λ z e. ap (freeing k v) (held_state y z e)),
-  )
+      → Allows (OneHistory k) slots id (v, (0, y) ∷ []) 1 (λ n. (n + added) % 18446744073709551616) (freed k (step slots 1 added 0 none) (v, (0, y) ∷ []))
+  frees_with slots id v y added turn is fixed same shut s r len at small =
+      let n : ℕ = get_or s.words 1 0 in
+      let taken : n % 4 ≡ 1 = says_found s r ∙ ap (lock_word k) ((r.each id v at).turn turn).0 in (
+        freeing k v y,
+        gives,
+        tt,
+        frees_at s r id v at turn y ((n + added) % 18446744073709551616)
+            (ap (λ (a : ℕ). (n + a) % 18446744073709551616 % 4) is ∙ freed_low n (k.shut y) taken) fixed same shut,
+        (refl, λ z e. ap (freeing k v) (held_state y z e)),
+      )
 
   -- what holds of the state before it goes back
   pub ready : (v w : V) (y : T) → v.turn ≡ true → MayEnd k v y → IsMarked k v y w
@@ -622,13 +638,13 @@ module _ {T E F : Type 0} (k : Ghosts T E F) where
       ))
       m
 
-  pub frees : (slots id : ℕ) (m : Me T V) (v w : V) (y : T) (word : ℕ) → m ≡ (w, (0, y) ∷ []) → v.turn ≡ true
-      → word ≡ (if k.shut y then 2 else 0) → MayEnd k v y → IsMarked k v y w
-      → Allows (OneHistory k) slots id m 1 (λ _. word) (freed k (step slots 1 word 0 none) m)
-  frees slots id m v w y word e turn is ends marks =
+  pub frees : (slots id : ℕ) (m : Me T V) (v w : V) (y : T) (added : ℕ) → m ≡ (w, (0, y) ∷ []) → v.turn ≡ true
+      → added ≡ to_free (k.shut y) → MayEnd k v y → IsMarked k v y w
+      → Allows (OneHistory k) slots id m 1 (λ n. (n + added) % 18446744073709551616) (freed k (step slots 1 added 0 none) m)
+  frees slots id m v w y added e turn is ends marks =
       let r = ready v w y turn ends marks in
-      subst (λ (z : Me T V). Allows (OneHistory k) slots id z 1 (λ _. word) (freed k (step slots 1 word 0 none) z))
-      (sym e) (frees_with slots id w y word r.0 is r.1 r.2 r.3)
+      subst (λ (z : Me T V). Allows (OneHistory k) slots id z 1 (λ n. (n + added) % 18446744073709551616) (freed k (step slots 1 added 0 none) z))
+      (sym e) (frees_with slots id w y added r.0 is r.1 r.2 r.3)
 
   -- what a seat holds that took the turn
   pub holds : (v : V) (m : Me T V) (x : T) → Took k v m → m.1 ≡ (0, x) ∷ rest m.1 → (m.0 ≡ taking k v x) × (rest m.1 ≡ []) × Meets k (known_by v) x

@@ -1,7 +1,7 @@
 -- One history for all passes: the rule of the lock's table, and what each kind of step tells.
--- Word 0 counts the history. Word 1 is 1 while a seat has the turn, or 3 where another may sleep until it ends; else 2 where the state
--- is shut, else 0. Slot 0 has the state.
-use Rattle.std.specs.Prelude.{◌≡◌, ◌≢◌, ℕ, ◌+◌, ◌<◌, Bool, true, false, if◌then◌else◌, ◌==◌, List, [], ◌∷◌, ◌++◌, map, length, Some}
+-- Word 0 counts the history. Word 1 is, modulo 4, 1 while a seat has the turn, else 2 where the state is shut, else 0. What it says above
+-- that, of those who wait, is nothing to the rule. Slot 0 has the state.
+use Rattle.std.specs.Prelude.{◌≡◌, ◌≢◌, ℕ, ◌+◌, ◌%◌, ◌<◌, Bool, true, false, if◌then◌else◌, ◌==◌, List, [], ◌∷◌, ◌++◌, map, length, Some}
 use mathlib.Core.List.{IsPrefix}
 use mathlib.Core.Option.{Option, some, none}
 use lib.ListN.{get_elem?}
@@ -37,9 +37,9 @@ Below n [] = Unit {0}
 Below n (x ∷ xs) = (x.0 < n) × Below n xs
 
 module _ {T E F : Type 0} (k : Ghosts T E F) where
-  abbrev pub lock_word : (awaited : Bool) → Phase T → ℕ
-  lock_word awaited (home x) = if k.shut x then 2 else 0
-  lock_word awaited (held j b) = if awaited then 3 else 1
+  abbrev pub lock_word : Phase T → ℕ
+  lock_word (home x) = if k.shut x then 2 else 0
+  lock_word (held j b) = 1
 
   abbrev pub homes_in : Phase T → List (Option T)
   homes_in (home x) = some x ∷ []
@@ -74,9 +74,10 @@ module _ {T E F : Type 0} (k : Ghosts T E F) where
     pub history : List E
     pub log : List (ℕ × E)
     pub phase : Phase T
-    pub awaited : Bool
+    pub word : ℕ
     pub made : history ≡ base ++ entries_of log
-    pub words : s.words ≡ length history ∷ lock_word awaited phase ∷ []
+    pub words : s.words ≡ length history ∷ word ∷ []
+    pub says : word % 4 ≡ lock_word phase
     pub homes : s.homes ≡ homes_in phase
     pub legal : k.legal fixed history
     pub placed : InPhase fixed history s.views phase
@@ -95,7 +96,7 @@ module _ {T E F : Type 0} (k : Ghosts T E F) where
   abbrev pub turned : Step T → Mine → ℕ → Mine → Type 0
   turned st m found n = (found ≡ st.first → Took m.0 n) × (found ≢ st.first → n ≡ m)
 
-  -- Who waits may sleep. It tells the seat nothing.
+  -- Who waits is counted, or woken. It tells the seat nothing.
   abbrev pub warned : Step T → Mine → ℕ → Mine → Type 0
   warned st m found n = n ≡ m
 

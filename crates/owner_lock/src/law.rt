@@ -18,14 +18,14 @@ impl<T: StandsFor> TableRule<T, View<T::Entry, T::Fixed>, Snapshot<T>> for Law {
     ghost first = { λ s. first_view T.StandsFor s.value };
 }
 
-/// Word 1 from 0 or 2 to 1 or 3.
+/// Word 1 to one that says that a seat has the turn.
 pub struct Turn<T>(PhantomData<T>);
 
 impl<T: StandsFor> Play<T, View<T::Entry, T::Fixed>> for Turn<T> {
     ghost then = { turned T.StandsFor };
 }
 
-/// Word 1 from 1 to 3.
+/// What word 1 says of those who wait.
 pub struct Warn<T>(PhantomData<T>);
 
 impl<T: StandsFor> Play<T, View<T::Entry, T::Fixed>> for Warn<T> {
@@ -39,7 +39,7 @@ impl<T: StandsFor> Play<T, View<T::Entry, T::Fixed>> for Mark<T> {
     ghost then = { marked T.StandsFor };
 }
 
-/// Word 1 back to 0 or 2.
+/// Word 1 to one that says that no seat has the turn.
 pub struct Free<T>(PhantomData<T>);
 
 impl<T: StandsFor> Play<T, View<T::Entry, T::Fixed>> for Free<T> {

@@ -1,6 +1,6 @@
 //! The lock's calls.
 
-ghost use Rattle.std.specs.Prelude.{◌≡◌, ◌≢◌, ◌<◌, ◌≤◌, ◌∷◌, [], true, false, length, if◌then◌else◌, IfErr, IfOk};
+ghost use Rattle.std.specs.Prelude.{◌≡◌, ◌≢◌, ◌<◌, ◌≤◌, ◌%◌, ◌∷◌, [], true, false, length, if◌then◌else◌, IfErr, IfOk};
 ghost use Rattle.std.specs.Fn.{FnOnceReturnsAtMut, FnOnceTakesAtMut};
 ghost use mathlib.Core.List.{IsPrefix};
 ghost use Rattle.owner_lock.specs.Entries.{Ascends};
@@ -20,34 +20,81 @@ use std::alloc::{AllocFailed, Global};
 use std::hint;
 use std::snapshot::Snapshot;
 use std::sync::Wait;
+use std::time::Duration;
 
 // How often a caller that waits tries before it sleeps.
 const TRIES: u32 = 100;
 
-// Word 1 while a seat has the turn, and nobody sleeps.
+// How long a caller sleeps, in milliseconds, where a wake was on its way to another.
+const LONGEST_NAP: u64 = 10;
+
+// The low two bits of word 1 while a seat has the turn.
 const TAKEN: u64 = 1;
 
-// Word 1 while a seat has the turn, and another may sleep until it ends.
-const AWAITED: u64 = 3;
+// The bit of word 1 that says that one who slept was woken, and is on its way.
+const CALLED: u64 = 4;
 
-// Word 1 while no seat has the turn.
+// Word 1 counts by eights those who sleep, from before they sleep until they take the turn.
+const SLEEPER: u64 = 8;
+
+// The low two bits of word 1 while no seat has the turn.
 fn free_word(shut: bool) -> u64
     ensures { result ≡ if shut then 2 else 0 }
 {
     if shut { 2 } else { 0 }
 }
 
-// Word 1 for a seat that takes the turn.
-fn taken_word(awaited: bool) -> u64
-    ensures { result ≡ if awaited then 3 else 1 }
+// What is added to word 1, modulo 2^64, where a turn ends.
+fn to_free(shut: bool) -> u64
+    ensures { result ≡ if shut then 1 else 18446744073709551615 }
 {
-    if awaited { AWAITED } else { TAKEN }
+    if shut { 1 } else { u64::MAX }
 }
 
 fn is_taken(word: u64) -> bool
-    ensures { result ≡ false → (word ≢ 1) × (word ≢ 3) }
+    ensures taken { result ≡ true → word % 4 ≡ 1 }
+    ensures free { result ≡ false → word % 4 ≢ 1 }
 {
-    word == TAKEN || word == AWAITED
+    word % 4 == TAKEN
+}
+
+// Some sleep, and none of them is on its way.
+fn is_owed(word: u64) -> bool
+    ensures { result ≡ true → word % 8 < 4 }
+{
+    word >= SLEEPER && word % 8 < CALLED
+}
+
+// Word 1 for a seat that takes the turn. One that has slept isn't counted any more, and has come.
+fn taken_word(word: u64, slept: bool) -> u64
+    ensures { result % 4 ≡ 1 }
+{
+    if slept {
+        (word / 8).saturating_sub(1) * 8 + TAKEN
+    } else {
+        word / 4 * 4 + TAKEN
+    }
+}
+
+// Word 1 for a seat that is to sleep. One that has slept is counted already, and has come.
+fn asleep_word(word: u64, slept: bool) -> u64
+    ensures { result % 4 ≡ word % 4 }
+{
+    if slept {
+        word / 8 * 8 + word % 4
+    } else {
+        word.wrapping_add(SLEEPER)
+    }
+}
+
+// One who slept was woken, and is on its way.
+fn is_called(word: u64) -> bool {
+    word % 8 >= CALLED
+}
+
+// The kernel compares 32 bits of a word, which are all that count fewer than 2^29 threads.
+fn low_half(word: u64) -> u32 {
+    (word % 4_294_967_296) as u32
 }
 
 impl<T: StandsFor> Owned<T> {
@@ -137,8 +184,7 @@ impl<T: StandsFor> Owned<T> {
             if tries < TRIES {
                 tries += 1;
                 hint::spin_loop();
-            } else {
-                self.sleep(rt, seat);
+            } else if self.sleep(rt, seat, slept) {
                 slept = true;
                 tries = 0;
             }
@@ -146,9 +192,8 @@ impl<T: StandsFor> Owned<T> {
         unreachable!()
     }
 
-    // Takes the turn, if nobody has it. Who has slept says that others may sleep still: of all who sleep one alone is woken, and its leave
-    // has to wake the next.
-    fn try_turn(&self, seat: &mut Seat<T, View<T::Entry, T::Fixed>>, awaited: bool) -> bool
+    // Takes the turn, if nobody has it.
+    fn try_turn(&self, seat: &mut Seat<T, View<T::Entry, T::Fixed>>, slept: bool) -> bool
         requires here { seat.old.table_id ≡ self.now.table.shared.table_id }
         requires rests { Rests seat.old.me.0 × (seat.old.me.1 ≡ []) }
         ensures here { (seat.new.table_id ≡ seat.old.table_id) × (seat.new.id ≡ seat.old.id) }
@@ -159,26 +204,51 @@ impl<T: StandsFor> Owned<T> {
         if is_taken(word) {
             return false;
         }
-        let taken = taken_word(awaited);
+        let taken = taken_word(word, slept);
         self.table
             .shared
             .compare_exchange::<Turn<T>>(seat, 1, word, taken)
             == word
     }
 
-    // Sleeps until the turn may have ended. The kernel puts to sleep only where word 1 is 3, and it stays 3 until whoever has the turn
-    // ends it and then wakes one; so no wake is missed.
-    fn sleep<W: Wait>(&self, rt: &W, seat: &mut Seat<T, View<T::Entry, T::Fixed>>)
+    // Goes to sleep, if another still has the turn, and says whether it did. A seat is counted before, in the word that says that another has
+    // the turn, and the kernel puts to sleep only where the word is still the same: so the end of that turn sees it.
+    fn sleep<W: Wait>(
+        &self,
+        rt: &W,
+        seat: &mut Seat<T, View<T::Entry, T::Fixed>>,
+        slept: bool,
+    ) -> bool
         requires here { seat.old.table_id ≡ self.now.table.shared.table_id }
         ensures here { (seat.new.table_id ≡ seat.old.table_id) × (seat.new.id ≡ seat.old.id) }
         ensures same { seat.new.me ≡ seat.old.me }
     {
+        let word = self.table.shared.peek(1);
+        if !is_taken(word) {
+            return false;
+        }
+        let asleep = asleep_word(word, slept);
         let found = self
             .table
             .shared
-            .compare_exchange::<Warn<T>>(seat, 1, TAKEN, AWAITED);
-        if is_taken(found) {
-            self.table.shared.park(rt, 1, AWAITED as u32);
+            .compare_exchange::<Warn<T>>(seat, 1, word, asleep);
+        if found != word {
+            return false;
+        }
+        self.park(rt, asleep);
+        true
+    }
+
+    // Sleeps while word 1 is this. Where a wake is on its way it may have been sent to this very seat, before it sleeps, and then nobody else is
+    // on the way: so that sleep ends by itself.
+    fn park<W: Wait>(&self, rt: &W, word: u64) {
+        if is_called(word) {
+            let longest = Duration::from_millis(LONGEST_NAP);
+            self.table
+                .shared
+                .park_timeout(rt, 1, low_half(word), longest);
+        } else {
+            self.table.shared.park(rt, 1, low_half(word));
         }
     }
 
@@ -194,9 +264,28 @@ impl<T: StandsFor> Owned<T> {
     {
         let state = seat.slot_mut(&self.table.shared, 0);
         let after = state.entries();
-        let word = free_word(state.is_shut());
+        let shut = state.is_shut();
         self.mark(seat, before, after);
-        if self.table.shared.swap::<Free<T>>(seat, 1, word) == AWAITED {
+        let added = to_free(shut);
+        let word = self.table.shared.fetch_add::<Free<T>>(seat, 1, added);
+        self.wake(seat, word.wrapping_add(added));
+    }
+
+    // Wakes one of those who sleep, where the turn has ended and word 1 was this. Not where one is on its way, nor where another seat has
+    // taken the turn since: the end of its turn looks again.
+    fn wake(&self, seat: &mut Seat<T, View<T::Entry, T::Fixed>>, word: u64)
+        requires here { seat.old.table_id ≡ self.now.table.shared.table_id }
+        ensures here { (seat.new.table_id ≡ seat.old.table_id) × (seat.new.id ≡ seat.old.id) }
+        ensures same { seat.new.me ≡ seat.old.me }
+    {
+        if !is_owed(word) {
+            return;
+        }
+        let found = self
+            .table
+            .shared
+            .compare_exchange::<Warn<T>>(seat, 1, word, word + CALLED);
+        if found == word {
             self.table.shared.wake_one(1);
         }
     }
