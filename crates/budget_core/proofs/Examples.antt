@@ -119,7 +119,7 @@ unfolding cost_of cost_of_charges partition_cost budget_of
 costs_both = refl
 
 -- The last part of the last partition costs as well.
-last_of_all : cost_of (entry_of 10 100) (made 0 (Part 7 249) 6 6 ∷ made 1 Whole 1 1 ∷ []) ≡ 7
+last_of_all : cost_of (entry_of 10 100) (made 0 (Part 7 3999) 6 6 ∷ made 1 Whole 1 1 ∷ []) ≡ 7
 unfolding cost_of cost_of_charges partition_cost budget_of
 last_of_all = refl
 

@@ -23,7 +23,7 @@ use Rattle.budget_core.specs.Legal.{IsReservationAfter, IsOpen, IsSettlementAfte
 use Rattle.budget_core.specs.Answers.{is_answered, is_exhausted}
 use Rattle.budget_core.specs.Counts.{reservations_of, grants_of}
 use Rattle.budget_core.specs.Entries.{Entry, HasView, budget_limit}
-use Rattle.budget_core.specs.Kept.{IsRowOf, HasRows, IsTotalOf}
+use Rattle.budget_core.specs.Kept.{IsRowOf, HasRows, HasRoomFor, IsTotalOf}
 use Rattle.budget_core.proofs.Charging.{rises, view-valid}
 use Rattle.budget_core.proofs.Costs.{counts-unsettled, cost_of-charges, cost_of-append-Reserve, cost_of-append-returned, cost_of-le-Settle, cost_of-append-Grant, budget_of-append, charges_in-append-Grant, charges_in-append-Reserve, charges_in-append-Settle, returned-is}
 use Rattle.budget_core.proofs.Backs.{back-rest}
@@ -80,9 +80,9 @@ may-not-reserve entry records r charge after h is cost over may =
 -- after a reservation
 pub kept-Reserve : (entry : Entry) (records : List Record) (totals : Totals) (r : Reservation) (charge : ℕ) (costs : Costs) (rows : Vec Row Global) → IsTotalOf entry records totals
     → IsReservationAfter entry records r → charge ≡ charge_of r.e r.p r.q → length records < entry.capacity → AreTotalsOf costs (charges_in entry records ++ record { view = r.view; amount = charge } ∷ [])
-    → rows.items ≡ totals.rows.items ++ new-row r ∷ [] → vec_capacity rows ≡ vec_capacity totals.rows
+    → rows.items ≡ totals.rows.items ++ new-row r ∷ [] → vec_capacity rows ≡ vec_capacity totals.rows → HasRoomFor costs entry.keys
     → IsTotalOf entry (records ++ Reserve r ∷ []) (record totals { costs = costs; rows = rows })
-kept-Reserve entry records totals r charge costs rows k may is short stand lines broad =
+kept-Reserve entry records totals r charge costs rows k may is short stand lines broad roomy =
     let all : List Record = records ++ Reserve r ∷ [] in
     let charged : charges_in entry records ++ record { view = r.view; amount = charge } ∷ [] ≡ charges_in entry all
     = ap (λ (n : ℕ). charges_in entry records ++ record { view = r.view; amount = n } ∷ []) is
@@ -100,15 +100,16 @@ kept-Reserve entry records totals r charge costs rows k may is short stand lines
       budget = omega (arith, k.budget, budget_of-append entry records (Reserve r));
       fits = omega (arith, length-append records (Reserve r ∷ []), short);
       row_room = omega (arith, k.row_room, broad);
+      part_room = roomy;
     }
 
 -- after a settlement
 pub kept-Settle : (entry : Entry) (records : List Record) (totals : Totals) (settlement : Settlement) (costs : Costs) (rows : Vec Row Global) (one other : ℕ) → IsTotalOf entry records totals
     → IsSettlementAfter entry records settlement → length records < entry.capacity → AreTotalsOf costs (charges_in entry (records ++ Settle settlement ∷ []))
     → HasRows rows.items (records ++ Settle settlement ∷ []) → vec_capacity rows ≡ vec_capacity totals.rows
-    → one ≡ one_if (is_answered (Settle settlement)) → other ≡ one_if (is_exhausted (Settle settlement))
+    → one ≡ one_if (is_answered (Settle settlement)) → other ≡ one_if (is_exhausted (Settle settlement)) → HasRoomFor costs entry.keys
     → IsTotalOf entry (records ++ Settle settlement ∷ []) (record totals { costs = costs; rows = rows; answered = totals.answered + one; exhausted = totals.exhausted + other })
-kept-Settle entry records totals settlement costs rows one other k may short stand has broad answers exhausts = record {
+kept-Settle entry records totals settlement costs rows one other k may short stand has broad answers exhausts roomy = record {
   valid = k.valid;
   history = history-append entry records (Settle settlement) k.history may;
   within = omega (arith, k.within, may.fall, budget_of-append entry records (Settle settlement));
@@ -121,6 +122,7 @@ kept-Settle entry records totals settlement costs rows one other k may short sta
   budget = omega (arith, k.budget, budget_of-append entry records (Settle settlement));
   fits = omega (arith, length-append records (Settle settlement ∷ []), short);
   row_room = omega (arith, k.row_room, broad);
+  part_room = roomy;
 }
 
 -- after a grant
@@ -140,6 +142,7 @@ kept-Grant entry records totals grant k may short = record {
   budget = omega (arith, k.budget, budget_of-append entry records (Grant grant));
   fits = omega (arith, length-append records (Grant grant ∷ []), short);
   row_room = k.row_room;
+  part_room = k.part_room;
 }
 
 -- There are no more grants than records.

@@ -21,7 +21,7 @@ abbrev entry_of : ℕ → ℕ → ℕ → List ℕ → Entry
 entry_of budget capacity analysts keys = record { budget = budget; capacity = capacity; analysts = analysts; keys = keys; version = 2 }
 
 abbrev IsKeyCount : ℕ → Type 0
-IsKeyCount n = (1 ≤ n) × (n ≤ 250)
+IsKeyCount n = (1 ≤ n) × (n ≤ 4000)
 
 -- n partitions with two keys each
 abbrev twos : ℕ → List ℕ
@@ -44,12 +44,12 @@ least_entry = record {
   keys = All-nil IsKeyCount;
 }
 
--- eight partitions, with 1 and 250 keys among them
+-- eight partitions, with 1 and 4,000 keys among them
 abbrev eight : List ℕ
-eight = 1 ∷ 250 ∷ twos 6
+eight = 1 ∷ 4000 ∷ twos 6
 
 keys_of_eight : All IsKeyCount eight
-keys_of_eight = All-cons IsKeyCount 1 (250 ∷ twos 6) (omega arith, omega arith) (All-cons IsKeyCount 250 (twos 6) (omega arith, omega arith) (twos_within 6))
+keys_of_eight = All-cons IsKeyCount 1 (4000 ∷ twos 6) (omega arith, omega arith) (All-cons IsKeyCount 4000 (twos 6) (omega arith, omega arith) (twos_within 6))
 
 greatest_entry : IsEntry (entry_of (10 ^ 18) 262144 64 eight)
 greatest_entry =
@@ -88,12 +88,18 @@ nine_partitions entry = let nine : 9 ≤ 8 = entry.partitions in omega (arith, n
 no_keys : IsEntry (entry_of 1 2 1 (0 ∷ [])) → ⊥
 no_keys entry = omega (arith, (entry.keys 0 0 (omega arith)).0)
 
-too_many_keys : IsEntry (entry_of 1 2 1 (251 ∷ [])) → ⊥
+too_many_keys : IsEntry (entry_of 1 2 1 (4001 ∷ [])) → ⊥
 too_many_keys entry = omega (arith, (entry.keys 0 0 (omega arith)).1)
 
 -- Of a partition with two keys there are the parts 0 and 1.
 last_part : HasView (entry_of 1 2 1 (2 ∷ [])) (Part 0 1)
 last_part = omega arith
+
+last_part_of_all : HasView (entry_of 1 2 1 eight) (Part 1 3999)
+last_part_of_all = omega arith
+
+part_past_all : HasView (entry_of 1 2 1 eight) (Part 1 4000) → ⊥
+part_past_all has = omega (arith, has)
 
 part_past_the_last : HasView (entry_of 1 2 1 (2 ∷ [])) (Part 0 2) → ⊥
 part_past_the_last has = omega (arith, has)

@@ -14,7 +14,8 @@ bare_outcome Lost = Lost
 
 -- the record, with the answer set to 0 where it settles with one
 abbrev pub bare_record : Record → Record
-bare_record next = unwrap_or (option_map (λ (settlement : Settlement). Settle (record settlement { outcome = bare_outcome settlement.outcome })) (settlement_in next)) next
+bare_record next = unwrap_or
+    (option_map (λ (settlement : Settlement). Settle (record settlement { outcome = bare_outcome settlement.outcome })) (settlement_in next)) next
 
 -- the records with every answer set to 0
 abbrev pub without_answers : List Record → List Record

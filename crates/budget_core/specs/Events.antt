@@ -1,5 +1,6 @@
 -- The pure machine: what each event does.
-use Rattle.std.specs.Prelude.{ℕ, ◌-◌, ◌%◌, ◌==◌, ◌&&◌, nat_lt, nat_le, Bool, true, false, not, List, [], ◌∷◌, ◌++◌, length, slice_get, is_some, is_none, unwrap_or, fold, Option, Some, None, if◌then◌else◌}
+use Rattle.std.specs.Prelude.{ℕ, ◌-◌, ◌%◌, ◌==◌, ◌&&◌, nat_lt, nat_le, Bool, true, false, not, List, [], ◌∷◌, ◌++◌, length}
+use Rattle.std.specs.Prelude.{slice_get, is_some, is_none, unwrap_or, fold, Option, Some, None, if◌then◌else◌}
 use Rattle.std.specs.List.{list_any, list_all, range_with_len}
 use Rattle.partition_charge.specs.declared.view.View.{View}
 use Rattle.partition_charge.specs.declared.view.View.TheVariants.{Whole, Part}

@@ -1,6 +1,7 @@
 -- What a history keeps beside its records.
-use Rattle.std.specs.Prelude.{◌≡◌, ℕ, ◌<◌, ◌≤◌, List, [], ◌∷◌, ◌++◌, length, count_by, slice_get, Some, option_map, vec_capacity}
-use Rattle.partition_charge.specs.Totals.{AreTotalsOf}
+use Rattle.std.specs.Prelude.{◌≡◌, ℕ, ◌<◌, ◌≤◌, List, [], ◌∷◌, ◌++◌, length, All, count_by, slice_get, Some, option_map, vec_capacity}
+use Rattle.partition_charge.specs.Totals.{AreTotalsOf, HasRoomBelow}
+use Rattle.partition_charge.specs.declared.costs.Costs.{Costs}
 use Rattle.journal_records.specs.declared.records.Record.{Record}
 use Rattle.budget_core.specs.declared.totals.Row.{Row}
 use Rattle.budget_core.specs.declared.totals.Totals.{Totals}
@@ -22,6 +23,10 @@ pub record HasRows (rows : List Row) (records : List Record) : Type 0 where
   pub count : length rows ≡ length (reservations_of records)
   pub each : (number : ℕ) (row : Row) → slice_get rows number ≡ Some row → IsRowOf records number row
 
+-- There is room for a charge of each part of partitions with so many keys.
+abbrev pub HasRoomFor : Costs → (keys : List ℕ) → Type 0
+HasRoomFor costs keys = (n : ℕ) × HasRoomBelow costs n × All (λ count. count ≤ n) keys
+
 -- The totals are those of these records, each of which may follow those before it.
 pub record IsTotalOf (entry : Entry) (records : List Record) (totals : Totals) : Type 0 where
   pub valid : IsEntry entry
@@ -36,6 +41,7 @@ pub record IsTotalOf (entry : Entry) (records : List Record) (totals : Totals) :
   pub budget : totals.budget ≡ budget_of entry records
   pub fits : length records ≤ entry.capacity
   pub row_room : entry.capacity ≤ vec_capacity totals.rows
+  pub part_room : HasRoomFor totals.costs entry.keys
 
 -- what is known of a number that is reserved and isn't settled, by these totals
 abbrev pub IsOpenIn : Entry → Totals → ℕ → Type 0

@@ -64,7 +64,8 @@ OnlyExhaustedGiveBack = (entry : Entry) (records : List Record) (settlement : Se
 
 -- A settlement never raises the cost.
 abbrev pub SettlementsNeverRaise : Type 0
-SettlementsNeverRaise = (entry : Entry) (records : List Record) (settlement : Settlement) → cost_of entry (records ++ Settle settlement ∷ []) ≤ cost_of entry records
+SettlementsNeverRaise = (entry : Entry) (records : List Record) (settlement : Settlement)
+    → cost_of entry (records ++ Settle settlement ∷ []) ≤ cost_of entry records
 
 -- A grant costs nothing, and raises the budget by its amount.
 abbrev pub GrantsRaise : Type 0

@@ -1,6 +1,7 @@
 //! What the catalog says of an owner's budget, and what is asked of it.
 
-ghost use Rattle.std.specs.Prelude.{◌≡◌, ◌↔◌, IsTrue};
+ghost use Rattle.std.specs.Prelude.{◌≡◌, ◌≤◌, ◌↔◌, [], All, IsTrue};
+ghost use Rattle.partition_charge.specs.Views.{part_limit};
 ghost use Rattle.journal_records.specs.Encoding.{newest_version, IsByteList};
 ghost use Rattle.budget_core.specs.Entries.{IsEntry, HasView};
 ghost use Rattle.budget_core.specs.Ledger.{IsAskOf};
@@ -12,7 +13,7 @@ use std::marker::Model;
 
 /// An owner's entry: the budget in millionths of epsilon (1 to 10^18), the greatest number of
 /// records (2 to 262,144), how many analysts may ask (1 to 64), how many keys each of its
-/// partitions has (up to 8 partitions, 1 to 250 keys), and the version of its journal, whose rule of
+/// partitions has (up to 8 partitions, 1 to 4,000 keys), and the version of its journal, whose rule of
 /// the cost its records keep.
 #[derive(Drop)]
 pub struct Entry {
@@ -143,6 +144,19 @@ impl Entry {
         ensures { result.now ≡ self.now.keys }
     {
         &self.keys
+    }
+
+    /// The greatest number of keys that a partition has.
+    pub fn most_keys(&self) -> u16
+        ensures most { All (λ keys. keys ≤ result) self.now.keys }
+        ensures limited { result ≤ part_limit }
+        ensures none { self.now.keys ≡ [] → result ≡ 0 }
+    {
+        let mut most = 0;
+        for keys in &self.keys {
+            most = most.max(*keys);
+        }
+        most
     }
 
     /// Whether the entry has this view.

@@ -1,4 +1,4 @@
-//! The machine of reservations, settlements and stops, without a disk.
+//! The machine of reservations, settlements, grants and stops, without a disk.
 
 ghost use Rattle.std.specs.Prelude.{◌≡◌, IfOk};
 ghost use Rattle.budget_core.specs.declared.events.Event.TheVariants.{Reserve, Settle, Grant, Send};

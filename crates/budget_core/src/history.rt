@@ -1,4 +1,4 @@
-//! The records of one owner, with running totals and a table by number: no call but `new` and `found` goes over a list.
+//! The records of one owner, with running totals and a table by number: no call but `new` and `found` goes over the records.
 
 ghost use Rattle.std.specs.Prelude.{◌≡◌, ℕ, ◌<◌, ◌≤◌, ◌∷◌, ◌++◌, [], ◌^◌, length, IfOk, IfErr};
 ghost use Rattle.std.specs.List.{All};

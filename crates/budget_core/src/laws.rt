@@ -1,7 +1,9 @@
 //! The laws of legal records. Each function does nothing: its contract is the law.
 
-ghost use Rattle.budget_core.specs.Laws.{StaysWithinBudget, StaysHistory, NumbersInOrder, NumbersNeverShared, NumbersGrow, SettlesOnce, AddsUp, OnlyExhaustedGiveBack, SettlementsNeverRaise};
-ghost use Rattle.budget_core.specs.Laws.{GrantsRaise, GrantsInOrder, BudgetsAreLimited, GrantsTellWhatIsLeft, KeepsRoom, IgnoresAnswers, AsksAreTested, EventsAreSafe};
+ghost use Rattle.budget_core.specs.Laws.{StaysWithinBudget, StaysHistory, NumbersInOrder, NumbersNeverShared, NumbersGrow};
+ghost use Rattle.budget_core.specs.Laws.{SettlesOnce, AddsUp, OnlyExhaustedGiveBack, SettlementsNeverRaise};
+ghost use Rattle.budget_core.specs.Laws.{GrantsRaise, GrantsInOrder, BudgetsAreLimited, GrantsTellWhatIsLeft};
+ghost use Rattle.budget_core.specs.Laws.{KeepsRoom, IgnoresAnswers, AsksAreTested, EventsAreSafe};
 
 /// Legal records cost at most the budget, where those found at the start do.
 pub fn stays_within_budget()

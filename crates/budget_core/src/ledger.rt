@@ -10,7 +10,8 @@ ghost use Rattle.budget_core.specs.Counts.{outcome_of};
 ghost use Rattle.budget_core.specs.Entries.{IsEntry, budget_limit};
 ghost use Rattle.budget_core.specs.Events.{is_answer};
 ghost use Rattle.budget_core.specs.Granting.{grant_behind, grant_verdict, IsAmount, MayGrant};
-ghost use Rattle.budget_core.specs.Ledger.{start_of, money_verdict, next_number, reservation_numbered, settlement_of, IsAskOf, MayReserve, MaySettle, IsUnsettled};
+ghost use Rattle.budget_core.specs.Ledger.{start_of, money_verdict, next_number, reservation_numbered};
+ghost use Rattle.budget_core.specs.Ledger.{settlement_of, IsAskOf, MayReserve, MaySettle, IsUnsettled};
 ghost use Rattle.budget_core.specs.Sound.{IsSound};
 
 use crate::answers::{Counts, FoundFault, GrantRefusal, Left, Recall};

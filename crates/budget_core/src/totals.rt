@@ -11,7 +11,7 @@ ghost use Rattle.budget_core.specs.Events.{is_answer};
 ghost use Rattle.budget_core.specs.Cost.{charge_of, comes_back};
 ghost use Rattle.budget_core.specs.Ledger.{returned_by};
 ghost use Rattle.partition_charge.specs.Cost.{Charge as Charged};
-ghost use Rattle.partition_charge.specs.Totals.{AreTotalsOf, HasCharged, IsRest};
+ghost use Rattle.partition_charge.specs.Totals.{AreTotalsOf, HasCharged, HasRoomBelow, IsRest};
 ghost use Rattle.partition_charge.specs.Views.{IsView};
 ghost use Rattle.budget_core.specs.Entries.{Entry as Terms};
 ghost use Rattle.budget_core.specs.Kept.{IsTotalOf, IsTotal, IsOpenIn, MayCount, HasCounted};
@@ -83,6 +83,7 @@ fn take_back(costs: &mut Costs, entry: &Entry, row: Row, outcome: Outcome)
     ensures given { (charges rest : List Charged) → AreTotalsOf costs.old charges → comes_back entry.now (Some outcome) ≡ true
         → IsRest charges row.view row.charge rest → AreTotalsOf costs.new rest }
     ensures kept { (charges : List Charged) → AreTotalsOf costs.old charges → comes_back entry.now (Some outcome) ≡ false → AreTotalsOf costs.new charges }
+    ensures room { (n : ℕ) → HasRoomBelow costs.old n → HasRoomBelow costs.new n }
 {
     if comes_back(entry, outcome) {
         costs.give_back(row.view, row.charge);
@@ -99,13 +100,14 @@ fn settle_row(rows: &mut [Row], number: u32, outcome: Outcome)
 }
 
 impl Totals {
-    /// The totals of no records, with room for a row for each record.
+    /// The totals of no records, with room for a row for each record and for a charge of each of the entry's parts.
     pub fn new(alloc: Global, entry: &Entry) -> Result<Totals, AllocError>
         ensures { IfOk result (λ totals. IsTotalOf entry.now [] totals) }
     {
         let rows = Vec::with_capacity(alloc, entry.capacity() as usize)?;
+        let costs = Costs::new(alloc, u32::from(entry.most_keys()))?;
         Ok(Totals {
-            costs: Costs::new(),
+            costs,
             rows,
             answered: 0,
             exhausted: 0,
@@ -118,7 +120,8 @@ impl Totals {
     fn may_reserve(&self, entry: &Entry, reservation: &Reservation) -> bool
         requires total { IsTotal entry.now self.now }
         requires valid { IsReservation reservation.now }
-        ensures { (records : List Entered) → IsTotalOf entry.now records self.now → (IsTrue result ↔ IsReservationAfter entry.now records reservation.now) }
+        ensures { (records : List Entered) → IsTotalOf entry.now records self.now
+            → (IsTrue result ↔ IsReservationAfter entry.now records reservation.now) }
     {
         if reservation.number as usize != self.rows.len()
             || reservation.analyst >= entry.analysts()
@@ -145,7 +148,8 @@ impl Totals {
     /// By how much settling this number so would lower the cost. It is reserved, and isn't settled.
     pub fn returned(&self, entry: &Entry, number: u32, outcome: Outcome) -> u64
         requires { IsOpenIn entry.now self.now number }
-        ensures { (records : List Entered) → IsTotalOf entry.now records self.now → IsOpen records number → result ≡ returned_by entry.now records number outcome }
+        ensures { (records : List Entered) → IsTotalOf entry.now records self.now → IsOpen records number
+            → result ≡ returned_by entry.now records number outcome }
     {
         if !comes_back(entry, outcome) {
             return 0;

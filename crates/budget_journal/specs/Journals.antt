@@ -12,7 +12,8 @@ use Rattle.budget_journal.specs.declared.opening.OpenFault.TheVariants.{NotIniti
 use Rattle.budget_journal.specs.declared.form.Form.{Form}
 use Rattle.budget_journal.specs.declared.form.Form.TheVariants.{One, Many}
 use Rattle.budget_journal.specs.Areas.{version_by, version_in, form_in, area_in, live_area, HasGates, IsStray}
-pub use Rattle.budget_journal.specs.Slots.{Layout, slot_place, slot, gate_of, Holds, FillsSlots, IsTornOff, IsBeyond, IsUnreadable, IsBehindClosed, IsDamaged, IsFirstDamaged}
+pub use Rattle.budget_journal.specs.Slots.{Layout, slot_place, slot, gate_of, Holds, FillsSlots, IsTornOff, IsBeyond}
+pub use Rattle.budget_journal.specs.Slots.{IsUnreadable, IsBehindClosed, IsDamaged, IsFirstDamaged}
 
 -- ---- the header
 

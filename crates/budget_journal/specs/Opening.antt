@@ -10,7 +10,8 @@ use Rattle.budget_journal.specs.declared.opening.OpenFault.TheVariants.{NotIniti
 use Rattle.budget_journal.specs.declared.form.Form.{Form}
 use Rattle.budget_journal.specs.declared.form.Form.TheVariants.{One, Many}
 use Rattle.budget_journal.specs.Areas.{version_in, form_in, live_area, HasGates}
-use Rattle.budget_journal.specs.Journals.{Layout, slot_place, slot, gate_of, Holds, FillsSlots, IsFirstDamaged, as_found, HasHeader, Stands, IsHeaderFault, IsOpenFault}
+use Rattle.budget_journal.specs.Journals.{Layout, slot_place, slot, gate_of, Holds, FillsSlots, IsFirstDamaged}
+use Rattle.budget_journal.specs.Journals.{as_found, HasHeader, Stands, IsHeaderFault, IsOpenFault}
 
 -- ---- the header
 
@@ -38,7 +39,8 @@ IsSlotFault layout bytes _ = ⊤
 abbrev pub SlotRead : Layout → List ℕ → ℕ → Bool → Result (Option Record) OpenFault → Type 0
 SlotRead layout bytes k closed (Ok (Some r)) = Holds (slot layout bytes k) r × (closed ≡ false)
 SlotRead layout bytes k closed (Ok None) = gate_of layout bytes k ≢ gate
-SlotRead layout bytes k closed (Err (Damaged s)) = (s ≡ k) × (gate_of layout bytes k ≡ gate) × ((closed ≡ true) ⊎ ((r : Record) → Holds (slot layout bytes k) r → ⊥))
+SlotRead layout bytes k closed (Err (Damaged s)) = (s ≡ k) × (gate_of layout bytes k ≡ gate)
+    × ((closed ≡ true) ⊎ ((r : Record) → Holds (slot layout bytes k) r → ⊥))
 SlotRead layout bytes k closed (Err (NotInitialised n)) = ⊥
 SlotRead layout bytes k closed (Err (Changed kept found)) = ⊥
 SlotRead layout bytes k closed (Err _) = ⊤
@@ -58,5 +60,6 @@ SlotsRead layout bytes (Err fault) = IsSlotFault layout bytes fault
 
 -- the live area, its records and the version, or why these weren't read
 abbrev pub JournalRead : Header → List ℕ → Result (Area × Vec Record Global × ℕ) OpenFault → Type 0
-JournalRead header bytes (Ok read) = Stands (record header { version = read.2 }) read.1.items bytes × (read.0.form ≡ form_in bytes) × (read.0.number ≡ live_area bytes)
+JournalRead header bytes (Ok read) = Stands (record header { version = read.2 }) read.1.items bytes
+    × (read.0.form ≡ form_in bytes) × (read.0.number ≡ live_area bytes)
 JournalRead header bytes (Err fault) = IsOpenFault header bytes fault

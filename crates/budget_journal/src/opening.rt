@@ -1,6 +1,7 @@
 //! Opening a journal that a stop may have left.
 
-ghost use Rattle.std.specs.Prelude.{◌≡◌, ◌≢◌, ◌↔◌, ℕ, ◌+◌, ◌*◌, ◌^◌, ◌<◌, ◌≤◌, Some, List, length, take, drop, IsTrue, IsErrOf, IfOk, IfErr, IfSome, IfNone, OnOk, false};
+ghost use Rattle.std.specs.Prelude.{◌≡◌, ◌≢◌, ◌↔◌, ℕ, ◌+◌, ◌*◌, ◌^◌, ◌<◌, ◌≤◌, Some, List, length, take, drop};
+ghost use Rattle.std.specs.Prelude.{IsTrue, IsErrOf, IfOk, IfErr, IfSome, IfNone, OnOk, false};
 ghost use Rattle.std.specs.List.{All};
 ghost use Rattle.fz_outside.specs.Faults.{HasCause};
 ghost use Rattle.outside_disks.specs.Disks.{Trace, seen_of, noted, WhereTold};
@@ -9,7 +10,8 @@ ghost use Rattle.journal_records.specs.Encoding.{IsValid};
 ghost use Rattle.budget_journal.specs.declared.opening.OpenFault.TheVariants.{DiskFault, NoMemory};
 ghost use Rattle.budget_journal.specs.declared.form.Form.TheVariants.{Many};
 ghost use Rattle.budget_journal.specs.Areas.{area_in, HasGates, IsStray};
-ghost use Rattle.budget_journal.specs.Journals.{Layout, slot_place, Differ, Found, IsMarked, IsOpenFault, MayHaveSynced, disk_of, used, is_closed, capacity_of, mark_of, version_of};
+ghost use Rattle.budget_journal.specs.Journals.{Layout, slot_place, Differ, Found, IsMarked, IsOpenFault, MayHaveSynced};
+ghost use Rattle.budget_journal.specs.Journals.{disk_of, used, is_closed, capacity_of, mark_of, version_of};
 ghost use Rattle.budget_journal.specs.Opening.{AreAlike, HeaderRead, SlotRead, Scanned, IsSlotFault, SlotsRead, JournalRead};
 
 use crate::area::Area;
@@ -266,8 +268,10 @@ impl<D: Disk> Journal<D> {
         disk: D,
         header: &Header,
     ) -> Result<(Journal<D>, Vec<Record>), (D, OpenFault)>
-        ensures found { IfOk result (λ opened. WhereTold (Found (record header.now { version = version_of opened.0 }) opened.1.items) (D.trace disk) (D.trace (disk_of opened.0))) }
-        ensures marked { IfOk result (λ opened. IfSome (D.trace (disk_of opened.0)) (IsMarked (mark_of opened.0) (record header.now { version = version_of opened.0 }) opened.1.items)) }
+        ensures found { IfOk result (λ opened. WhereTold (Found (record header.now { version = version_of opened.0 }) opened.1.items)
+            (D.trace disk) (D.trace (disk_of opened.0))) }
+        ensures marked { IfOk result (λ opened. IfSome (D.trace (disk_of opened.0))
+            (IsMarked (mark_of opened.0) (record header.now { version = version_of opened.0 }) opened.1.items)) }
         ensures open { IfOk result (λ opened. is_closed opened.0 ≡ false) }
         ensures counted { IfOk result (λ opened. used opened.0 ≡ length opened.1.items) }
         ensures capacity { IfOk result (λ opened. capacity_of opened.0 ≡ header.now.capacity) }

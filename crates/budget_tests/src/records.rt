@@ -41,7 +41,27 @@ fn all_refused(bytes: &[u8; 64], changes: &[(usize, u8)]) -> bool {
 }
 
 // Bytes that no record has: another gate, kind, partition, part or denominator, and bytes that are to be zero.
-const RESERVATION_CHANGES: [(usize, u8); 6] = [(0, 0x25), (1, 3), (2, 8), (3, 1), (19, 0), (31, 1)];
+const RESERVATION_CHANGES: [(usize, u8); 7] = [
+    (0, 0x25),
+    (1, 3),
+    (2, 8),
+    (3, 1),
+    (19, 0),
+    (30, 1),
+    (31, 1),
+];
+
+// Parts, and their low and high bytes.
+const PARTS: [(u16, u8, u8); 5] = [
+    (0, 0, 0),
+    (249, 0xF9, 0),
+    (255, 0xFF, 0),
+    (256, 0, 1),
+    (3_999, 0x9F, 0x0F),
+];
+
+// The last part with one more, with 256 more, and with a byte that is to be zero.
+const PAST_THE_PARTS: [(usize, u8); 3] = [(3, 0xA0), (30, 0x10), (31, 1)];
 
 const SETTLEMENT_CHANGES: [(usize, u8); 7] = [
     (2, 0),
@@ -65,6 +85,24 @@ fn a_reservation(rt: HostRuntime) {
         )
     );
     assert!(rt; all_refused(&reserved, &RESERVATION_CHANGES));
+}
+
+fn of_part(part: u16) -> Record {
+    Record::Reserve(Reservation {
+        view: View::Part { partition: 3, part },
+        ..FIRST
+    })
+}
+
+#[test]
+fn reservations_of_parts(rt: HostRuntime) {
+    for (part, low, high) in &PARTS {
+        let bytes = encoding(&of_part(*part));
+        assert!(rt; bytes.starts_with(&[0xA5, 1, 3, *low]));
+        assert!(rt; bytes[30] == *high && bytes[31] == 0);
+        assert!(rt; decode(&bytes) == Some(of_part(*part)));
+    }
+    assert!(rt; all_refused(&encoding(&of_part(3_999)), &PAST_THE_PARTS));
 }
 
 #[test]

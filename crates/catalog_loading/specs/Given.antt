@@ -1,6 +1,7 @@
 -- What the code's steps come to, and what stops them.
 use Rattle.std.specs.declared.alloc.Global.{Global}
-use Rattle.std.specs.Prelude.{Vec, map, ◌≡◌, ℕ, List, [], ◌∷◌, ◌++◌, Option, Some, MatchResult, Result, Ok, Err, ⊤, string_bytes, bytes_eq, position, length, ◌<◌}
+use Rattle.std.specs.Prelude.{Vec, map, ◌≡◌, ℕ, List, [], ◌∷◌, ◌++◌, Option, Some}
+use Rattle.std.specs.Prelude.{MatchResult, Result, Ok, Err, ⊤, string_bytes, bytes_eq, position, length, ◌<◌}
 use Rattle.metric_values.specs.Tables.{Dataset}
 use Rattle.owner_catalog.specs.Entries.{Catalog, OwnerEntry, owner_entry_at, owner_signature}
 use Rattle.part_views.specs.Holding.{Holding}

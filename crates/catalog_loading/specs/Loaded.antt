@@ -1,5 +1,6 @@
 -- The files of a catalog: itself, and the tables of its owners.
-use Rattle.std.specs.Prelude.{◌≡◌, ◌<◌, ℕ, List, [], length, map, nat_eq, Result, Ok, Err, find, get_or, position, slice_get, ok_or, option_and_then, bytes_eq, if◌then◌else◌}
+use Rattle.std.specs.Prelude.{◌≡◌, ◌<◌, ℕ, List, [], length, map, nat_eq, Result, Ok}
+use Rattle.std.specs.Prelude.{Err, find, get_or, position, slice_get, ok_or, option_and_then, bytes_eq, if◌then◌else◌}
 use Rattle.sha2.specs.Sha256.{sha256}
 use Rattle.journal_records.specs.declared.records.Header.{Header}
 use Rattle.journal_records.specs.Encoding.{newest_version}

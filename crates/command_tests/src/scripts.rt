@@ -69,7 +69,8 @@ static SCRIPTS: [Script<'static>; 17] = [
     (&[(b"hello ann\nask census 0.5 size people\nask census 0.000001 size people\nask census 3 size people\nask census 1000 size people\n", 1)],
         b"hello ann\nanswer 0 7 500000\nanswer 1 1853682 1\nanswer 2 3 3000000\nno 40 3500001 1003500001 10000000 6\n"),
     // lines at the limit
-    (&[(b"hello ann\nask census 1 ", 1), (b"x", 16371), (b"\r\nask census 1 ", 1), (b"x", 16372), (b"\nask nobody 0 ", 1), (b"x", 16372), (b"\n", 1), (b"x", 16384), (b"\n", 1)],
+    (&[(b"hello ann\nask census 1 ", 1), (b"x", 16371), (b"\r\nask census 1 ", 1), (b"x", 16372), (b"\nask nobody 0 ", 1), (b"x", 16372), (b"\n", 1),
+        (b"x", 16384), (b"\n", 1)],
         b"hello ann\nno 20 16000\nno 11\nno 11\nno 10 0\n"),
     // ends
     (&[(b"hello bob\r\nbye\r\nask census 1 size people\nhello ann\nask census 1 size people\nbye", 1)],
@@ -84,7 +85,8 @@ static SCRIPTS: [Script<'static>; 17] = [
         ask census 0 x\n", 1)],
         b"no 10 3\nno 10 1\nno 12 1\nno 12 1\nno 13\nno 14\nhello ann\nno 12 1\nno 13\n"),
     // two faults, nothing left
-    (&[(b"hello ann\n", 1), (b"ask census 0.000001 size people\n", 51), (b"ask census 1000 size people\nask census 1 x\nask census 0 size people\nask nobody 1 size people\nask census 1\nbye\n\
+    (&[(b"hello ann\n", 1), (b"ask census 0.000001 size people\n", 51),
+        (b"ask census 1000 size people\nask census 1 x\nask census 0 size people\nask nobody 1 size people\nask census 1\nbye\n\
         ask census 1 size people\n", 1)],
         b"hello ann\nanswer 0 2219833 1\nanswer 1 1853682 1\nanswer 2 670675 1\nanswer 3 1600267 1\nanswer 4 492120 1\nanswer 5 466397 1\n\
         answer 6 138308 1\nanswer 7 -510741 1\nanswer 8 2932079 1\nanswer 9 559000 1\nanswer 10 88079 1\nanswer 11 9559 1\n\

@@ -19,7 +19,7 @@ pub struct Costs {
 }
 
 impl Costs {
-    /// The cost of no charges, with room for this many different parts.
+    /// The cost of no charges, with room for this many different parts of each partition.
     pub fn new(alloc: Global, room: u32) -> Result<Costs, AllocError>
         ensures totals { IfOk result (λ costs. AreTotalsOf costs []) }
         ensures places { IfOk result (λ costs. HasPlaces costs (min room part_limit)) }

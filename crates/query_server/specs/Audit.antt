@@ -32,14 +32,16 @@ counted_line entry owner records =
 
 -- the lines of all owners, in order
 abbrev pub counted_text : Loading → (found : Journals) → List ℕ
-counted_text loading found = flat_map (λ numbered. counted_line (entry_at loading numbered.0) numbered.1 (found numbered.0)) (enumerate_from 0 loading.register.catalog.owners)
+counted_text loading found = flat_map (λ numbered. counted_line (entry_at loading numbered.0) numbered.1 (found numbered.0))
+    (enumerate_from 0 loading.register.catalog.owners)
 
 -- What is due to `audit`: the line of the journal that is refused; or where all are opened, what their records come to. Nothing
 -- is written to any disk.
 abbrev pub IsCountDue : Loading → (key : List ℕ) → (old new : Shelf) → (status : Status) → (text : List ℕ) → Type 0
 IsCountDue loading key old new status text =
     IsRefusalDue loading key old new status text
-    ⊎ ((versions : List ℕ) × (found : Journals) × AreOpened loading key old versions found × (status ≡ Done) × (text ≡ counted_text (in_versions loading versions) found)
+    ⊎ ((versions : List ℕ) × (found : Journals) × AreOpened loading key old versions found × (status ≡ Done)
+    × (text ≡ counted_text (in_versions loading versions) found)
     × EachDisk (owners_in loading) (λ _. IsOnlySynced) old new)
 
 abbrev pub audit_duty : Loading → (key : List ℕ) → Duty

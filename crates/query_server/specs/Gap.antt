@@ -33,7 +33,13 @@ gap_steps catalog owner second_catalog file = do
   done (to_compare holding.tables holding.rows second_holding.rows program)
 
 abbrev pub gap_kind : (catalog owner second_catalog file : List ℕ) → Kind
-gap_kind catalog owner second_catalog file = record { steps = gap_steps catalog owner second_catalog file; source = false; disks = false; doors = false; program = true }
+gap_kind catalog owner second_catalog file = record {
+  steps = gap_steps catalog owner second_catalog file;
+  source = false;
+  disks = false;
+  doors = false;
+  program = true;
+}
 
 -- the work that is left where the owner is found in both catalogs
 abbrev pub loading_steps : (house second_house : Catalog) → (owner file : List ℕ) → FileStep Work

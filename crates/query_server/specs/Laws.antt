@@ -39,7 +39,8 @@ use Rattle.query_server.specs.Service.{IsServiceDone, IsServiceLeft}
 use Rattle.query_server.specs.Valid.{IsValidFor, MayEndWell}
 use Rattle.query_server.specs.Found.{AreKept, IsGrantMade, IsKept}
 use Rattle.query_server.specs.declared.end.Status.{Status}
-use Rattle.query_server.specs.declared.end.Status.TheVariants.{DiskFault as DiskFailed, Done, Fault, JournalFull, JournalRefused, ProgramRefused, Refused, ScriptTooLong, TooLarge, Usage}
+use Rattle.query_server.specs.declared.end.Status.TheVariants.{DiskFault as DiskFailed, Done, Fault, JournalFull, JournalRefused}
+use Rattle.query_server.specs.declared.end.Status.TheVariants.{ProgramRefused, Refused, ScriptTooLong, TooLarge, Usage}
 
 -- What follows from the clauses of the top call. Where files, source and sink tell what they hold, its clause `line` is exact: what
 -- is written is due, and the names that were read are those that are due, in order.

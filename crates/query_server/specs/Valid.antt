@@ -38,7 +38,8 @@ IsValidFor (to_compare tables X Y program) shelf = ⊤
 IsValidFor (to_serve workers each loading key) shelf = HoldJournals loading key shelf
 IsValidFor (to_generate seed asks) shelf = ⊤
 
--- The statuses of some work then, where nothing fails and memory suffices: a script may be too long, a grant too large or the journal full for it, and a program
+-- The statuses of some work then, where nothing fails and memory suffices: a script may be too long, a grant too large or the journal full for it,
+-- and a program
 -- refused.
 abbrev pub EndsWell : Work → Status → Type 0
 EndsWell usage status = ⊥

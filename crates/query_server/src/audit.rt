@@ -32,7 +32,8 @@ fn put_counted<D: Disk>(
     book: &Book<D>,
 ) -> Result<(), AllocError>
     requires { owner < length catalog.now.owners }
-    ensures { IfOk result (λ _. lines.new.items ≡ lines.old.items ++ counted_line book.now.ledger.entry (owner_entry_at catalog.now owner) book.now.ledger.records) }
+    ensures { IfOk result (λ _. lines.new.items ≡ lines.old.items
+        ++ counted_line book.now.ledger.entry (owner_entry_at catalog.now owner) book.now.ledger.records) }
 {
     let counts = book.counts();
     lines.extend_from_slice(catalog.owner_name(owner).as_bytes())?;
@@ -60,8 +61,10 @@ fn count_owner<B: Bay>(
     requires known { owner < B.owners bay.old }
     requires home { IsSome (B.shelf bay.old owner) }
     ensures counted { OnOk result ((version : ℕ) × (found : List Record)
-        × IsOpened (entry_in opened.now.loading owner version) (header_in opened.now.loading opened.now.key owner version) (bytes_on (B.shelf bay.old) owner) found
-        × (lines.new.items ≡ lines.old.items ++ counted_line (entry_in opened.now.loading owner version) (owner_entry_at opened.now.loading.register.catalog owner) found)) }
+        × IsOpened (entry_in opened.now.loading owner version) (header_in opened.now.loading opened.now.key owner version)
+        (bytes_on (B.shelf bay.old) owner) found
+        × (lines.new.items ≡ lines.old.items ++ counted_line (entry_in opened.now.loading owner version)
+        (owner_entry_at opened.now.loading.register.catalog owner) found)) }
     ensures left { LeftDisk owner (B.shelf bay.old) (B.shelf bay.new) }
     ensures still { OnOk result (StandsStill owner (B.shelf bay.old) (B.shelf bay.new)) }
     ensures stop { IfErr result (IsBookStop opened.now.loading opened.now.key (B.shelf bay.old) owner) }

@@ -172,7 +172,8 @@ where
 /// - `gen SEED N`, perhaps with WORKERS: in memory, and over no file, one analyst asks one owner N times. What that comes to follows from
 ///   SEED and N, and goes to the sink.
 ///
-/// Each but `gen` and `grant` reads the tables of all owners of its catalogs, in order, and `grant` those of its owner. At another status than Done the status's line goes to the sink.
+/// Each but `gen` and `grant` reads the tables of all owners of its catalogs, in order, and `grant` those of its owner. At another status than Done
+/// the status's line goes to the sink.
 /// Files, source, sink and disks tell what they hold, or don't; what is said of their contents holds where they do. Want of memory
 /// (`NoMemory`) may be answered at any time, at faulty words too; in a script that is answered, and in a session, it may be the reply to a
 /// line that asks: 90 before a reservation, and 51 after it. The runtime is for workers: each has a thread, and waits for the owners'
@@ -226,7 +227,8 @@ where
         IfFinished result ((text : List ℕ)
         × IsDue (work_of (map string_bytes words.now) (always held)) (B.shelf bay.old) (B.shelf bay.new) script result text) }
     // Where all that a command takes is valid and no count of faults rises, it ends well, or memory runs out: `init` and `audit` with
-    // Done, `grant` with Done, TooLarge or JournalFull, `run` with Done or with ScriptTooLong, `check` and `gap` with Done or ProgramRefused, `serve` and `gen` with Done.
+    // Done, `grant` with Done, TooLarge or JournalFull, `run` with Done or with ScriptTooLong, `check` and `gap` with Done or ProgramRefused, `serve`
+    // and `gen` with Done.
     ensures complete { let given = map string_bytes words.now in (held : Contents) → F.held files.old ≡ Some held →
         IsValidFor (work_of given (always held)) (B.shelf bay.old) →
         (HasRisen (F.faults files.old) (F.faults files.new) → ⊥) → (HasRisen (S.faults source.old) (S.faults source.new) → ⊥) →

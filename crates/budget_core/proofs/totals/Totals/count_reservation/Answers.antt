@@ -1,5 +1,7 @@
 use Rattle.std.proofs.Common.{ℕ, ◌∷◌, ◌++◌, [], None, ◌∙◌, ap, arith}
 use Rattle.budget_core.specs.Cost.{charges_in}
+use Rattle.partition_charge.proofs.Rooms.{place-below}
+use Rattle.budget_core.proofs.Charging.{view-below}
 use Rattle.budget_core.proofs.KeptLemmas.{kept-charging, kept-Reserve}
 use Rattle.budget_core.proofs.Standings.{reservations-within}
 use Rattle.budget_core.proofs.totals.Totals.count_reservation.Goals as goal
@@ -9,6 +11,13 @@ add-requires-clause-room c =
     let may = c.requires.follows in
     kept-charging c.args.entry.now may.0 c.args.self.now c.args.reservation.now.view c.charge_for-charge.result may.1 may.2.looks_at c.charge_for-charge.ensures.bounded
 
+pub add-requires-clause-place : goal.add-requires-clause-place
+add-requires-clause-place c =
+    let may = c.requires.follows in
+    let room = may.1.part_room in
+    place-below c.args.self.now.costs (charges_in c.args.entry.now may.0) c.args.reservation.now.view room.0 may.1.costs room.1
+    (view-below c.args.entry.now c.args.reservation.now.view room.0 room.2 may.2.looks_at)
+
 pub push_reserved-requires : goal.push_reserved-requires
 push_reserved-requires c =
     let may = c.requires.follows in
@@ -17,7 +26,12 @@ push_reserved-requires c =
 pub returns : goal.returns
 returns c records told may short =
     kept-Reserve c.args.entry.now records c.args.self.now c.args.reservation.now c.charge_for-charge.result c.add.new.self c.push_reserved.new.self told may
-    c.charge_for-charge.ensures.charge short (c.add.ensures (charges_in c.args.entry.now records) told.costs)
+    c.charge_for-charge.ensures.charge short (c.add.ensures.totals (charges_in c.args.entry.now records) told.costs)
     (c.push_reserved.ensures.items
     ∙ ap (λ (n : ℕ). c.args.self.now.rows.items ++ record { analyst = c.args.reservation.now.analyst; view = c.args.reservation.now.view; charge = n; outcome = None } ∷ [])
-    c.charge_for-charge.ensures.charge) c.push_reserved.ensures.capacity
+    c.charge_for-charge.ensures.charge) c.push_reserved.ensures.capacity (
+      told.part_room.0,
+      c.add.ensures.below told.part_room.0
+          (view-below c.args.entry.now c.args.reservation.now.view told.part_room.0 told.part_room.2 may.looks_at) told.part_room.1,
+      told.part_room.2,
+    )

@@ -65,3 +65,4 @@ returns c records told may short =
     kept-Settle c.args.entry.now records c.args.self.now settlement c.take_back.new.costs _ c.from.result c.from-2.result told may short costs
     (subst (λ (xs : List Row). HasRows xs (records ++ Settle settlement ∷ [])) (sym (with_items_is c.args.self.now.rows c.settle_row.new.rows (omega (arith, c.settle_row.auto.rows, c.deref_mut.ensures.len)))) rows)
     refl (c.from.ensures ∙ ap bool_byte c.is_answer.ensures ∙ byte-one _) (c.from-2.ensures ∙ ap bool_byte c.is_exhaustion.ensures ∙ byte-one _)
+    (told.part_room.0, c.take_back.ensures.room told.part_room.0 told.part_room.1, told.part_room.2)

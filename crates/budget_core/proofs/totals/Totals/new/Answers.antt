@@ -1,4 +1,5 @@
-use Rattle.std.proofs.Common.{List, [], ◌∙◌, sym, subst, arith, refl}
+use Rattle.std.proofs.Common.{ℕ, ◌≤◌, List, All, [], ◌∙◌, sym, subst, arith, refl}
+use Rattle.partition_charge.specs.Totals.{HasRoomBelow}
 use Rattle.budget_core.specs.declared.totals.Row.{Row}
 use Rattle.budget_core.specs.Kept.{HasRows}
 use Rattle.budget_core.proofs.Costs.{cost_of-nil, budget_of-nil}
@@ -15,7 +16,7 @@ returns c =
       history = history-nil c.args.entry.now;
       within = omega (arith, cost_of-nil c.args.entry.now);
       limited = omega (arith, budget_of-nil c.args.entry.now, c.capacity.ensures.valid.budget);
-      costs = c.new.ensures;
+      costs = c.in_ok-costs.ensures.totals;
       rows = subst (λ (rows : List Row). HasRows rows []) (sym c.in_ok-rows.ensures.items) no-rows;
       answered = refl;
       exhausted = refl;
@@ -23,4 +24,9 @@ returns c =
       budget = c.budget.ensures ∙ sym (budget_of-nil c.args.entry.now);
       fits = omega arith;
       row_room = omega (arith, c.capacity.ensures.capacity, c.in_ok-rows.ensures.capacity);
+      part_room = (
+        c.from.result,
+        subst (HasRoomBelow c.in_ok-costs.costs) (omega (arith, c.from.ensures, c.most_keys.ensures.limited)) c.in_ok-costs.ensures.below,
+        subst (λ (n : ℕ). All (λ (count : ℕ). count ≤ n) c.args.entry.now.keys) (sym c.from.ensures) c.most_keys.ensures.most,
+      );
     }
