@@ -11,6 +11,7 @@ use Rattle.fz_ast.specs.Signature.{Signature}
 use Rattle.owner_catalog.specs.Entries.{Catalog, OwnerEntry, TableEntry, PartitionEntry, owner_entry_at as listed_at}
 use Rattle.owner_catalog.specs.Lawful.{IsCatalog, IsOwner, IsPartition}
 use Rattle.partition_charge.specs.declared.view.View.TheVariants.{Part}
+use Rattle.partition_charge.specs.Views.{part_limit}
 use Rattle.journal_records.specs.Encoding.{newest_version}
 use Rattle.budget_core.specs.Entries.{Entry, IsEntry, HasView}
 use Rattle.owner_house.specs.Owner.{HasData, Owner, IsOwnerOf}
@@ -82,11 +83,11 @@ entry_made catalog o budget capacity analysts keys b c a k = cc (b, c, a, k)
 
 -- each partition of a catalog has some keys, and not too many
 keys_legal : (tables : List TableEntry) (partitions : List PartitionEntry) → ((p : ℕ) (d : PartitionEntry) → p < length partitions → IsPartition tables (get_or partitions p d))
-    → All (λ keys. (1 ≤ keys) × (keys ≤ 250)) (map (λ (partition : PartitionEntry). length partition.keys) partitions)
+    → All (λ keys. (1 ≤ keys) × (keys ≤ part_limit)) (map (λ (partition : PartitionEntry). length partition.keys) partitions)
 keys_legal tables [] each = λ k d less. absurd (omega (arith, less))
 keys_legal tables (partition ∷ partitions) each = here (keys_legal tables partitions (λ p e below. each (suc p) e (omega (arith, below))))
   where
-    here : All (λ keys. (1 ≤ keys) × (keys ≤ 250)) (map (λ (other : PartitionEntry). length other.keys) partitions) → All (λ keys. (1 ≤ keys) × (keys ≤ 250)) (map (λ (other : PartitionEntry). length other.keys) (partition ∷ partitions))
+    here : All (λ keys. (1 ≤ keys) × (keys ≤ part_limit)) (map (λ (other : PartitionEntry). length other.keys) partitions) → All (λ keys. (1 ≤ keys) × (keys ≤ part_limit)) (map (λ (other : PartitionEntry). length other.keys) (partition ∷ partitions))
     here rest zero d less = let first : IsPartition tables partition = each 0 partition (omega arith) in (first.some, first.few)
     here rest (suc k) d less = rest k d (omega (arith, less))
 
@@ -169,7 +170,7 @@ pub in_partitions : (register : Register) → IsRegister register → (o p : ℕ
 in_partitions register of o p within less = omega (arith, less, ap (λ (ps : List PartitionEntry). length ps) (partitions_are register of o within))
 
 pub few_keys : (register : Register) → IsRegister register → (o p : ℕ) → o < length (house_of register).owners → p < length (owner_at (house_of register) o).partitions
-    → length (get_or (listed_at register.catalog o).partitions p no_partition).keys ≤ 250
+    → length (get_or (listed_at register.catalog o).partitions p no_partition).keys ≤ part_limit
 few_keys register of o p within less =
     let lawful : IsOwner (listed_at register.catalog o) = of.catalog.owners o _ (in_catalog register of o within) in
     let partition : IsPartition (listed_at register.catalog o).tables (get_or (listed_at register.catalog o).partitions p no_partition) = lawful.partitions p no_partition (in_partitions register of o p within less) in

@@ -7,8 +7,8 @@ ghost use Rattle.budget_core.specs.Entries.{HasView};
 ghost use Rattle.part_views.specs.Partitions.{HasPart};
 ghost use Rattle.owner_house.specs.Owner.{Owner};
 ghost use Rattle.owner_catalog.specs.Entries.{owner_entry_at};
-ghost use Rattle.owner_house.specs.House.{IsRegister, register_with, house_of, keys_of, analyst_named, owner_named};
-ghost use Rattle.owner_house.specs.House.{partition_named, partition_at, key_named, numbered, owner_at};
+ghost use Rattle.owner_house.specs.House.{IsRegister, register_with, house_of, keys_of, numbered, owner_at, partition_at};
+ghost use Rattle.owner_house.specs.House.{analyst_named, owner_named, partition_named, key_named};
 
 use crate::entry::new_entry;
 use budget_core::entry::Entry;

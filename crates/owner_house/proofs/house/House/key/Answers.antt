@@ -1,4 +1,4 @@
-use Rattle.std.proofs.Common.{◌≡◌, ◌<◌, ◌∙◌, ℕ, Option, length, rules, sym, subst}
+use Rattle.std.proofs.Common.{◌≡◌, ◌<◌, length, sym, subst}
 use Rattle.std.specs.Prelude.{IfSome}
 use Rattle.partition_charge.specs.declared.view.View.TheVariants.{Part}
 use Rattle.budget_core.specs.Entries.{HasView}
@@ -20,27 +20,27 @@ key-requires-clause-partition c =
 
 pub returns-clause-named : goal.returns-clause-named
 returns-clause-named c =
-    let same : c.map.result ≡ c.key.result = search rules in
-    same
-    ∙ subst (λ (r : Register). c.key.result ≡ key_named (partition_at (owner_at (house_of r) c.args.owner) c.args.partition) c.args.key.now) c.self.view_is
-    (key_by (register_by c.self.inside.catalog c.self.inside.datasets.items c.self.inside.versions) c.self.invariant c.args.owner
+    let inside = register_by c.self.inside.catalog c.self.inside.datasets.items c.self.inside.versions in
+    subst (λ (r : Register). c.key.result ≡ key_named (partition_at (owner_at (house_of r) c.args.owner) c.args.partition) c.args.key.now) c.self.view_is
+    (key_by inside c.self.invariant c.args.owner
     (subst (λ (r : Register). c.args.owner < length (house_of r).owners) (sym c.self.view_is) c.requires.owner) c.args.partition c.args.key.now c.key.result
-    (subst (λ (r : Register). c.args.partition < length (owner_at (house_of r) c.args.owner).partitions) (sym c.self.view_is) c.requires.partition) c.key.ensures).0
+    (subst (λ (r : Register). c.args.partition < length (owner_at (house_of r) c.args.owner).partitions) (sym c.self.view_is) c.requires.partition)
+    c.key.ensures).0
 
 pub returns-clause-part : goal.returns-clause-part
 returns-clause-part c =
-    let same : c.map.result ≡ c.key.result = search rules in
-    subst (λ (found : Option ℕ). IfSome found (λ j. HasPart (owner_at (house_of c.args.self.now) c.args.owner).partitions (Part c.args.partition j))) (sym same)
-    (subst (λ (r : Register). IfSome c.key.result (λ j. HasPart (owner_at (house_of r) c.args.owner).partitions (Part c.args.partition j))) c.self.view_is
-    (key_by (register_by c.self.inside.catalog c.self.inside.datasets.items c.self.inside.versions) c.self.invariant c.args.owner
+    let inside = register_by c.self.inside.catalog c.self.inside.datasets.items c.self.inside.versions in
+    subst (λ (r : Register). IfSome c.key.result (λ j. HasPart (owner_at (house_of r) c.args.owner).partitions (Part c.args.partition j))) c.self.view_is
+    (key_by inside c.self.invariant c.args.owner
     (subst (λ (r : Register). c.args.owner < length (house_of r).owners) (sym c.self.view_is) c.requires.owner) c.args.partition c.args.key.now c.key.result
-    (subst (λ (r : Register). c.args.partition < length (owner_at (house_of r) c.args.owner).partitions) (sym c.self.view_is) c.requires.partition) c.key.ensures).1)
+    (subst (λ (r : Register). c.args.partition < length (owner_at (house_of r) c.args.owner).partitions) (sym c.self.view_is) c.requires.partition)
+    c.key.ensures).1
 
 pub returns-clause-view : goal.returns-clause-view
 returns-clause-view c =
-    let same : c.map.result ≡ c.key.result = search rules in
-    subst (λ (found : Option ℕ). IfSome found (λ j. HasView (owner_at (house_of c.args.self.now) c.args.owner).entry (Part c.args.partition j))) (sym same)
-    (subst (λ (r : Register). IfSome c.key.result (λ j. HasView (owner_at (house_of r) c.args.owner).entry (Part c.args.partition j))) c.self.view_is
-    (key_by (register_by c.self.inside.catalog c.self.inside.datasets.items c.self.inside.versions) c.self.invariant c.args.owner
+    let inside = register_by c.self.inside.catalog c.self.inside.datasets.items c.self.inside.versions in
+    subst (λ (r : Register). IfSome c.key.result (λ j. HasView (owner_at (house_of r) c.args.owner).entry (Part c.args.partition j))) c.self.view_is
+    (key_by inside c.self.invariant c.args.owner
     (subst (λ (r : Register). c.args.owner < length (house_of r).owners) (sym c.self.view_is) c.requires.owner) c.args.partition c.args.key.now c.key.result
-    (subst (λ (r : Register). c.args.partition < length (owner_at (house_of r) c.args.owner).partitions) (sym c.self.view_is) c.requires.partition) c.key.ensures).2)
+    (subst (λ (r : Register). c.args.partition < length (owner_at (house_of r) c.args.owner).partitions) (sym c.self.view_is) c.requires.partition)
+    c.key.ensures).2
