@@ -1,19 +1,24 @@
 #!/usr/bin/env bash
-# Asks of 250 parts of a table of 2^20 rows beside one ask of the whole, by the same program, which maps every row: processor time, the
-# least of five runs each, less a run of no ask. Together the parts are to take at most twice the whole's time.
-# usage: bench/parts.sh    (PROGRAM=FILE measures another build)
+# Asks of the 4,000 parts of a table of 2^20 rows beside one ask of the whole, by the same program, which maps every row: processor time, the
+# least of five runs each, less a run of no ask. One ask of the whole is too short beside the loading, so 20 are timed and a twentieth is taken.
+# Together the parts are to take at most four times that.
+# The catalog and its journals lie on tmpfs, so that no disk is timed.
+# usage: bench/parts.sh [KEYS]    (PROGRAM=FILE measures another build)
 # It ends with status 1 where they take more.
 set -euo pipefail
 . "$(dirname "$0")/common.sh"
 need_program
 need_tool python3 python3
 program=$(realpath "$program")
+keys=${1:-4000}
+export TMPDIR=/dev/shm
 make_room
-python3 - <<'END'
+python3 - "$keys" <<'END'
 import json
 import random
+import sys
 rng = random.Random(16)
-keys = [f"town{number:03}" for number in range(250)]
+keys = [f"town{number:04}" for number in range(int(sys.argv[1]))]
 with open("people.csv", "w") as file:
     file.write("town,age\n")
     file.writelines(f"{rng.choice(keys)},{rng.randrange(100)}\n" for _ in range(2**20))
@@ -23,36 +28,39 @@ owner = {"name": "census", "budget": 10**12, "capacity": 10**4, "tables": [table
 with open("cat.json", "w") as file:
     json.dump({"analysts": ["ann"], "owners": [owner]}, file)
 ask = "1 sum[0,100] (map (fn (p : text * num) => let (town, age) = p in age + 1) people)\n"
-for name, lines in [("none", []), ("whole", [f"ask census {ask}"]), ("parts", [f"askpart census area {key} {ask}" for key in keys])]:
+for name, lines in [("none", []), ("whole", 20 * [f"ask census {ask}"]), ("parts", [f"askpart census area {key} {ask}" for key in keys])]:
     with open(name, "w") as file:
         file.write("hello ann\n" + "".join(lines) + "left census\n")
 END
-least() {
-    python3 - "$program" "$1" <<'END'
+read -r none whole parts < <(
+    python3 - "$program" <<'END'
 import resource
 import shutil
 import subprocess
 import sys
-program, script = sys.argv[1:]
-times = []
-for _ in range(5):
+program = sys.argv[1]
+
+
+def spent(script):
     shutil.rmtree("journals", ignore_errors=True)
     subprocess.run([program, "init", "cat.json", "key"], check=True, stdout=subprocess.DEVNULL)
     before = resource.getrusage(resource.RUSAGE_CHILDREN)
     with open(script) as lines, open(f"{script}.replies", "w") as replies:
         subprocess.run([program, "run", "cat.json", "key"], stdin=lines, stdout=replies, check=True)
     after = resource.getrusage(resource.RUSAGE_CHILDREN)
-    times.append(after.ru_utime + after.ru_stime - before.ru_utime - before.ru_stime)
-print(min(times))
+    return after.ru_utime + after.ru_stime - before.ru_utime - before.ru_stime
+
+
+rounds = [[spent(script) for script in ("none", "whole", "parts")] for _ in range(5)]
+print(*(min(times) for times in zip(*rounds)))
 END
-}
-none=$(least none)
-whole=$(least whole)
-parts=$(least parts)
+)
 tail -qn 1 whole.replies parts.replies
-python3 - "$none" "$whole" "$parts" <<'END'
+python3 - "$none" "$whole" "$parts" "$keys" <<'END'
 import sys
-none, whole, parts = map(float, sys.argv[1:])
-print(f"loading {none:.2f} s; the whole {whole - none:.3f} s; 250 parts {parts - none:.3f} s: {(parts - none) / (whole - none):.2f} times (bar 2)")
-sys.exit(parts - none > 2 * (whole - none))
+none, whole, parts = map(float, sys.argv[1:4])
+one = (whole - none) / 20
+times = (parts - none) / one
+print(f"loading {none:.2f} s; the whole {one:.4f} s; {sys.argv[4]} parts {parts - none:.3f} s: {times:.2f} times (bar 4)")
+sys.exit(times > 4)
 END
