@@ -1,8 +1,8 @@
 //! What a term gives, with the widest shape so far.
-ghost use Rattle.std.specs.Prelude.{◌≡◌, ◌+◌, ◌<◌, List, length};
+ghost use Rattle.std.specs.Prelude.{◌≡◌, ◌+◌, ◌<◌, ◌≤◌, List, length, max};
 ghost use Rattle.fz_ast.specs.Names.{name_of};
 ghost use Rattle.fz_ast.specs.TermNodes.{term_at};
-ghost use Rattle.fz_ast.specs.Terms.{Term};
+ghost use Rattle.fz_ast.specs.Terms.{Term, at};
 ghost use Rattle.shape_law.specs.Shapes.{Shape, Shapes, bang_shape, first_half, pair_shape, second_half, shape_of, width_of, wider};
 ghost use Rattle.shape_law.specs.Walk.{yields, turn, turn_limit, union};
 ghost use Rattle.shape_run.specs.Cells.{Grown, HasScope, HasShape, HaveShapes, IsScope, IsShape};

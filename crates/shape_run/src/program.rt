@@ -1,5 +1,5 @@
 //! The plan of a whole program.
-ghost use Rattle.std.specs.Prelude.{◌≡◌, ◌<◌, IfErr, IfOk, List};
+ghost use Rattle.std.specs.Prelude.{◌≡◌, ◌<◌, IfErr, IfOk, List, length};
 ghost use Rattle.fz_ast.specs.Limits.{TermLimits};
 ghost use Rattle.fz_ast.specs.Signature.{IsSignature};
 ghost use Rattle.fz_ast.specs.Terms.{Term};

@@ -1,5 +1,5 @@
 //! Shapes in numbered cells.
-ghost use Rattle.std.specs.Prelude.{◌≡◌, ◌+◌, ◌<◌, ◌&&◌, [], List, Some, None, IfOk, MatchOption, length, slice_get};
+ghost use Rattle.std.specs.Prelude.{◌≡◌, ◌+◌, ◌<◌, ◌≤◌, ◌++◌, ◌&&◌, [], ◌∷◌, List, Some, None, IfOk, OnOk, OnErr, MatchOption, length, max, slice_get};
 ghost use Rattle.fz_ast.specs.Names.{name_of};
 ghost use Rattle.fz_ast.specs.Terms.{Name, Term};
 ghost use Rattle.fz_ast.specs.TermNodes.{term_at};

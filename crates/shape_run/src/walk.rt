@@ -1,13 +1,14 @@
 //! The walk over numbered nodes.
 #![tactic(none)]
 
-ghost use Rattle.std.specs.Prelude.{◌+◌, ◌<◌, length};
+ghost use Rattle.std.specs.Prelude.{◌≡◌, ◌+◌, ◌<◌, ◌≤◌, List, length};
 ghost use Rattle.fz_ast.specs.Names.{name_of};
-ghost use Rattle.fz_ast.specs.TermNodes.{term_at};
+ghost use Rattle.fz_ast.specs.TermNodes.{IsKnown, term_of, term_at};
+ghost use Rattle.fz_ast.specs.TypeNodes.{type_at};
 ghost use Rattle.shape_law.specs.Shapes.{Shape, Shapes, first_half, in_bang, second_half};
 ghost use Rattle.shape_law.specs.Walk.{enters, walk, walk_rules};
 ghost use Rattle.shape_run.specs.Cells.{Grown, IsScope, IsShape};
-ghost use Rattle.shape_run.specs.Rules.{Scopes, StandsForShape, beside, combined, branches, over};
+ghost use Rattle.shape_run.specs.Rules.{Scopes, StandsForShape, beside, combined, branches, over, part_in, part_shape};
 ghost use Rattle.shape_run.specs.Tells.{Tells, tally_of};
 
 use crate::gives::{

@@ -1,5 +1,5 @@
 //! How far two bags of values are apart.
-ghost use Rattle.std.specs.Prelude.{◌≡◌, ◌<◌, IfOk, length, map};
+ghost use Rattle.std.specs.Prelude.{◌≡◌, ◌+◌, ◌<◌, ◌^◌, IfOk, length, map};
 ghost use Rattle.metric_values.specs.Distances.{bag_distance};
 ghost use Rattle.run_values.specs.Flats.{AllFlat, flat_of, flats_of};
 ghost use Rattle.run_values.specs.Looks.{look_of, part_of};

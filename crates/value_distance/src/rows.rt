@@ -1,5 +1,5 @@
 //! How far two datasets are apart.
-ghost use Rattle.std.specs.Prelude.{◌≡◌, ◌<◌, IfOk, IfSome, length, map};
+ghost use Rattle.std.specs.Prelude.{◌≡◌, ◌+◌, ◌<◌, IfOk, IfSome, length, map};
 ghost use Rattle.metric_values.specs.Cells.{row_at};
 ghost use Rattle.metric_values.specs.Columns.{element_of};
 ghost use Rattle.metric_values.specs.Distances.{bag_distance};
