@@ -49,7 +49,8 @@ IsReserved old ask (Err (Unwritten fault)) new = (grant : Grant) × HasVerdict o
 
 -- A settlement is written, but to a closed book. Its record says by how much the cost falls.
 abbrev pub IsSettlementOf : Account → (number : ℕ) → Outcome → Result ℕ AppendFault → Account → Type 0
-IsSettlementOf old number outcome (Ok seen) new = HasGained old (settlement_for old.ledger.entry old.ledger.records number outcome) new × (seen ≡ length new.ledger.records)
+IsSettlementOf old number outcome (Ok seen) new = HasGained old (settlement_for old.ledger.entry old.ledger.records number outcome) new
+    × (seen ≡ length new.ledger.records)
 IsSettlementOf old number outcome (Err fault) new = IsUnwritten old (settlement_for old.ledger.entry old.ledger.records number outcome) fault new
 
 -- the verdict on a grant of this amount

@@ -31,7 +31,8 @@ LeavesMoments = (old new : List Record) (before after : Storage) → IfSome befo
 -- Bytes that stand for records each of which may follow, by the rules of their version, are refused for the disk or for want of
 -- memory alone.
 abbrev pub OpensWhatStands : Type 0
-OpensWhatStands = (entry : Entry) (header : Header) (records : List Record) (bytes : List ℕ) → Stands header records bytes → entry.version ≡ header.version → IsHistory entry records
+OpensWhatStands = (entry : Entry) (header : Header) (records : List Record) (bytes : List ℕ)
+    → Stands header records bytes → entry.version ≡ header.version → IsHistory entry records
     → (fault : OpenFault) → IsBookFault entry header bytes fault → (fault ≡ DiskFault) ⊎ (fault ≡ NoMemory)
 
 -- What is left of a run that a stop ended: the records that it came to, its storage before and at the stop, and the file
@@ -51,6 +52,7 @@ LeadTo header records (run ∷ runs) later = (run.before.header ≡ header) × W
 
 -- Over however many runs and stops no grant has the number of an earlier one: it is greater.
 abbrev pub GrantsNeverShare : Type 0
-GrantsNeverShare = (entry : Entry) (header : Header) (start later_start : ℕ) (records later : List Record) (runs : List Interrupted) (ask other : Ask) (grant next : Grant)
+GrantsNeverShare = (entry : Entry) (header : Header) (start later_start : ℕ) (records later : List Record)
+    (runs : List Interrupted) (ask other : Ask) (grant next : Grant)
     → money_verdict entry start records ask ≡ Ok grant → LeadTo header (records_after records ask (Ok grant)) runs later
     → money_verdict entry later_start later other ≡ Ok next → grant.number < next.number
