@@ -68,8 +68,8 @@ fn catalog_of(
 // A column of texts.
 const TOWN: &str = "{\"name\":\"town\",\"type\":\"text\"}";
 
-// A partition by so many keys `k0`, `k1`, .., of which one may stand twice: the last one again, behind them.
-fn partition_of(alloc: Global, keys: usize, repeats: bool) -> Result<String, AllocError> {
+// A partition by so many keys `k0`, `k1`, .., and behind them perhaps one of them again.
+fn partition_of(alloc: Global, keys: usize, again: Option<usize>) -> Result<String, AllocError> {
     let mut text = String::from_str(
         alloc,
         "{\"name\":\"area\",\"table\":\"t0\",\"column\":\"town\",\"keys\":[",
@@ -78,8 +78,8 @@ fn partition_of(alloc: Global, keys: usize, repeats: bool) -> Result<String, All
         let comma = if number == 0 { "" } else { "," };
         write!(text, "{comma}\"k{number}\"")?;
     }
-    if repeats {
-        write!(text, ",\"k{}\"", keys - 1)?;
+    if let Some(number) = again {
+        write!(text, ",\"k{number}\"")?;
     }
     text.push_str("]}")?;
     Ok(text)
@@ -143,31 +143,38 @@ fn each_count(rt: HostRuntime) -> Result<(), Fail> {
     Ok(())
 }
 
-// How many keys a partition has, and whether one stands twice; whether it may have these.
-const KEYS: [(usize, bool, bool); 6] = [
-    (0, false, false),
-    (1, false, true),
-    (4_000, false, true),
-    (4_001, false, false),
-    (1, true, false),
-    (3_999, true, false),
+// How many keys a partition has, and which of them again; whether it may have these.
+#[rattlefmt::skip]
+const KEYS: [(usize, Option<usize>, bool); 6] = [
+    (0, None, false),
+    (1, None, true),
+    (4_000, None, true),
+    (4_001, None, false),
+    (1, Some(0), false),
+    (3_999, Some(3_998), false),
 ];
 
 #[test]
 fn each_count_of_keys(rt: HostRuntime) -> Result<(), Fail> {
     let alloc = rt.alloc();
-    for (keys, repeats, fits) in &KEYS {
-        let partition = partition_of(alloc, *keys, *repeats)?;
+    for (keys, again, fits) in &KEYS {
+        let partition = partition_of(alloc, *keys, *again)?;
         let catalog = parted(alloc, &partition)?;
         let is_due = is_taken(&rt, alloc, &catalog, *fits)?;
-        assert!(rt; is_due, "{keys} {repeats}");
+        assert!(rt; is_due, "{keys} {again:?}");
     }
     Ok(())
 }
 
 // Whether each of 4,000 keys has its number and text, and the next is none.
 fn has_keys(catalog: &Catalog) -> bool {
-    if catalog.owners() != 1 || catalog.partitions(0) != 1 || catalog.keys(0, 0) != 4_000 {
+    if catalog.owners() != 1 {
+        return false;
+    }
+    if catalog.partitions(0) != 1 {
+        return false;
+    }
+    if catalog.keys(0, 0) != 4_000 {
         return false;
     }
     let numbers = (
@@ -181,7 +188,7 @@ fn has_keys(catalog: &Catalog) -> bool {
 
 #[test]
 fn last_key(rt: HostRuntime) -> Result<(), Fail> {
-    let partition = partition_of(rt.alloc(), 4_000, false)?;
+    let partition = partition_of(rt.alloc(), 4_000, None)?;
     let text = parted(rt.alloc(), &partition)?;
     let catalog = read(rt.alloc(), text.as_bytes())?;
     assert!(rt; has_keys(&catalog));

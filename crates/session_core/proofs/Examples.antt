@@ -68,7 +68,11 @@ abbrev pub owner_entry : (name : List ℕ) (budget capacity : ℕ) → List Tabl
 owner_entry name budget capacity tables = record { name = name; budget = budget; capacity = capacity; tables = tables; partitions = []; text = [] }
 
 abbrev pub register_of : List OwnerEntry → List Holding → Register
-register_of owners holdings = record { catalog = record { analysts = codes "ann" ∷ codes "bob" ∷ []; owners = owners; text = [] }; holdings = holdings; versions = replicate 16 2 }
+register_of owners holdings = record {
+  catalog = record { analysts = codes "ann" ∷ codes "bob" ∷ []; owners = owners; text = [] };
+  holdings = holdings;
+  versions = replicate 64 2;
+}
 
 -- a house of two analysts and an owner, with these ages
 abbrev pub house : (budget capacity : ℕ) → List ℤ → Register
