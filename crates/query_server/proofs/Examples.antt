@@ -187,7 +187,7 @@ count_rises = (refl, omega arith)
 count_falls : FilesStay (record { held = None; names = []; faults = 2 }) (record { held = None; names = []; faults = 1 }) → ⊥
 count_falls (same, less) = absurd (omega (arith, less))
 
-fewer_owners : (shelf : Shelf) → BayStays (record { shelf = shelf; owners = 16; faults = 0 }) (record { shelf = shelf; owners = 15; faults = 0 }) → ⊥
+fewer_owners : (shelf : Shelf) → BayStays (record { shelf = shelf; owners = 64; faults = 0 }) (record { shelf = shelf; owners = 63; faults = 0 }) → ⊥
 fewer_owners shelf (same, less) = absurd (omega (arith, same))
 
 -- a text begins with its first byte and not with its second

@@ -70,7 +70,7 @@ abbrev two : Catalog
 two = record { analysts = codes "ann" ∷ codes "bob" ∷ []; owners = owner census 10000000 100 ∷ owner (codes "b") 3 2 ∷ []; text = [] }
 
 abbrev loading : Loading
-loading = record { register = record { catalog = two; holdings = []; versions = replicate 16 3 }; hashes = (replicate 32 1 ∷ []) ∷ (replicate 32 2 ∷ []) ∷ [] }
+loading = record { register = record { catalog = two; holdings = []; versions = replicate 64 3 }; hashes = (replicate 32 1 ∷ []) ∷ (replicate 32 2 ∷ []) ∷ [] }
 
 line_of_a_made_journal : made_line (owner census 10000000 100) ≡ codes "owner census budget 10000000 capacity 100\n"
 unfolding digits
@@ -157,14 +157,14 @@ one_tells bytes (suc o) lt = absurd (omega (arith, lt))
 both_do_not : (bytes : List ℕ) → TellBytes 2 (shelf_with bytes) → ⊥
 both_do_not bytes tell = let wrong : false ≡ true = tell 1 (omega arith) in true≢false (sym wrong)
 
--- a disk at home for each of 16 owners, or for one less
-all_at_home : AreAtHome 16 (λ o. telling [])
+-- a disk at home for each of 64 owners, or for one less
+all_at_home : AreAtHome 64 (λ o. telling [])
 all_at_home o lt = (lt, refl)
 
-one_owner_less : AreAtHome 15 (λ o. telling []) → ⊥
-one_owner_less home = omega (arith, (home 15 (omega arith)).0)
+one_owner_less : AreAtHome 63 (λ o. telling []) → ⊥
+one_owner_less home = omega (arith, (home 63 (omega arith)).0)
 
-none_at_home : AreAtHome 16 (λ o. None) → ⊥
+none_at_home : AreAtHome 64 (λ o. None) → ⊥
 none_at_home home = true≢false (sym (home 0 (omega arith)).1)
 
 -- ---- what becomes of them
@@ -468,7 +468,7 @@ not_valid_audit = no_journals
 -- journals of no records are valid, and those that aren't told are not
 module _ (bytes : ℕ → List ℕ) (made : (o : ℕ) → Stands (header_of loading key o) [] (bytes o)) where
   valid_run : IsValidFor (to_answer 1 loading key) (λ o. telling (bytes o))
-  valid_run = (λ o lt. refl, (replicate 16 3, λ o. [], record { counted = refl; each = λ o lt. record { stands = made o; history = record { follows = λ k r at. absurd (cc (at)) } } }))
+  valid_run = (λ o lt. refl, (replicate 64 3, λ o. [], record { counted = refl; each = λ o lt. record { stands = made o; history = record { follows = λ k r at. absurd (cc (at)) } } }))
 
   not_valid_making : IsValidFor (to_make loading key) (λ o. telling (bytes o)) → ⊥
   not_valid_making is =

@@ -119,7 +119,7 @@ abbrev owner_held : (name file : List ℕ) → LoadedOwner
 owner_held name file = record { holding = holding name file; hashes = hash ∷ [] }
 
 abbrev loading : Loading
-loading = record { register = record { catalog = both; holdings = holding a (csv a) ∷ holding b (csv b) ∷ []; versions = replicate 16 3 }; hashes = (hash ∷ []) ∷ (hash ∷ []) ∷ [] }
+loading = record { register = record { catalog = both; holdings = holding a (csv a) ∷ holding b (csv b) ∷ []; versions = replicate 64 3 }; hashes = (hash ∷ []) ∷ (hash ∷ []) ∷ [] }
 
 abbrev HasCatalog : Contents → Type 0
 HasCatalog held = Comes (catalog_read cat) held (Ok both) (cat ∷ [])
@@ -164,7 +164,7 @@ unfolding one_by_one
 second_table_refused held first second =
     stops _ _ held _ _ (goes_on _ _ held _ _ _ _ (held_by held a (csv a) first) (stops _ _ held _ _ (stops _ _ held _ _ (unheld_by held b (csv b) second))))
 
-all_of_second : (held : Contents) → HasRows held (csv (codes "c")) → Comes (loaded one) held (Ok (record { register = record { catalog = one; holdings = holding a (csv (codes "c")) ∷ []; versions = replicate 16 3 }; hashes = (hash ∷ []) ∷ [] })) ((csv (codes "c")) ∷ [])
+all_of_second : (held : Contents) → HasRows held (csv (codes "c")) → Comes (loaded one) held (Ok (record { register = record { catalog = one; holdings = holding a (csv (codes "c")) ∷ []; versions = replicate 64 3 }; hashes = (hash ∷ []) ∷ [] })) ((csv (codes "c")) ∷ [])
 unfolding one_by_one
 all_of_second held has = goes_on _ _ held _ _ _ _ (goes_on _ _ held _ _ _ _ (held_by held a (csv (codes "c")) has) (goes_on _ _ held _ _ _ _ refl refl)) refl
 

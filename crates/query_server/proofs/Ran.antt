@@ -159,7 +159,7 @@ module _ (loading : Loading) (key : List ℕ) (lawful : IsLoading loading) where
       all_back (entry_at loading) (header_of loading key) (owners_in loading) old mid new passes after books on (λ o within. none o (owner_at house o) (there o within)) back
 
   -- There are as many passes as owners.
-  pub few_owners : owners_in loading ≤ 16
+  pub few_owners : owners_in loading ≤ 64
   few_owners = lawful.register.catalog.few_owners
 
   -- a script that was to be answered names no disk at its end

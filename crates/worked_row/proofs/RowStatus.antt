@@ -36,7 +36,7 @@ not_refused old new status text (bytes, told, made) due =
     never_refused (new_entry loading 0) (new_header loading zeros 0) [] bytes due.refusal made refl (no_records (new_entry loading 0)) (subst (λ (b : Option (List ℕ)). IsUnopened (new_entry loading 0) (new_header loading zeros 0) b due.refusal) told refused)
 
 -- the first of these versions is 3
-begins_new : (versions : List ℕ) → length versions ≡ 16 → get_or versions 0 3 ≡ 3 → (rest : List ℕ) × (versions ≡ 3 ∷ rest)
+begins_new : (versions : List ℕ) → length versions ≡ 64 → get_or versions 0 3 ≡ 3 → (rest : List ℕ) × (versions ≡ 3 ∷ rest)
 begins_new [] many is = absurd (omega (arith, many))
 begins_new (version ∷ rest) many is = (rest, ap (λ (v : ℕ). v ∷ rest) is)
 

@@ -31,7 +31,7 @@ overflow_cast-owner c =
     let yields = YieldsList-from_vec c.args.tables.items c.into_iter-rows-iterator.ensures.into_iter_gives.0 (c.into_iter-rows-iterator.ensures.into_iter_gives.1 ∙ c.args.tables.ok.0) in
     let turn = YieldsList-turn yields c.loop-rows.yielded _ c.loop-rows.yielded_by c.next.result c.next.new.self c.in-Some.rows c.in-Some.is c.next.ensures.steps in
     let next = next_owner c.args.catalog.now _ _ _ _ c.len-owner.result c.requires c.loop-rows.invariant turn (c.len-owner.ensures ∙ c.loop-rows.datasets.ok.0) in
-    let few : length c.args.catalog.now.owners ≤ 16 = c.requires.register.catalog.few_owners in
+    let few : length c.args.catalog.now.owners ≤ 64 = c.requires.register.catalog.few_owners in
     omega (arith, few, next.1)
 
 pub new-requires-clause-owner : goal.new-requires-clause-owner

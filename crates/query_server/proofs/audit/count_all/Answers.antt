@@ -28,7 +28,7 @@ count_owner-requires-clause-header g c =
 
 pub count_owner-requires-clause-known : goal.count_owner-requires-clause-known
 count_owner-requires-clause-known g c =
-    let few : c.loop-owner.owner < 16 = omega (arith, c.loop-owner-test.true, c.len-owner-end.ensures, c.in_ok-headers.ensures.few) in
+    let few : c.loop-owner.owner < 64 = omega (arith, c.loop-owner-test.true, c.len-owner-end.ensures, c.in_ok-headers.ensures.few) in
     omega (arith, (c.requires.home c.loop-owner.owner few).0, c.loop-owner.invariant.owners)
 
 pub returns-in_err-count_owner-clause-stop : goal.returns-in_err-count_owner-clause-stop
@@ -44,7 +44,7 @@ returns-in_err-count_owner-clause-stop g c =
 
 pub returns-in_err-count_owner-clause-disk : goal.returns-in_err-count_owner-clause-disk
 returns-in_err-count_owner-clause-disk g c line is =
-    let few : c.loop-owner.owner < 16 = omega (arith, c.loop-owner-test.true, c.len-owner-end.ensures, c.in_ok-headers.ensures.few) in
+    let few : c.loop-owner.owner < 64 = omega (arith, c.loop-owner-test.true, c.len-owner-end.ensures, c.in_ok-headers.ensures.few) in
     let same = passed_disk c.in_err-count_owner.field-0.0 c.from_residual-in_err-count_owner.result line c.from_residual-in_err-count_owner.ensures.1 is in
     rose_since c.loop-owner.owner (g.B.Bay.shelf c.args.bay.now) (g.B.Bay.shelf c.loop-owner.bay) (g.B.Bay.shelf c.count_owner.new.bay)
     (g.B.Bay.faults c.args.bay.now) (g.B.Bay.faults c.loop-owner.bay) (g.B.Bay.faults c.count_owner.new.bay) c.loop-owner.invariant.faults c.in_err-count_owner.ensures.bay.1

@@ -13,12 +13,12 @@ use Rattle.query_server.proofs.books.open_desks.Goals as goal
 
 pub open_desk-requires-clause-known : goal.open_desk-requires-clause-known
 open_desk-requires-clause-known g c κs _ =
-    let within : c.loop-owner.owner < 16 = omega (arith, c.loop-owner-test.true, c.loop-owner.auto.owner-end, c.in_ok-headers.ensures.few) in
+    let within : c.loop-owner.owner < 64 = omega (arith, c.loop-owner-test.true, c.loop-owner.auto.owner-end, c.in_ok-headers.ensures.few) in
     omega (arith, (c.requires.home c.loop-owner.owner within).0, c.loop-owner.invariant.owners)
 
 pub put_back-requires-clause-known : goal.put_back-requires-clause-known
 put_back-requires-clause-known g c κs _ =
-    let within : c.loop-owner.owner < 16 = omega (arith, c.loop-owner-test.true, c.loop-owner.auto.owner-end, c.in_ok-headers.ensures.few) in
+    let within : c.loop-owner.owner < 64 = omega (arith, c.loop-owner-test.true, c.loop-owner.auto.owner-end, c.in_ok-headers.ensures.few) in
     omega (arith, (c.requires.home c.loop-owner.owner within).0, c.loop-owner.invariant.owners, c.loop-owner.invariant.on.on.count, many_known c.loop-owner.passes.items, c.in-Err.ensures.bay.0)
 
 pub returns-in-Err-clause-left : goal.returns-in-Err-clause-left
@@ -54,7 +54,7 @@ loop-owner-preserved g c =
     let owner = c.loop-owner.owner in
     let pass = c.in-Ok.pass in
     let pushed = c.push_reserved-in-Ok.ensures.items in
-    let few : owner < 16 = omega (arith, c.loop-owner-test.true, c.loop-owner.auto.owner-end, c.in_ok-headers.ensures.few) in
+    let few : owner < 64 = omega (arith, c.loop-owner-test.true, c.loop-owner.auto.owner-end, c.in_ok-headers.ensures.few) in
     record {
       on = subst (λ (ps : List Pass). AreDesks loading key (owner + 1) (g.B.Bay.shelf c.args.bay.now) (g.B.Bay.shelf c.open_desk.new.bay) c.set_version.new.self ps) (sym (known_last _ _ _ pushed))
           (one_more loading key owner (g.B.Bay.shelf c.args.bay.now) (g.B.Bay.shelf c.loop-owner.bay) c.loop-owner.opened (bundle_of c.loop-owner.passes.items).knows c.loop-owner.invariant.on
