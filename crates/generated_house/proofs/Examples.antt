@@ -16,7 +16,7 @@ budgets : (budget_for 1 ≡ 1000000) × (budget_for 2 ≡ 1000000) × (budget_fo
 budgets = (refl, refl, refl, refl)
 
 -- the one owner's journal is of version 2, by the house and by its entry
-versions : versions_held ≡ 2 ∷ replicate 15 3
+versions : versions_held ≡ 2 ∷ replicate 63 3
 versions = refl
 
 owners : (slice_get (house_for 7 3).owners 0 ≡ Some (the_owner 7 3)) × ((the_owner 7 3).entry ≡ entry_for 3)
