@@ -1,4 +1,4 @@
-//! Tests of tables in memory and from CSV, of bags, of functions of rows, of distances, and of request and reply lines.
+//! Tests of tables in memory and from CSV, of bags, of distances, and of request and reply lines.
 #![tactic(auto)]
 
 #[cfg(test)]
@@ -13,5 +13,3 @@ mod distances;
 mod lines_and_replies;
 #[cfg(test)]
 mod parts;
-#[cfg(test)]
-mod row_functions;

@@ -93,10 +93,11 @@ fn shown<'d>(
     if p as usize >= catalog.partitions(owner) || j as usize >= catalog.keys(owner, p) {
         return None;
     }
-    only_table(dataset.tables(View::Part {
+    let tables = dataset.tables(View::Part {
         partition: p,
         part: j,
-    }))
+    });
+    only_table(tables)
 }
 
 // The table of a dataset that has one.
