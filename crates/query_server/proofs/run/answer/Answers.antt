@@ -59,7 +59,7 @@ put_back-requires-clause-known g c κs _ =
     let loading = c.open_desks.new.opened.loading in
     let few = few_owners loading c.open_desks.new.opened.key c.house-house.ensures.lawful.lawful in
     let all = many_opened loading c.open_desks.new.opened.key c.house-house.ensures.lawful.lawful c.house-house.result.now c.into_vec.result.items _ c.into_vec.ensures c.house-house.ensures.house c.answer_over-end.ensures.passes in
-    omega (arith, few, all, (c.requires.home 15 (omega arith)).0, c.in_ok-desks.ensures.bay.0)
+    omega (arith, few, all, (c.requires.home 63 (omega arith)).0, c.in_ok-desks.ensures.bay.0)
 
 pub put_back-requires-clause-taken : goal.put_back-requires-clause-taken
 put_back-requires-clause-taken g c κs _ = λ o less.
