@@ -1,6 +1,7 @@
 #!/usr/bin/env bash
 # Asks of the 4,000 parts of a table of 2^20 rows beside one ask of the whole, by the same program, which maps every row: processor time, the
-# least of five runs each, less a run of no ask. One ask of the whole is too short beside the loading, so 20 are timed and a twentieth is taken.
+# least of five runs each, less a run of no ask. Either is lost in what the loading varies by, so each part is asked ten times and the whole forty times, and
+# a tenth and a fortieth are taken.
 # Together the parts are to take at most four times that.
 # The catalog and its journals lie on tmpfs, so that no disk is timed.
 # usage: bench/parts.sh [KEYS]    (PROGRAM=FILE measures another build)
@@ -24,11 +25,11 @@ with open("people.csv", "w") as file:
     file.writelines(f"{rng.choice(keys)},{rng.randrange(100)}\n" for _ in range(2**20))
 table = {"name": "people", "file": "people.csv", "columns": [{"name": "town", "type": "text"}, {"name": "age", "type": "num"}]}
 partition = {"name": "area", "table": "people", "column": "town", "keys": keys}
-owner = {"name": "census", "budget": 10**12, "capacity": 10**4, "tables": [table], "partitions": [partition]}
+owner = {"name": "census", "budget": 10**15, "capacity": 2 * 10**5, "tables": [table], "partitions": [partition]}
 with open("cat.json", "w") as file:
     json.dump({"analysts": ["ann"], "owners": [owner]}, file)
 ask = "1 sum[0,100] (map (fn (p : text * num) => let (town, age) = p in age + 1) people)\n"
-for name, lines in [("none", []), ("whole", 20 * [f"ask census {ask}"]), ("parts", [f"askpart census area {key} {ask}" for key in keys])]:
+for name, lines in [("none", []), ("whole", 40 * [f"ask census {ask}"]), ("parts", 10 * [f"askpart census area {key} {ask}" for key in keys])]:
     with open(name, "w") as file:
         file.write("hello ann\n" + "".join(lines) + "left census\n")
 END
@@ -59,8 +60,8 @@ tail -qn 1 whole.replies parts.replies
 python3 - "$none" "$whole" "$parts" "$keys" <<'END'
 import sys
 none, whole, parts = map(float, sys.argv[1:4])
-one = (whole - none) / 20
-times = (parts - none) / one
-print(f"loading {none:.2f} s; the whole {one:.4f} s; {sys.argv[4]} parts {parts - none:.3f} s: {times:.2f} times (bar 4)")
+one, all_parts = (whole - none) / 40, (parts - none) / 10
+times = all_parts / one
+print(f"loading {none:.2f} s; the whole {one:.4f} s; {sys.argv[4]} parts {all_parts:.3f} s: {times:.2f} times (bar 4)")
 sys.exit(times > 4)
 END

@@ -134,10 +134,6 @@ class Counting(Run):
         found = super().name(node, scope, name)
         return [(found, ())] if name in FULL and isinstance(found, Rows) else found
 
-    def union(self, node, scope, a, b):
-        left = self.value(a, scope)
-        return left + self.value(b, scope)
-
     def over_bag(self, node, scope, f, b):
         function = self.value(f, scope)
         bag = self.value(b, scope)
