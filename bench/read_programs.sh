@@ -1,8 +1,9 @@
 #!/usr/bin/env bash
-# Reads programs of 16,000 bytes: what one costs, from scripts of 1,000 asks of it, of half of it and of a short one.
+# Reads programs of 16,000 bytes: what one costs, from scripts of 1,000 asks of it, of half of it and of a short one, each behind an ask
+# of another program, since a session doesn't read the program that it has just asked again.
 # usage: bench/read_programs.sh [ROUNDS]    (PROGRAM=FILE measures another build)
 # Bars: under 5 ms a program, and at most 2.3 times what half of it costs. It ends with status 1 where one isn't met.
-# A cost is the processor time of 1,000 lines, less that of the short ones: the least of the rounds. The names are
+# A cost is the processor time of 1,000 pairs of lines, less that of the short ones: the least of the rounds. The names are
 # unbound, so that the first of them ends what comes after the reading.
 . "$(dirname "$0")/common.sh"
 rounds=${1:-5}
@@ -11,7 +12,7 @@ make_room
 printf 'age\n20\n30\n40\n' >people.csv
 renew cat.json key
 cp journals/0.bud empty.bud
-lines=1000
+asks=1000
 runs=4
 bar=5000
 TIMEFORMAT='%U %S'
@@ -26,20 +27,20 @@ pairs() {
     for ((turn = 0; turn < $1; turn++)); do tree="($tree,$tree)"; done
     printf '%s' "$tree"
 }
-# script NAME PROGRAM: the script NAME, of lines with this program.
-script() { { echo "hello ann"; yes "ask census 1 $2" | head -n "$lines"; } >"$1"; }
+# script NAME PROGRAM: the script NAME, of lines with this program, each behind one with another.
+script() { { echo "hello ann"; yes "ask census 1 b"$'\n'"ask census 1 $2" | head -n "$((2 * asks))"; } >"$1"; }
 # spend NAME..: runs each of the scripts in turn, so that a busy machine slows them alike, and keeps the seconds of each.
 spend() {
     local round run name
     for ((round = 0; round < rounds; round++)); do
         for name in "$@"; do
             { time for ((run = 0; run < runs; run++)); do cp empty.bud journals/0.bud && "$program" run cat.json key <"$name" >"$name.output"; done; } 2>>"$name.times"
-            [ "$(wc -l <"$name.output")" = $((lines + 1)) ] || { echo "another number of replies than of lines" >&2; exit 1; }
+            [ "$(wc -l <"$name.output")" = $((2 * asks + 1)) ] || { echo "another number of replies than of lines" >&2; exit 1; }
         done
     done
 }
-# least NAME: the microseconds of a line, the least of the rounds.
-least() { awk -v each="$((runs * lines))" '{ used = ($1 + $2) * 1000000 / each; if (NR == 1 || used < least) least = used } END { print least }' "$1.times"; }
+# least NAME: the microseconds of a pair of lines, the least of the rounds.
+least() { awk -v each="$((runs * asks))" '{ used = ($1 + $2) * 1000000 / each; if (NR == 1 || used < least) least = used } END { print least }' "$1.times"; }
 
 passed=0
 # compare NAME WHOLE HALF: prints a row. The ratio is judged where half of the program costs over 10 microseconds.

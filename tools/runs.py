@@ -50,7 +50,7 @@ class Injection:
 
 
 class Ground(int):
-    """How many tables wide a ground value's bags are, and how many walks of bags their functions take for a row."""
+    """How many tables wide a ground value's bags are, and how many walks of bags their functions take where each table has one row."""
 
     def __new__(cls, width, walks=0):
         made = super().__new__(cls, width)
@@ -147,17 +147,19 @@ class Plan:
     def joined(self, node, left, right):
         if left + right > WIDTH_LIMIT:
             raise Refused(f"37 {node.span()} {left + right}")
-        return Ground(left + right, max(left.walks, right.walks))
+        if left.walks + right.walks >= WALK_LIMIT:
+            raise Refused("90")
+        return Ground(left + right, left.walks + right.walks)
 
     def over_bag(self, node, scope, depth, f, b):
         function = self.visit(f, scope, depth)
         bag = self.visit(b, scope, depth)
         before, self.walks = self.walks, 0
         behind = self.behind(node, bag, lambda: self.visit(*function.entered(Ground(0)), depth))
-        inside, self.walks = self.walks, before
-        if bag.walks + inside >= WALK_LIMIT:
+        inside, self.walks = bag.walks + bag * self.walks, before
+        if inside >= WALK_LIMIT:
             raise Refused("90")
-        behind.walks = bag.walks + inside
+        behind.walks = inside
         return behind
 
     def behind(self, node, bag, enter):

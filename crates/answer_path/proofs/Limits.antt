@@ -2,14 +2,15 @@
 use Rattle.std.proofs.Common.{◌≡◌, ℕ, zero, suc, codes, refl, pos}
 use Rattle.fz_frac.specs.Distance.{Fin}
 use Rattle.fz_frac.specs.Lowest.{gcd, gcd_in, is_out}
-use Rattle.fz_ast.specs.Terms.{AppE, ClipE, FunE, IfE, LeE, LetE, NumE, PairE, PlusE, SizeE, UnionE, Name, Term, VarE, at}
+use Rattle.fz_ast.specs.Terms.{AppE, ClipE, FunE, IfE, LeE, LetE, NumE, PairE, PlusE, SizeE, TimesE, UnionE, Name, Term, VarE, at}
 use Rattle.fz_ast.specs.Types.{NumT}
 use Rattle.metric_law.specs.Worked.{worked_tables}
 use Rattle.shape_law.specs.Walk.{depth_limit}
+use Rattle.shape_law.specs.Worked.{nested}
 use Rattle.wire_lines.specs.Refusal.{ill_typed, unbounded, no_number, too_deep, too_long, too_wide}
 use Rattle.wire_lines.specs.declared.refusal.TypeFault.TheVariants.{Unbound}
 use Rattle.answer_path.specs.Reading.{read}
-use Rattle.answer_path.specs.Judgement.{refused_for, accepted, judgement_of}
+use Rattle.answer_path.specs.Judgement.{TakesTooManyWalks, refused_for, accepted, judgement_of}
 use Rattle.answer_path.proofs.SizePeople.{span}
 
 abbrev name : Name → Term
@@ -89,3 +90,25 @@ just_wide = refl
 too_wide_is : judgement_of worked_tables (read (doublings 6 (codes "people") (at (span 0 9) (SizeE (at (span 6 8) (UnionE (name (codes "x")) (name (codes "people")))))))) ≡ refused_for (too_wide 6 8 65)
 unfolding judgement_of depth_limit gcd gcd_in is_out
 too_wide_is = refl
+
+-- 0 * size of the last of n maps, each of which sums the bag before for each row
+abbrev unweighed : ℕ → Term
+unweighed n = at (span 0 9) (TimesE (pos 0) (nested n))
+
+-- seven are accepted by the typing rules, and take too many walks
+seven_walk_too_much : TakesTooManyWalks worked_tables (unweighed 7)
+unfolding depth_limit gcd gcd_in is_out
+seven_walk_too_much = (_, _, _, refl, refl)
+
+six_do_not : TakesTooManyWalks worked_tables (unweighed 6) → ⊥
+unfolding depth_limit
+six_do_not walks = absurd (cc walks.4)
+
+six_are_accepted : judgement_of worked_tables (read (unweighed 6)) ≡ accepted (unweighed 6) (Fin 0 1)
+unfolding judgement_of depth_limit gcd gcd_in is_out
+six_are_accepted = refl
+
+-- without the 0 they are refused by the typing rules
+unbounded_walks : TakesTooManyWalks worked_tables (nested 7) → ⊥
+unfolding gcd gcd_in is_out
+unbounded_walks walks = absurd (cc walks.3)

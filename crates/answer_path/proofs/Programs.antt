@@ -17,7 +17,7 @@ use Rattle.metric_law.specs.Means.{Means}
 use Rattle.metric_law.proofs.Programs.{program_bound, program_value}
 use Rattle.metric_law.proofs.Unique.{same_value}
 use Rattle.answer_path.specs.Reading.{read, IsReading}
-use Rattle.shape_law.specs.Walk.{WalkOutcome, Shaped, Stops, shape}
+use Rattle.shape_law.specs.Walk.{WalkOutcome, Shaped, Stops, TooManyWalks, shape}
 use Rattle.answer_path.specs.Judgement.{accepted, judgement_of, judged_by, shaped_by, HasValue}
 use Rattle.answer_path.specs.Laws.{OneValue, AcceptedAreBounded, AcceptedHaveValues}
 use Rattle.answer_path.proofs.Readings.{one_reading}
@@ -43,6 +43,7 @@ accepted_is ts e t r h = go (sensitivity_of ts e) refl h
     shaped : (s : Distance) (o : WalkOutcome) → shaped_by e (lowest s) o ≡ accepted t r → (t ≡ e) × (r ≡ lowest s)
     shaped s (Shaped p k) h = (cc h, cc h)
     shaped s (Stops fault) h = absurd (cc h)
+    shaped s (TooManyWalks u) h = (cc h, cc h)
 
     go : (a : Acceptance) → sensitivity_of ts e ≡ a → judged_by ts e a ≡ accepted t r → (D : Sensitivities) × (s : Distance) × (sensitivity_of ts e ≡ Accepted D s) × (t ≡ e) × (r ≡ lowest s)
     go (Accepted D s) q k = let h = shaped s (shape ts e) k in (D, s, q, h.0, h.1)

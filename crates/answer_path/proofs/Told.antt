@@ -4,6 +4,8 @@ use Rattle.std.specs.Prelude.{IsTrue}
 use Rattle.std.proofs.lemmas.Option.{slice_get_within, same_Some}
 use Rattle.partition_charge.specs.declared.view.View.{View}
 use Rattle.partition_charge.specs.declared.view.View.TheVariants.{Whole, Part}
+use Rattle.fz_frac.specs.Distance.{Distance}
+use Rattle.fz_frac.specs.Lowest.{lowest}
 use Rattle.fz_frac.specs.Sens.{distance_of}
 use Rattle.fz_ast.specs.Signature.{Signature, TableType}
 use Rattle.fz_ast.specs.Terms.{Term}
@@ -30,9 +32,11 @@ use Rattle.shape_run.specs.declared.plan.ShapeFault.TheVariants.{TooDeep, TooLon
 use Rattle.shape_run.specs.Plans.{IsPlanOf, IsStopOf}
 use Rattle.wire_lines.specs.Refusal.{Refusal, by_line, by_program, by_money, by_disk, by_number, no_memory}
 use Rattle.answer_path.specs.Reading.{unlexed, stuck, nested, read, IsReading}
-use Rattle.answer_path.specs.Judgement.{accepted, judgement_of, judged_by, shaped_by, fault_refusal}
+use Rattle.answer_path.specs.Judgement.{TakesTooManyWalks, accepted, judgement_of, judged_by, refused_for, shaped_by, fault_refusal}
 use Rattle.owner_house.specs.Names.{AreNames}
 use Rattle.answer_path.specs.Code.{IsProgramRefusal, IsTermRefusal, lex_refusal, parse_refusal, limit_refusal, HasTable, TellsFault}
+use Rattle.answer_path.proofs.Readings.{one_reading}
+use Rattle.answer_path.proofs.Programs.{same_term}
 
 -- a table's name can be said in a reply
 pub named : (ts : Signature) (i : ℕ) (t : TableType) → AreNames ts → slice_get ts i ≡ Some t → IsTrue (is_name t.name)
@@ -128,3 +132,28 @@ term_refused ts w e (by_line refusal) h k = absurd k
 term_refused ts w e (by_money refusal) h k = absurd k
 term_refused ts w e (by_disk refusal) h k = absurd k
 term_refused ts w e (by_number refusal) h k = absurd k
+
+-- too many walks
+
+walks_accepted : (ts : Signature) (e : Term) → TakesTooManyWalks ts e → (r : Distance) × (judgement_of ts (read e) ≡ accepted e r)
+unfolding judgement_of
+walks_accepted ts e (D, r, s, typed, walks) = (lowest r, ap (judged_by ts e) typed ∙ ap (shaped_by e (lowest r)) walks)
+
+-- a program that takes too many walks can only be refused for want of memory
+pub walks_refused : (ts : Signature) (w : List ℕ) (e : Term) (refusal : Refusal) → IsReading w (read e) → TakesTooManyWalks ts e → IsProgramRefusal ts w refusal → refusal ≡ no_memory
+walks_refused ts w e (by_program refusal) reads walks (reading, reads', is) =
+    let a = walks_accepted ts e walks in
+    let both : accepted e a.0 ≡ refused_for refusal = sym a.1 ∙ ap (judgement_of ts) (one_reading w (read e) reading reads reads') ∙ is in
+    absurd (cc both)
+walks_refused ts w e no_memory reads walks h = refl
+walks_refused ts w e (by_line refusal) reads walks h = absurd h
+walks_refused ts w e (by_money refusal) reads walks h = absurd h
+walks_refused ts w e (by_disk refusal) reads walks h = absurd h
+walks_refused ts w e (by_number refusal) reads walks h = absurd h
+
+-- and has no plan
+pub walks_unplanned : (ts : Signature) (w : List ℕ) (e d : Term) (plan : Plan) → IsReading w (read e) → IsReading w (read d) → TakesTooManyWalks ts e → IsPlanOf ts d plan → ⊥
+walks_unplanned ts w e d plan reads reads' walks planned =
+    let same = same_term w e d reads reads' in
+    let stops = sym (ap (shape ts) same) ∙ walks.4 in
+    cc (stops, planned.1)

@@ -25,7 +25,7 @@ use Rattle.shape_run.specs.declared.plan.ShapeFault.TheVariants.{TooDeep, TooLon
 use Rattle.shape_run.specs.Plans.{IsPlanOf}
 use Rattle.wire_lines.specs.Refusal.{ProgramRefusal, no_token, no_term, too_nested, too_deep, too_long, too_wide, Refusal, by_program, no_memory}
 use Rattle.answer_path.specs.Reading.{Reading, read, IsReading}
-use Rattle.answer_path.specs.Judgement.{refused_for, accepted, judgement_of, fault_refusal}
+use Rattle.answer_path.specs.Judgement.{refused_for, accepted, judgement_of, fault_refusal, TakesTooManyWalks}
 use Rattle.answer_path.specs.Query.{Query}
 use Rattle.answer_path.specs.Demand.{Demand, asks, recalls, balances}
 use Rattle.answer_path.specs.declared.program.Accepted.{Accepted}
@@ -124,6 +124,13 @@ abbrev pub IsDemandOf : Entry → Demand → Type 0
 IsDemandOf entry (asks query) = IsQueryOf entry query
 IsDemandOf entry (recalls analyst number) = ⊤
 IsDemandOf entry balances = ⊤
+
+-- what is asked is a program that takes too many walks over the tables of its view
+abbrev pub AsksTooManyWalks : Holding → Demand → Type 0
+AsksTooManyWalks holding (asks query) =
+    (e : Term) × IsReading query.program (read e) × TakesTooManyWalks (signature_in holding.tables holding.partitions query.view) e
+AsksTooManyWalks holding (recalls analyst number) = ⊥
+AsksTooManyWalks holding balances = ⊥
 
 -- a query's view is the whole, or a key of one of these partitions
 abbrev pub HasPartFor : List PartitionEntry → Demand → Type 0

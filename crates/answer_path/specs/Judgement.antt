@@ -1,15 +1,17 @@
 -- What a program comes to over tables: it is refused, or is accepted with a sensitivity.
-use Rattle.std.specs.Prelude.{ℕ, ℤ, List}
+use Rattle.std.specs.Prelude.{◌≡◌, ℕ, ℤ, List}
 use Rattle.fz_frac.specs.Distance.{Distance}
 use Rattle.fz_frac.specs.Lowest.{lowest}
 use Rattle.fz_ast.specs.Signature.{Signature}
+use Rattle.fz_ast.specs.declared.span.Span.{Span}
 use Rattle.fz_ast.specs.Terms.{Term}
 use Rattle.linear_types.specs.Program.{Acceptance, Accepted, Faulty, sensitivity_of}
+use Rattle.linear_types.specs.Sensitivities.{Sensitivities}
 use Rattle.linear_types.specs.Inferred.{Fault, Unbound, Mismatch, NotGround, NotFlat, TooSensitive, Range, Unbounded, NotNum}
 use Rattle.metric_values.specs.Tables.{Dataset, rows_of}
 use Rattle.metric_values.specs.Values.{NumV}
 use Rattle.metric_law.specs.Means.{Means}
-use Rattle.shape_law.specs.Walk.{WalkOutcome, Shaped, Stops, ShapeFault, TooDeep, TooLong, TooWide, shape}
+use Rattle.shape_law.specs.Walk.{WalkOutcome, Shaped, Stops, TooManyWalks, ShapeFault, TooDeep, TooLong, TooWide, shape}
 use Rattle.wire_lines.specs.Refusal.{ProgramRefusal, no_token, no_term, too_nested, ill_typed, too_sensitive, out_of_range, unbounded, no_number}
 use Rattle.wire_lines.specs.Refusal.{too_deep, too_long, too_wide}
 use Rattle.wire_lines.specs.declared.refusal.TypeFault.TheVariants.{Unbound as unbound, Mismatch as mismatch, NotGround as notground, NotFlat as notflat}
@@ -37,10 +39,16 @@ shape_refusal (TooDeep s) = too_deep s.from s.to
 shape_refusal (TooLong s) = too_long s.from s.to
 shape_refusal (TooWide s width) = too_wide s.from s.to width
 
--- An accepted term is run without data, within the limits.
+-- An accepted term is run without data, within the limits. Too many walks are no refusal of the program: memory is said to have run
+-- out, which may be said of any program, and it must be said of this one (`AsksTooManyWalks`).
 abbrev pub shaped_by : Term → Distance → WalkOutcome → Judgement
 shaped_by e r (Shaped s k) = accepted e r
 shaped_by e r (Stops fault) = refused_for (shape_refusal fault)
+shaped_by e r (TooManyWalks s) = accepted e r
+
+-- the typing rules accept the term, and the functions of one of its bags take too many walks for a row
+abbrev pub TakesTooManyWalks : Signature → Term → Type 0
+TakesTooManyWalks ts e = (D : Sensitivities) × (r : Distance) × (s : Span) × (sensitivity_of ts e ≡ Accepted D r) × (shape ts e ≡ TooManyWalks s)
 
 abbrev pub judged_by : Signature → Term → Acceptance → Judgement
 judged_by ts e (Accepted D r) = shaped_by e (lowest r) (shape ts e)

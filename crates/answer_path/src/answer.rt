@@ -8,8 +8,8 @@ ghost use Rattle.fz_ast.specs.Limits.{IsNumber};
 ghost use Rattle.fz_frac.specs.Distance.{Fin};
 ghost use Rattle.fz_frac.specs.Sens.{distance_of};
 ghost use Rattle.linear_types.specs.Program.{is_endless};
-ghost use Rattle.wire_lines.specs.Refusal.{refusal_at};
-ghost use Rattle.wire_lines.specs.Reply.{replied};
+ghost use Rattle.wire_lines.specs.Refusal.{no_memory, refusal_at};
+ghost use Rattle.wire_lines.specs.Reply.{refused, replied};
 ghost use Rattle.part_views.specs.Partitions.{HasPart};
 ghost use Rattle.owner_house.specs.Owner.{Owner, IsOwnerOf};
 ghost use Rattle.owner_desk.specs.Answers.{HasGranted, HasSettled};
@@ -22,9 +22,11 @@ ghost use Rattle.answer_path.specs.Shut.{FailsBy, IsGrantPending, disk_word, shu
 ghost use Rattle.owner_house.specs.Names.{AreNames};
 ghost use Rattle.answer_path.specs.Reading.{read, IsReading};
 ghost use Rattle.answer_path.specs.Turn.{IsTurn, book_refusal, disk_refusal, settled_reply};
-ghost use Rattle.answer_path.specs.Code.{IsJudgedIn, IsQueryOf, IsWorth, query_of};
+ghost use Rattle.answer_path.specs.Code.{AsksTooManyWalks, IsJudgedIn, IsQueryOf, IsWorth, query_of};
+ghost use Rattle.answer_path.specs.Demand.{asks};
 
-use crate::program::{Judged, judge, read_program};
+use crate::last_program::LastProgram;
+use crate::program::{Judged, judge};
 use crate::query::Query;
 use budget_core::entry::{Ask, Grant, ReserveFault};
 use budget_ledger::book::{AppendFault, BookFault};
@@ -37,7 +39,6 @@ use outside_disks::disk::Disk;
 use owner_desk::{Desk, Pass};
 use part_views::Dataset;
 use partition_charge::view::View;
-use sha2::{Digest, Sha256};
 use std::alloc::Global;
 use std::sync::Wait;
 use wire_lines::{DiskRefusal, MoneyRefusal, NumberRefusal, Refusal, Reply};
@@ -185,15 +186,9 @@ fn reply_of<'a>(grant: Grant, outcome: Outcome) -> Reply<'a>
     }
 }
 
-/// The SHA-256 of a program's bytes.
-fn digest_of(program: &[u8]) -> [u8; 32]
-    ensures { result ≡ sha256 program.now }
-{
-    Sha256::digest(program)
-}
-
-/// What a query asks of the budget.
-fn asking_of(query: &Query<'_>, sens: Frac) -> Ask
+/// What a query asks of the budget, by the SHA-256 of its program.
+fn asking_of(query: &Query<'_>, digest: [u8; 32], sens: Frac) -> Ask
+    requires { digest ≡ sha256 query.now.program.now }
     ensures asking { result ≡ ask_for (query_of query.now) sens.p sens.q }
     ensures digest { IsByteList 32 result.digest }
 {
@@ -203,7 +198,7 @@ fn asking_of(query: &Query<'_>, sens: Frac) -> Ask
         e: query.epsilon,
         p: sens.p,
         q: sens.q,
-        digest: digest_of(query.program),
+        digest,
     }
 }
 
@@ -227,14 +222,15 @@ fn settle<'a, R: Wait, D: Disk>(
     }
 }
 
-/// Answers a query whose program is judged: the budget is asked, the noise is drawn, the program is run, and the reservation
-/// is settled.
+/// Answers a query whose program, of this SHA-256, is judged: the budget is asked, the noise is drawn, the program is run, and the
+/// reservation is settled.
 fn answer_judged<'a, R: Wait, D: Disk, S: Streams>(
     rt: &R,
     alloc: Global,
     desk: &Desk<D>,
     pass: &mut Pass<D>,
     judged: &Judged<'_>,
+    digest: [u8; 32],
     dataset: &Dataset,
     streams: &S,
     owner: u32,
@@ -245,13 +241,14 @@ fn answer_judged<'a, R: Wait, D: Disk, S: Streams>(
     requires part { HasPart dataset.now.partitions query.now.view }
     requires reads { IsReading query.now.program.now (read (judged.now.checked.term.now)) }
     requires judged { IsJudgedIn dataset.now query.now.view judged.now }
+    requires digest { digest ≡ sha256 query.now.program.now }
     ensures turn { (whose : Owner) → IsOwnerOf pass.old.knows.opened.ledger.entry dataset.now whose
         → IsTurn whose (S.given streams.now owner) (query_of query.now) pass.old.knows (replied result) pass.new.knows }
     ensures asked { IsUnasked (replied result) → ⊥ }
     ensures kept { IsKept pass.old pass.new }
     ensures fits { HasSmallAnswer (replied result) }
 {
-    let asking = asking_of(query, fraction_of(judged.checked.sens));
+    let asking = asking_of(query, digest, fraction_of(judged.checked.sens));
     match desk.reserve(rt, pass, &asking) {
         Err(fault) => Reply::Refused(book_refusal_of(fault)),
         Ok(grant) => {
@@ -261,14 +258,15 @@ fn answer_judged<'a, R: Wait, D: Disk, S: Streams>(
     }
 }
 
-/// Answers a query of the owner of this number: the program is read and judged over the tables of the query's view, the budget
-/// is asked, the noise is drawn, the program is run on the view's rows, and the reservation is settled. Want of memory is said
-/// before a reservation, and an answer is lost after it.
+/// Answers a query of the owner of this number: the program is read, unless it is the last one, and judged over the tables of the
+/// query's view, the budget is asked, the noise is drawn, the program is run on the view's rows, and the reservation is settled.
+/// Want of memory is said before a reservation, and an answer is lost after it.
 pub fn ask<'d, R: Wait, D: Disk, S: Streams>(
     rt: &R,
     alloc: Global,
     desk: &Desk<D>,
     pass: &mut Pass<D>,
+    last: &mut LastProgram,
     dataset: &'d Dataset,
     streams: &S,
     owner: u32,
@@ -295,17 +293,28 @@ pub fn ask<'d, R: Wait, D: Disk, S: Streams>(
         pass.new.knows.seen pass.new.knows.failure }
     // A line that is refused before the budget is asked leaves the pass as it was.
     ensures same { IsUnasked (replied result) → pass.new ≡ pass.old }
+    // A program that takes too many walks is told that memory ran out, whatever the rows are.
+    ensures walks { AsksTooManyWalks dataset.now (asks (query_of query.now)) → replied result ≡ refused no_memory }
     ensures kept { IsKept pass.old pass.new }
     // An answer is within 2^50 + 2^33 in absolute value.
     ensures fits { HasSmallAnswer (replied result) }
 {
-    let term = match read_program(alloc, query.program) {
-        Ok(term) => term,
+    let program = match last.recall_or_read(alloc, query.program) {
+        Ok(program) => program,
         Err(refusal) => return Reply::Refused(refusal),
     };
-    match judge(alloc, dataset.sig(query.view), &term) {
+    match judge(alloc, dataset.sig(query.view), program.term()) {
         Ok(judged) => answer_judged(
-            rt, alloc, desk, pass, &judged, dataset, streams, owner, query,
+            rt,
+            alloc,
+            desk,
+            pass,
+            &judged,
+            program.digest(),
+            dataset,
+            streams,
+            owner,
+            query,
         ),
         Err(refusal) => Reply::Refused(refusal),
     }

@@ -3,6 +3,7 @@
 
 mod answer;
 pub mod demand;
+pub mod last_program;
 mod laws;
 mod meeting;
 pub mod program;
@@ -12,6 +13,7 @@ mod standing;
 
 pub use answer::ask;
 pub use demand::Demand;
+pub use last_program::{LastProgram, Program};
 pub use laws::{
     accepted_programs_have_values, lone_asks_are_answered, lone_demands_are_met,
     lost_answers_are_charged, programs_are_bounded, programs_are_read_in_one_way,

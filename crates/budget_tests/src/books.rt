@@ -23,7 +23,8 @@ const LIMITS: Limits = Limits {
     written: 65_536,
 };
 
-fn header_in(version: u8, capacity: u32) -> Header
+/// The header of a journal of this version for so many records.
+pub fn header_in(version: u8, capacity: u32) -> Header
     requires version { (2 ≤ version) × (version ≤ 3) }
     ensures valid { IsHeader result }
     ensures budget { result.budget ≡ 10000000 }

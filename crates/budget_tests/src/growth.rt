@@ -19,7 +19,8 @@ const LIMITS: Limits = Limits {
     written: 65_536,
 };
 
-fn header_of(digest: u8) -> Header
+/// The header of a journal for 100 records, under this catalog's digest.
+pub fn header_of(digest: u8) -> Header
     ensures valid { IsHeader result }
     ensures capacity { result.capacity ≡ 100 }
     ensures version { result.version ≡ 2 }
@@ -56,7 +57,7 @@ fn settlement(number: u32) -> Record
 }
 
 /// What an opening answers: how many records, or why none.
-fn opened<D: Disk + Drop>(alloc: Global, disk: D, header: &Header) -> Result<usize, OpenFault> {
+pub fn opened<D: Disk + Drop>(alloc: Global, disk: D, header: &Header) -> Result<usize, OpenFault> {
     match Journal::open(alloc, disk, header) {
         Ok((_journal, records)) => Ok(records.len()),
         Err((_disk, fault)) => Err(fault),
@@ -84,7 +85,7 @@ fn append_to<D: Disk>(
 }
 
 /// Opens the journal and appends a settlement.
-fn append_one<D: Disk>(alloc: Global, disk: D, number: u32) -> (D, Result<(), DiskFault>) {
+pub fn append_one<D: Disk>(alloc: Global, disk: D, number: u32) -> (D, Result<(), DiskFault>) {
     append_to(alloc, disk, &header_of(1), number)
 }
 

@@ -1,13 +1,10 @@
 //! Refusals of a journal, and a fault at each disk call of an append.
 
-ghost use Rattle.std.specs.Prelude.{◌≡◌};
-ghost use Rattle.journal_records.specs.Encoding.{IsHeader, IsValid};
-
+use crate::growth::{append_one, header_of, opened};
 use budget_journal::journal::{DiskFault, Journal};
 use budget_journal::making::InitFault;
 use budget_journal::opening::OpenFault;
-use journal_records::records::{Header, Outcome, Record, Settlement};
-use outside_disks::disk::Disk;
+use journal_records::records::Header;
 use outside_disks::failing::BlipDisk;
 use outside_disks::memory::{Limits, MemDisk};
 use std::alloc::Global;
@@ -17,53 +14,6 @@ const LIMITS: Limits = Limits {
     calls: 4096,
     written: 16_384,
 };
-
-fn header_of(digest: u8) -> Header
-    ensures valid { IsHeader result }
-    ensures capacity { result.capacity ≡ 100 }
-    ensures version { result.version ≡ 2 }
-{
-    Header {
-        owner: 0,
-        budget: 10_000_000,
-        capacity: 100,
-        digest: [digest; 32],
-        version: 2,
-    }
-}
-
-fn settlement(number: u32) -> Record
-    ensures { IsValid result }
-{
-    Record::Settle(Settlement {
-        number,
-        outcome: Outcome::Exhausted,
-        returned: 0,
-    })
-}
-
-/// What an opening answers: how many records, or why none.
-fn opened<D: Disk + Drop>(alloc: Global, disk: D, header: &Header) -> Result<usize, OpenFault> {
-    match Journal::open(alloc, disk, header) {
-        Ok((_journal, records)) => Ok(records.len()),
-        Err((_disk, fault)) => Err(fault),
-    }
-}
-
-/// Opens the journal and appends a settlement.
-fn append_one<D: Disk>(alloc: Global, disk: D, number: u32) -> (D, Result<(), DiskFault>) {
-    match Journal::open(alloc, disk, &header_of(1)) {
-        Ok((mut journal, records)) => {
-            let answer = if records.len() < 100 {
-                journal.append(&settlement(number))
-            } else {
-                Err(DiskFault)
-            };
-            (journal.into_disk(), answer)
-        }
-        Err((disk, _)) => (disk, Err(DiskFault)),
-    }
-}
 
 /// A disk with a new journal.
 fn made(alloc: Global) -> Option<MemDisk<'static>> {

@@ -1,10 +1,12 @@
-//! Tests of charges, records, ledgers, books, and journals on disks in memory.
+//! Tests of ledgers, books, and journals on disks in memory, and of what several threads share.
 #![tactic(auto)]
 
 #[cfg(test)]
 mod books;
 #[cfg(test)]
-mod charges;
+mod clerks;
+#[cfg(test)]
+mod desks;
 #[cfg(test)]
 mod growth;
 #[cfg(test)]
@@ -12,4 +14,6 @@ mod journals;
 #[cfg(test)]
 mod ledgers;
 #[cfg(test)]
-mod records;
+mod locks;
+#[cfg(test)]
+mod sheets;

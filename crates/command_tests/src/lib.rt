@@ -1,5 +1,5 @@
-//! Tests of commands, by the top call over files, disks, source and sink in memory: scripts, commands one after another on the same
-//! disks, files that a stop may have left, and disks that fail.
+//! Tests of commands, by the top call over files, disks, source and sink in memory: commands one after another on the same disks,
+//! files that a stop may have left, and disks that stop or fail at each call.
 #![tactic(auto)]
 
 #[cfg(test)]
@@ -7,18 +7,14 @@ mod commands;
 #[cfg(test)]
 mod failing;
 #[cfg(test)]
+mod found;
+#[cfg(test)]
 mod grants;
 #[cfg(test)]
 mod histories;
 #[cfg(test)]
 mod kept;
 #[cfg(test)]
-mod parts;
+mod owners;
 #[cfg(test)]
-mod plain;
-#[cfg(test)]
-mod rows;
-#[cfg(test)]
-mod scripts;
-#[cfg(test)]
-mod worked;
+mod stops;

@@ -1,8 +1,12 @@
-//! Tests of tables in memory and from CSV, of bags, of distances, and of request and reply lines.
+//! Tests of tables, catalogs, parts, bags, distances, lines and replies, charges and records.
 #![tactic(auto)]
 
 #[cfg(test)]
 mod bags;
+#[cfg(test)]
+mod catalogs;
+#[cfg(test)]
+mod charges;
 #[cfg(test)]
 mod columns;
 #[cfg(test)]
@@ -13,3 +17,5 @@ mod distances;
 mod lines_and_replies;
 #[cfg(test)]
 mod parts;
+#[cfg(test)]
+mod records;

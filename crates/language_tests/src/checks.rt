@@ -50,7 +50,7 @@ fn verdict_of(alloc: Global, sig: &Sig, program: &[u8]) -> Verdict {
 
 // In the last of them the innermost type has 2^58 leaves as a tree.
 #[rattlefmt::skip]
-const VERDICTS: [(&[Piece], Verdict); 12] = [
+static VERDICTS: [(&[Piece], Verdict); 12] = [
     (&[("people", 1)], Verdict::NotNum),
     (&[("size people", 1)], Verdict::Sensitive(1)),
     (&[("size people + size people", 1)], Verdict::Sensitive(2)),
@@ -78,7 +78,7 @@ fn worked_verdicts(rt: HostRuntime) -> Result<(), Fail> {
 
 // Of several names that are bound nowhere the one that stands first is told.
 #[rattlefmt::skip]
-const UNBOUND: [(&[u8], Verdict); 12] = [
+static UNBOUND: [(&[u8], Verdict); 12] = [
     (b"y z", Verdict::Unbound(0, 1)),
     (b"(y, z)", Verdict::Unbound(1, 2)),
     (b"<y, z>", Verdict::Unbound(1, 2)),

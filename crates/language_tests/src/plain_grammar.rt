@@ -8,7 +8,7 @@ use std::alloc::{AllocError, Global};
 
 // The token of each byte.
 #[rattlefmt::skip]
-const TOKENS: [(u8, &str); 39] = [
+static TOKENS: [(u8, &str); 39] = [
     (b'x', "x"), (b'1', "1"), (b'q', "\"\""), (b'(', "("), (b')', ")"), (b'<', "<"),
     (b'>', ">"), (b'[', "["), (b']', "]"), (b',', ","), (b':', ":"), (b'=', "="), (b'!', "!"),
     (b'|', "|"), (b'+', "+"), (b'-', "-"), (b'*', "*"), (b'&', "&"), (b'/', "/"), (b'g', "=>"),
@@ -20,7 +20,7 @@ const TOKENS: [(u8, &str); 39] = [
 
 // T term, C cmp, A add, M mul, P app, X atoms, O op1, Z atom, N int, S sens, Y type, U plus, R prod, W pre.
 #[rattlefmt::skip]
-const RULES: [(u8, &[u8]); 51] = [
+static RULES: [(u8, &[u8]); 51] = [
     (b'T', b"f(x:Y)gT"), (b'T', b"t!x=TiT"), (b'T', b"t(x,x)=TiT"), (b'T', b"tx=TiT"),
     (b'T', b"cTvaxgT|bxgT"), (b'T', b"dThTjT"), (b'T', b"C"),
     (b'C', b"A"), (b'C', b"AlA"), (b'C', b"AeA"),

@@ -47,7 +47,7 @@ const H: Piece = ("f x in let h = fun (x : num) => ", 1);
 const NINE: Piece = ("let f = fun (x : num) => f (f x) in ", 9);
 
 #[rattlefmt::skip]
-const PLANS: [(&[Piece], Verdict); 15] = [
+static PLANS: [(&[Piece], Verdict); 15] = [
     (&[("size people", 1)], Verdict::Plan(2, 2, 1)),
     (&[("if size people <= 3 then 0 else size people", 1)], Verdict::Plan(8, 4, 1)),
     (&[("case inl[num] people of inl x => size x | inr y => size (union people y)", 1)], Verdict::Plan(9, 4, 2)),
@@ -109,6 +109,12 @@ const WALKED: Piece = (
 // The same of the bag before, which is used twice.
 const AGAIN: Piece = ("let a = map (fn (x : num) => x + sum[0,1] a) a in ", 1);
 
+// The same of the bag before, which is in a union with itself.
+const UNITED: Piece = (
+    "let a = map (fn (x : num) => x + sum[0,1] (union a a)) a in ",
+    1,
+);
+
 // A bag whose function walks another for each row, and three bags 16 deep, one within the other, by such functions.
 const WITHIN: Piece = (
     "let f = fn (b : bag num) => map (fn (x : num) => x + sum[0,1] b) people in ",
@@ -129,7 +135,7 @@ const MANY: Piece = (
 );
 
 #[rattlefmt::skip]
-const WALKS: [(&[Piece], WalkVerdict); 15] = [
+static WALKS: [(&[Piece], WalkVerdict); 21] = [
     (&[("size people", 1)], WalkVerdict::Takes(1)),
     (&[("size people + sum[0,9] people", 1)], WalkVerdict::Takes(2)),
     (&[("if size people <= 3 then 0 else size people", 1)], WalkVerdict::Takes(2)),
@@ -140,6 +146,14 @@ const WALKS: [(&[Piece], WalkVerdict); 15] = [
     (&[WALKED, ("size a + size a", 1)], WalkVerdict::Takes(4)),
     (&[WALKED, ("size (union people a)", 1)], WalkVerdict::Takes(2)),
     (&[WALKED, AGAIN, ("size a", 1)], WalkVerdict::Takes(4)),
+    // a union has the rows of both, and a function is run for those of each of a bag's tables
+    (&[WALKED, ("size (union a a)", 1)], WalkVerdict::Takes(3)),
+    (&[("size (map (fn (x : num) => x + size people) (union people people))", 1)], WalkVerdict::Takes(3)),
+    (&[WALKED, UNITED, UNITED, UNITED, ("size a", 1)], WalkVerdict::Takes(41)),
+    (&[WALKED, UNITED, UNITED, UNITED, UNITED, ("size a", 1)], WalkVerdict::NoMemory),
+    // of both 63, and of one 63 twice
+    (&[WALKED, ("let a = map (fn (x : num) => x + sum[0,1] a) a in ", 5), ("size (union people a)", 1)], WalkVerdict::Takes(64)),
+    (&[WALKED, ("let a = map (fn (x : num) => x + sum[0,1] a) a in ", 5), ("size (union a a)", 1)], WalkVerdict::NoMemory),
     // nothing but walks within one another, 64 deep and 65 deep
     (&[WITHIN, ("let f = fn (b : bag num) => f (![inf] (f (![inf] b))) in ", 4), DEEP, (ONE_DEEPER, 15), ("sum[0,1] a", 1)], WalkVerdict::Takes(64)),
     (&[WITHIN, ("let f = fn (b : bag num) => f (![inf] (f (![inf] b))) in ", 4), DEEP, (ONE_DEEPER, 16), ("sum[0,1] a", 1)], WalkVerdict::NoMemory),

@@ -9,7 +9,7 @@ use std::test::Fail;
 
 // Each production, with its tree: a form, its span and its parts. Then where tokens are stuck, and the greatest bang number.
 #[rattlefmt::skip]
-const READINGS: [(&str, &str); 70] = [
+static READINGS: [(&str, &str); 70] = [
     ("x", "x[0-1]"), ("\"ab\"", "\"ab\"[0-4]"), ("()", "()[0-2]"), ("1", "1[0-1]"),
     ("-3", "-3[0-2]"), ("(x)", "x[1-2]"), ("(x, 1)", "Pair[0-6](x[1-2], 1[4-5])"),
     ("<x, 1>", "With[0-6](x[1-2], 1[4-5])"), ("true", "Inl[0-4](unit[0-4], ()[0-4])"),
@@ -229,7 +229,7 @@ fn productions(rt: HostRuntime) -> Result<(), Fail> {
 
 // A tree is wanted by how it begins, and another outcome whole.
 #[rattlefmt::skip]
-const DEEP_PROGRAMS: [(&[Piece], &str); 11] = [
+static DEEP_PROGRAMS: [(&[Piece], &str); 11] = [
     (&[("(", 4096)], "stuck 4096"),
     (&[("(", 2047), ("1", 1), (")", 2047)], "1[2047-2048]"),
     (&[("(", 2048), (")", 2048)], "()[2047-2049]"),

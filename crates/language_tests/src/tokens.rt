@@ -38,7 +38,7 @@ fn kind_text(alloc: Global, kind: &Kind) -> Result<String, AllocError> {
 
 // Programs, with their tokens and spans or their fault.
 #[rattlefmt::skip]
-const PROGRAMS: [(&[u8], &str); 30] = [
+static PROGRAMS: [(&[u8], &str); 30] = [
     (b"", ""),
     (b" \t\r\n", ""),
     (b"size people", "Size@0-4 name people@5-11 "),
@@ -135,7 +135,7 @@ fn longest_tokens(rt: HostRuntime) -> Result<(), Fail> {
 
 // A plain reader by the grammar's words: each length is tried.
 
-const SIGNS: [&[u8]; 21] = [
+static SIGNS: [&[u8]; 21] = [
     b"(", b")", b"<", b">", b"[", b"]", b",", b":", b"=", b"!", b"|", b"+", b"-", b"*", b"&", b"/",
     b"=>", b"->", b"-o", b"<=", b"==",
 ];

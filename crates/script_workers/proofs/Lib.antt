@@ -1,6 +1,7 @@
 pub mod Blocks
 pub mod Kept
 pub mod Served
+pub mod Needing
 pub mod Ordered
 pub mod Dealt
 pub mod Shares

@@ -1,5 +1,5 @@
 -- Workers: what they are hired with, and what they have done.
-use Rattle.std.specs.Prelude.{◌≡◌, ℕ, zero, suc, ◌+◌, ◌*◌, ◌≤◌, List, [], ◌∷◌, length, map, sum_by, get_or, None, ⊤, vec_capacity}
+use Rattle.std.specs.Prelude.{◌≡◌, ℕ, zero, suc, ◌+◌, ◌-◌, ◌*◌, ◌^◌, ◌≤◌, List, [], ◌∷◌, length, map, min, sum_by, get_or, None, ⊤, vec_capacity}
 use Rattle.std.specs.List.{AllByRecursion, flat_map}
 use mathlib.Core.List.{IsPrefix}
 use Rattle.budget_ledger.specs.declared.failure.Failure.{Failure}
@@ -14,11 +14,17 @@ use Rattle.session_core.specs.Blocks.{own_blocks, script_blocks}
 use Rattle.session_core.specs.Bundles.{Bundle, handed_on}
 use Rattle.session_core.specs.Code.{AreServed, room_for_lines}
 use Rattle.script_workers.specs.Texts.{KeepsTexts}
+use Rattle.script_workers.specs.declared.needs.Needs.{Needs}
 use Rattle.script_workers.specs.declared.texts.Texts.{Texts}
 
 -- room for the replies to a worker's blocks, where the first one is block k
 abbrev pub own_room : (count i k : ℕ) → List (List (List ℕ)) → ℕ
 own_room count i k blocks = sum_by room_for_lines (own_blocks count i k blocks)
+
+-- What a worker's blocks ask for: room for their replies, as much as a size can say, and how many blocks there are.
+pub record AreNeeds (count i : ℕ) (script : List ℕ) (needs : Needs) : Type 0 where
+  pub room : needs.room ≡ min (2 ^ 64 - 1) (own_room count i 0 (script_blocks script))
+  pub blocks : needs.blocks ≡ length (own_blocks count i 0 (script_blocks script))
 
 -- the replies to some lines, one behind another
 abbrev pub replies_text : List Exchange → List ℕ

@@ -5,6 +5,7 @@ ghost use Rattle.owner_house.specs.House.{house_of};
 ghost use Rattle.session_core.specs.Code.{ArePasses, pass_at};
 ghost use Rattle.script_workers.specs.Crews.{HasDone, HasRoomFor, HasTakenAll, IsHired, needed};
 
+use crate::needs::needs_of_all;
 use crate::worker::{Worker, hire, serve};
 use answer_path::Desk;
 use fz_outside::words::Streams;
@@ -31,6 +32,7 @@ pub(crate) fn hire_all<D: Disk>(
 ) -> Result<(), AllocError>
     requires here { passes.old.locks ≡ desks.now }
     requires shares { All (λ s. needed count ≤ s) passes.old.shares }
+    requires few { (0 < count) × (count ≤ 16) }
     requires room { (crew.old.items ≡ []) × (count ≤ vec_capacity crew.old) }
     ensures len { OnOk result (length crew.new.items ≡ count) }
     ensures hired { (i : ℕ) (d : _) → i < length crew.new.items →
@@ -40,8 +42,9 @@ pub(crate) fn hire_all<D: Disk>(
     ensures shares { (o : ℕ) →
         get_or passes.new.shares o 0 + sum_by (λ w. get_or w.passes.shares o 0) crew.new.items ≡ get_or passes.old.shares o 0 }
 {
+    let needs = needs_of_all(script, count);
     for index in 0..count {
-        crew.push_reserved(hire(alloc, desks, passes, script, count, index)?);
+        crew.push_reserved(hire(alloc, desks, passes, needs[index])?);
     }
     Ok(())
 }

@@ -4,6 +4,7 @@
 
 mod answer;
 mod crew;
+mod needs;
 mod order;
 mod texts;
 mod worker;

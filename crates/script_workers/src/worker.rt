@@ -1,16 +1,17 @@
 //! One worker, and what it does.
 
-ghost use Rattle.std.specs.Prelude.{◌≡◌, ◌+◌, ◌++◌, ◌<◌, ◌≤◌, ◌-◌, ◌^◌, [], ◌∷◌, List, ℕ, length, map, min, All, IfErr, IfOk, None, vec_capacity};
+ghost use Rattle.std.specs.Prelude.{◌≡◌, ◌+◌, ◌++◌, ◌<◌, ◌≤◌, [], ◌∷◌, List, ℕ, length, map, All, IfErr, IfOk, None, vec_capacity};
 ghost use Rattle.wire_lines.specs.Lines.{lines_of};
 ghost use Rattle.owner_house.specs.House.{house_of};
 ghost use Rattle.session_core.specs.Turns.{session_turns};
 ghost use Rattle.session_core.specs.Exchanges.{Exchange};
-ghost use Rattle.session_core.specs.Blocks.{behind_block, first_block, own_blocks, script_blocks};
+ghost use Rattle.session_core.specs.Blocks.{behind_block, first_block};
 ghost use Rattle.session_core.specs.Bundles.{given_halves, kept_halves};
 ghost use Rattle.session_core.specs.Code.{ArePasses, AreServed, room_for_lines};
 ghost use Rattle.script_workers.specs.Texts.{KeepsTexts};
-ghost use Rattle.script_workers.specs.Crews.{HasDone, HasRoomFor, IsHired, own_room, replies_text};
+ghost use Rattle.script_workers.specs.Crews.{AreNeeds, HasDone, HasRoomFor, IsHired, replies_text};
 
+use crate::needs::Needs;
 use crate::texts::Texts;
 use answer_path::Desk;
 use fz_outside::words::Streams;
@@ -31,54 +32,21 @@ pub(crate) struct Worker<T: Knows> {
     pub(crate) texts: Texts,
 }
 
-/// What a worker's blocks ask for.
-#[derive(Clone, Copy)]
-struct Needs {
-    /// Room for their replies.
-    room: usize,
-    /// How many blocks there are.
-    blocks: usize,
-}
-
-// Block k is worker `k % count`'s.
-fn needs_of(script: &[u8], count: usize, index: usize) -> Needs
-    requires count { 0 < count }
-    ensures room { result.room ≡ min (2 ^ 64 - 1) (own_room count index 0 (script_blocks script.now)) }
-    ensures blocks { result.blocks ≡ length (own_blocks count index 0 (script_blocks script.now)) }
-{
-    let mut needs = Needs { room: 0, blocks: 0 };
-    let mut rest = script;
-    let mut number = 0usize;
-    while !rest.is_empty() {
-        let block = pass_block(rest);
-        if number % count == index {
-            needs.room = needs.room.saturating_add(block.room);
-            needs.blocks += 1;
-        }
-        number += 1;
-        rest = block.behind;
-    }
-    needs
-}
-
-/// A worker for its blocks of a script, with half of the passes' shares. Without memory nothing is given away.
+/// A worker for blocks that ask for so much, with half of the passes' shares. Without memory nothing is given away.
 pub(crate) fn hire<D: Disk>(
     alloc: Global,
     desks: &[Desk<D>],
     passes: &mut Passes<D>,
-    script: &[u8],
-    count: usize,
-    index: usize,
+    needs: Needs,
 ) -> Result<Worker<Token<D>>, AllocError>
     requires here { passes.old.locks ≡ desks.now }
     requires shares { All (λ s. 2 ≤ s) passes.old.shares }
-    requires count { 0 < count }
     ensures kept { IfOk result (λ _. passes.new ≡ kept_halves passes.old) }
-    ensures hired { IfOk result (λ w. IsHired count index script.now passes.old w.passes w.texts) }
+    ensures hired { IfOk result (λ w. (count i : ℕ) (script : List ℕ) → AreNeeds count i script needs →
+        IsHired count i script passes.old w.passes w.texts) }
     ensures shares { IfOk result (λ w. w.passes.shares ≡ (given_halves passes.old).shares) }
     ensures refused { IfErr result (λ _. passes.new ≡ passes.old) }
 {
-    let needs = needs_of(script, count, index);
     let texts = Texts::with_room(alloc, needs.room, needs.blocks)?;
     let passes = passes.split(alloc, desks)?;
     Ok(Worker { passes, texts })

@@ -1,10 +1,39 @@
 -- the first block of some lines, and those behind it
-use Rattle.std.proofs.Common.{◌≡◌, ℕ, ◌<◌, ◌==◌, Bool, true, false, cond, List, [], ◌∷◌, length, map, refl, sym, ◌∙◌, ap, arith}
+use Rattle.std.proofs.Common.{◌≡◌, ℕ, ◌<◌, ◌==◌, Bool, true, false, cond, List, [], ◌∷◌, length, map, codes, bytes_eq, Result, Ok, Err, inl, inr, refl, sym, ◌∙◌, ap, arith}
 use Rattle.std.specs.List.{onto_first}
+use Rattle.std.proofs.lemmas.Bool.{cases_Bool}
+use Rattle.std.proofs.lemmas.Slice.Eq.{bytes_eq-Decides}
 use Rattle.wire_lines.specs.Lines.{lf, lines_of, pieces_of, without_cr}
+use Rattle.wire_lines.specs.Request.{Asked, hello, ask, askpart, recall, left, bye, request_of}
+use Rattle.wire_lines.specs.declared.refusal.LineRefusal.{LineRefusal}
 use Rattle.wire_lines.proofs.Cuts.{no_lines}
-use Rattle.session_core.specs.Turns.{is_bye, blocks_of}
+use Rattle.wire_lines.proofs.Requests.{grammar_from, grammar_to}
+use Rattle.session_core.specs.Turns.{is_bye, is_bye_request, blocks_of}
 use Rattle.session_core.specs.Blocks.{behind_block, first_block, script_blocks}
+
+-- A line is `bye` just where its bytes are.
+pub bye_bytes : (line : List ℕ) → bytes_eq line (codes "bye") ≡ is_bye line
+bye_bytes line = here (request_of line) refl
+  where
+    -- those bytes are read as that request, so another one was read of others
+    other : is_bye line ≡ false → bytes_eq line (codes "bye") ≡ is_bye line
+    other none = elim (cases_Bool (bytes_eq line (codes "bye"))) [
+      | inl same ↦
+          let spelled : line ≡ codes "bye" = (bytes_eq-Decides line (codes "bye")).0 same in
+          let reads : request_of line ≡ Ok bye = grammar_to line bye (omega (arith, ap length spelled), spelled) in
+          let both : true ≡ false = sym (ap is_bye_request reads) ∙ none in
+          absurd cc
+      | inr apart ↦ apart ∙ sym none
+    ]
+
+    here : (request : Result Asked LineRefusal) → request_of line ≡ request → bytes_eq line (codes "bye") ≡ is_bye line
+    here (Ok bye) reads = ap (λ bytes. bytes_eq bytes (codes "bye")) (grammar_from line bye reads).1 ∙ sym (ap is_bye_request reads)
+    here (Ok (hello name)) reads = other (ap is_bye_request reads)
+    here (Ok (ask name epsilon program)) reads = other (ap is_bye_request reads)
+    here (Ok (askpart name partition key epsilon program)) reads = other (ap is_bye_request reads)
+    here (Ok (recall name number)) reads = other (ap is_bye_request reads)
+    here (Ok (left name)) reads = other (ap is_bye_request reads)
+    here (Err refusal) reads = other (ap is_bye_request reads)
 
 -- Lines are their first block, and the blocks behind it.
 cut_off : (line : List ℕ) (lines : List (List ℕ)) → onto_first line (blocks_of lines) ≡ (line ∷ first_block lines) ∷ blocks_of (behind_block lines)

@@ -6,7 +6,7 @@ ghost use Rattle.session_core.specs.Turns.{is_bye};
 ghost use Rattle.session_core.specs.Blocks.{behind_block, first_block};
 ghost use Rattle.session_core.specs.Code.{room_for_line, room_for_lines, short_reply_limit};
 
-use wire_lines::{REPLY_LIMIT, Request, next_line, read_request};
+use wire_lines::{REPLY_LIMIT, next_line};
 
 /// The most bytes of a reply to a line of fewer than six bytes.
 const SHORT_REPLY_LIMIT: usize = 8;
@@ -20,11 +20,12 @@ pub struct Block<'a> {
     pub behind: &'a [u8],
 }
 
-// Whether a line ends its block.
+// Whether a line ends its block. Its bytes say so: a worker passes over the lines of all others, and reads none of them as a request.
+#[tactic(auto, using(crate::proofs::FirstBlocks::bye_bytes))]
 fn ends_block(line: &[u8]) -> bool
     ensures { result ≡ is_bye line.now }
 {
-    matches!(read_request(line), Ok(Request::Bye))
+    line == b"bye".as_slice()
 }
 
 // Room for the longest reply to a line of so many bytes. A shorter line than six asks nothing, and its reply is short.

@@ -15,7 +15,7 @@ ghost use Rattle.session_core.specs.Code.{ArePasses, AreServed, HasServed};
 use crate::line::{LineMeaning, read_line};
 use crate::passes::Passes;
 use crate::server::Server;
-use answer_path::meet;
+use answer_path::{LastProgram, meet};
 use fz_outside::words::Streams;
 use outside_disks::disk::Disk;
 use outside_links::gate::Gate;
@@ -71,10 +71,11 @@ fn is_end(reply: &Reply<'_>) -> bool
     matches!(reply, Reply::Bye)
 }
 
-/// Answers one line, where this analyst speaks. Nobody speaks behind a `bye`.
+/// Answers one line, where this analyst speaks. Nobody speaks behind a `bye`. The session's last program isn't read again.
 pub fn answer_line<'a, R: Wait, D: Disk, S: Streams, G>(
     server: &Server<'a, R, D, S, G>,
     passes: &mut Passes<D>,
+    last: &mut LastProgram,
     who: Option<u16>,
     line: &'a [u8],
 ) -> Answer<'a>
@@ -99,6 +100,7 @@ pub fn answer_line<'a, R: Wait, D: Disk, S: Streams, G>(
                 server.alloc,
                 &server.desks[owner as usize],
                 &mut passes.each[owner as usize],
+                last,
                 server.house.dataset(owner),
                 server.streams,
                 owner,
@@ -140,10 +142,11 @@ pub fn answer_block<'a, R: Wait, D: Disk, S: Streams, G: Gate>(
 {
     let mut rest = script;
     let mut who = None;
+    let mut last = LastProgram::none();
     let mut number = 0u32;
     while let Some((line, after)) = next_line(rest) {
         server.gate.enter(block, number);
-        let answer = answer_line(server, passes, who, line);
+        let answer = answer_line(server, passes, &mut last, who, line);
         server.gate.leave(block, number);
         push_reply(out, &answer.reply, line.len());
         if answer.ends {

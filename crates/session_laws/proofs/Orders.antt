@@ -16,7 +16,7 @@ use Rattle.fz_ast.specs.Terms.{Term}
 use Rattle.linear_types.specs.Inferred.{Fault}
 use Rattle.linear_types.specs.Program.{Acceptance, Accepted, Faulty, sensitivity_of}
 use Rattle.fz_frac.specs.Lowest.{lowest}
-use Rattle.shape_law.specs.Walk.{ShapeFault, WalkOutcome, Shaped, Stops, shape}
+use Rattle.shape_law.specs.Walk.{ShapeFault, WalkOutcome, Shaped, Stops, TooManyWalks, shape}
 use Rattle.wire_lines.specs.Codes.{code_of, line_code, program_code, money_code}
 use Rattle.wire_lines.specs.Refusal.{ProgramRefusal, no_token, no_term, too_nested}
 use Rattle.wire_lines.specs.Refusal.{Refusal, by_line, by_program, by_money, by_disk, by_number, no_memory}
@@ -148,6 +148,11 @@ module _ (tables : Signature) (t : Term) where
   judged_shape : (D : _) (r : Distance) → sensitivity_of tables t ≡ Accepted D r → (o : WalkOutcome) → shape tables t ≡ o
       → IsJudged tables t (shaped_by t (lowest r) o)
   judged_shape D r typed (Shaped s k) shaped = here
+    where
+      here : (other : ProgramRefusal) → RefusesTerm tables t other → ⊥
+      here other (inl (fault, faulty, same)) = cc (faulty, typed)
+      here other (inr (fault, stops, same)) = cc (stops, shaped)
+  judged_shape D r typed (TooManyWalks s) shaped = here
     where
       here : (other : ProgramRefusal) → RefusesTerm tables t other → ⊥
       here other (inl (fault, faulty, same)) = cc (faulty, typed)

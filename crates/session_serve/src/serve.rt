@@ -15,6 +15,7 @@ ghost use Rattle.session_serve.specs.Code.{Keeps, IsLineAnswered, GoesOnWith, Le
 ghost use Rattle.session_serve.specs.declared.serve.SessionEnd.TheVariants.{NoMemory};
 
 use crate::line::Line;
+use answer_path::LastProgram;
 use fz_outside::Failed;
 use fz_outside::words::Streams;
 use outside_disks::disk::Disk;
@@ -49,10 +50,11 @@ pub enum SessionEnd {
     NoMemory,
 }
 
-// Who speaks, the line that isn't ended yet, and where it stands, which the gate is told.
+// Who speaks, the last program, the line that isn't ended yet, and where it stands, which the gate is told.
 #[derive(Drop)]
 struct Session {
     who: Option<u16>,
+    last: LastProgram,
     line: Line,
     block: u32,
     number: u32,
@@ -62,6 +64,7 @@ struct Session {
 fn answer<'a, R: Wait, D: Disk, S: Streams, G>(
     server: &'a Server<'_, R, D, S, G>,
     passes: &mut Passes<D>,
+    last: &mut LastProgram,
     who: Option<u16>,
     line: &'a Line,
 ) -> Answer<'a>
@@ -78,7 +81,7 @@ fn answer<'a, R: Wait, D: Disk, S: Streams, G>(
     ensures kept { passes.new ≡ record passes.old { knows = passes.new.knows } }
 {
     match line.text() {
-        Some(text) => answer_line(server, passes, who, text),
+        Some(text) => answer_line(server, passes, last, who, text),
         None => Answer {
             reply: Reply::Refused(Refusal::Line(LineRefusal::TooLong)),
             who,
@@ -108,7 +111,13 @@ fn reply<L: Link, R: Wait, D: Disk, S: Streams, G: Gate>(
     ensures kept { passes.new ≡ record passes.old { knows = passes.new.knows } }
 {
     server.gate.enter(session.block, session.number);
-    let answer = answer(server, passes, session.who, &session.line);
+    let answer = answer(
+        server,
+        passes,
+        &mut session.last,
+        session.who,
+        &session.line,
+    );
     server.gate.leave(session.block, session.number);
     let mut text = [0u8; REPLY_LIMIT];
     let n = write_reply(&answer.reply, &mut text);
@@ -209,7 +218,7 @@ fn finish<L: Link, R: Wait, D: Disk, S: Streams, G: Gate>(
 }
 
 /// Serves a connection: answers its lines one after another from no analyst, to a `bye`, to the end, or to the limit. All lines
-/// that have come are answered before more is read, and all memory of its own is taken before the first read.
+/// that have come are answered before more is read, and all memory of its own, but that of its last program, is taken before the first read.
 ///
 /// Others may serve at the same time by passes of their own; an owner's lock is held for single calls of its book. Block and line are
 /// told to the gate alone.
@@ -233,6 +242,7 @@ pub fn serve<L: Link, R: Wait, D: Disk, S: Streams, G: Gate>(
     };
     let mut session = Session {
         who: None,
+        last: LastProgram::none(),
         line,
         block,
         number: 0,

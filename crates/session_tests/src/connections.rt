@@ -19,9 +19,9 @@ use std::thread::Threads;
 // The bytes of a connection, what is written to it, and how its session ends.
 type Visit = (&'static [Piece<'static>], &'static [u8], SessionEnd);
 
-// An ask, and what later sessions find of it; an analyst's name is forgotten between them.
+// An ask, and what later sessions find of it; an analyst's name is forgotten between them. The last asks programs again, also refused ones.
 #[rattlefmt::skip]
-const IN_A_ROW: [Visit; 5] = [
+const IN_A_ROW: [Visit; 6] = [
     (&[(b"hello ann\nask census 1 size people\nbye\n", 1)], b"hello ann\nanswer 0 5 1000000\nbye\n", Bye),
     (&[(b"recall census 0\nleft census\nask census 1 size people\n", 1)], b"no 14\nleft 1000000 10000000 2\nno 14\n", EndOfInput),
     (&[(b"hello ann\nrecall census 0\nrecall census 1\nhello bob\nrecall census 0\nbye\n", 1)],
@@ -29,6 +29,11 @@ const IN_A_ROW: [Visit; 5] = [
     (&[], b"", EndOfInput),
     (&[(b"hello bob\nask census 1 size people\nask census 0.5 2 * size people\nrecall census 2\nask census 1 size peo", 1)],
         b"hello bob\nanswer 1 3 1000000\nanswer 2 6 1000000\nrecall 2 answer 6 6\nno 30 unbound 5 8\n", EndOfInput),
+    (&[(b"hello ann\nask census 0.5 2 * size people\nask census 0.5 2 * size people\nask census 0.5 3 * size people\nask census 0.5 size\n\
+        ask census 0.5 size\nask census 0.5 2 * size people\nask census 0.5 size peo\nask census 0.5 size peo\n\
+        ask census 0.5 2 * size peopl\nbye\n", 1)],
+        b"hello ann\nanswer 3 0 1000000\nanswer 4 5 1000000\nanswer 5 12 1500000\nno 21 1\nno 21 1\nanswer 6 7 1000000\n\
+        no 30 unbound 5 8\nno 30 unbound 5 8\nno 30 unbound 9 14\nbye\n", Bye),
 ];
 
 // Where a line and a session end.

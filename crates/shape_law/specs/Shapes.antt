@@ -1,12 +1,12 @@
 -- What the run without data computes with: shapes in the place of values.
-use Rattle.std.specs.Prelude.{ℕ, [], ◌∷◌, max, bytes_eq, cond}
+use Rattle.std.specs.Prelude.{ℕ, [], ◌∷◌, ◌+◌, max, bytes_eq, cond}
 use Rattle.fz_ast.specs.Signature.{Signature}
 use Rattle.fz_ast.specs.Terms.{Name, Term}
 
 mutual
   pub data Shape : Type 0 where
-    -- of a ground value: each bag in it is at most w tables wide
-    Wide : (w : ℕ) → Shape
+    -- of a ground value: each bag in it is at most w tables wide, and its functions take at most i walks of bags where each table has one row
+    Wide : (w i : ℕ) → Shape
     PairS : (a b : Shape) → Shape
     BangS : (a : Shape) → Shape
     -- `fun (x : T) => e` with the shapes of its names
@@ -19,48 +19,60 @@ mutual
     Nothing : Shapes
     Also : (x : Name) (s : Shape) (σ : Shapes) → Shapes
 
--- Where a shape isn't of the form that an accepted term's has, these give `Wide 0`. It never comes to that.
+-- Where a shape isn't of the form that an accepted term's has, these give `Wide 0 0`. It never comes to that.
 
 -- the shape of the innermost x
 abbrev pub shape_of : Shapes → Name → Shape
-shape_of Nothing x = Wide 0
+shape_of Nothing x = Wide 0 0
 shape_of (Also y s σ) x = cond (bytes_eq y x) s (shape_of σ x)
 
 abbrev pub width_of : Shape → ℕ
-width_of (Wide w) = w
+width_of (Wide w i) = w
 width_of s = 0
 
--- the greater width
+abbrev pub walks_of : Shape → ℕ
+walks_of (Wide w i) = i
+walks_of s = 0
+
+-- the greater width, and the greater number of walks
 abbrev pub wider : Shape → Shape → Shape
-wider a b = Wide (max (width_of a) (width_of b))
+wider a b = Wide (max (width_of a) (width_of b)) (max (walks_of a) (walks_of b))
+
+-- a sum is as wide as its side, and takes its walks
+abbrev pub side_shape : Shape → Shape
+side_shape a = Wide (width_of a) (walks_of a)
+
+-- a union has the rows of both: their widths add up, and what their functions walk
+abbrev pub union_shape : Shape → Shape → Shape
+union_shape a b = Wide (width_of a + width_of b) (walks_of a + walks_of b)
 
 -- a pair of ground values is ground
 abbrev pub pair_shape : Shape → Shape → Shape
-pair_shape (Wide a) (Wide b) = Wide (max a b)
+pair_shape (Wide a i) (Wide b j) = Wide (max a b) (max i j)
 pair_shape a b = PairS a b
 
 abbrev pub first_half : Shape → Shape
-first_half (Wide w) = Wide w
+first_half (Wide w i) = Wide w i
 first_half (PairS a b) = a
-first_half s = Wide 0
+first_half s = Wide 0 0
 
 abbrev pub second_half : Shape → Shape
-second_half (Wide w) = Wide w
+second_half (Wide w i) = Wide w i
 second_half (PairS a b) = b
-second_half s = Wide 0
+second_half s = Wide 0 0
 
 -- a bang of a ground value is ground
 abbrev pub bang_shape : Shape → Shape
-bang_shape (Wide w) = Wide w
+bang_shape (Wide w i) = Wide w i
 bang_shape s = BangS s
 
 -- what a bang holds
 abbrev pub in_bang : Shape → Shape
-in_bang (Wide w) = Wide w
+in_bang (Wide w i) = Wide w i
 in_bang (BangS s) = s
-in_bang s = Wide 0
+in_bang s = Wide 0 0
 
--- each table is as wide as itself
+-- each table is as wide as itself, and has no functions
 abbrev pub table_shapes : Signature → Shapes
 table_shapes [] = Nothing
-table_shapes (t ∷ ts) = Also t.name (Wide 1) (table_shapes ts)
+table_shapes (t ∷ ts) = Also t.name (Wide 1 0) (table_shapes ts)

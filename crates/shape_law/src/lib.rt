@@ -4,7 +4,7 @@
 ghost use Rattle.metric_law.specs.Worked.{span, counted, filtered_and_mapped};
 ghost use Rattle.shape_law.specs.Law.{Planned, PlansAreWithinLimits, ShapedProgramsRun, WalksHaveHeights};
 ghost use Rattle.shape_law.specs.Walk.{TooWide};
-ghost use Rattle.shape_law.specs.Worked.{PassesLimit, Plans, doubled};
+ghost use Rattle.shape_law.specs.Worked.{PassesLimit, Plans, WalksTooMuch, doubled, nested, united};
 
 /// Where an accepted program has a shape by a walk of some height, it has a number on each dataset by a derivation no higher.
 pub fn runs_are_planned()
@@ -19,10 +19,16 @@ pub fn walks_are_high_enough()
     ensures runs { ShapedProgramsRun }
 {}
 
-/// Plans of worked programs: a count, a filter over a map, a bag doubled six times, and one doubled seven times, which is too wide.
+/// Plans of worked programs: a count, a filter over a map, a bag doubled six times, and one doubled seven times, which is too wide;
+/// six maps, each of which sums the bag before for each row, and seven, whose walks are too many; and three that sum a union of the
+/// bag before with itself, and four, of which the last union takes too many.
 pub fn worked_plans()
-    ensures counted { Plans counted 2 2 1 }
-    ensures filtered_and_mapped { Plans filtered_and_mapped 12 5 1 }
-    ensures doubled_six_times { Plans (doubled 6) 26 8 64 }
+    ensures counted { Plans counted 2 2 1 1 }
+    ensures filtered_and_mapped { Plans filtered_and_mapped 12 5 1 1 }
+    ensures doubled_six_times { Plans (doubled 6) 26 8 64 1 }
     ensures too_wide { PassesLimit (doubled 7) (TooWide (span 0 1) 128) }
+    ensures nested_six_times { Plans (nested 6) 38 9 1 64 }
+    ensures too_many_walks { WalksTooMuch (nested 7) 0 1 }
+    ensures united_three_times { Plans (united 3) 32 8 2 41 }
+    ensures too_many_in_a_union { WalksTooMuch (united 4) 0 2 }
 {}

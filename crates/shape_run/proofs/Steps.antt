@@ -17,10 +17,10 @@ use Rattle.fz_ast.specs.declared.term.Ranged.TheVariants.{Clip, Sum}
 use Rattle.fz_ast.specs.declared.term.Side.TheVariants.{Inl, Inr}
 use Rattle.fz_ast.specs.declared.term.Unary.{Unary}
 use Rattle.fz_ast.specs.declared.term.Unary.TheVariants.{Fst, Greatest, Least, Size, Snd}
-use Rattle.shape_law.specs.Shapes.{Also, Shape, Shapes, Wide, bang_shape, first_half, in_bang, second_half, width_of, wider}
-use Rattle.shape_law.specs.Walk.{WalkOutcome, Shaped, Stops, Tally, TooLong, Walk, enters, yields, next, after_part, turn, turn_limit, after_parts, walk, walk_rules}
+use Rattle.shape_law.specs.Shapes.{Also, Shape, Shapes, Wide, bang_shape, first_half, in_bang, second_half, side_shape, walks_of, width_of, wider}
+use Rattle.shape_law.specs.Walk.{WalkOutcome, Shaped, Stops, Tally, TooLong, Walk, bag, enters, yields, next, after_part, over, turn, turn_limit, after_parts, walk, walk_rules, walked, with_walks}
 use Rattle.shape_run.proofs.CellFacts.{Reads}
-use Rattle.shape_run.specs.Rules.{HasBody, beside, branches, combined, leaf_shape, over, part_in, part_shape, unary_shape}
+use Rattle.shape_run.specs.Rules.{HasBody, beside, branches, combined, leaf_shape, part_gives, part_in}
 use Rattle.shape_run.specs.Tells.{StopsAt}
 use Rattle.shape_run.specs.declared.store.Cell.{Cell}
 use Rattle.shape_run.specs.declared.store.Cell.TheVariants.{Bang, Fn, Frame, Fun, Ground, Pair}
@@ -105,7 +105,7 @@ let_then W σ s x a b t k j p e h = ap (λ t. walk_rules W σ t k) e ∙ next_sh
 -- a shape that is no function's
 
 pub no_function : (N : List Term) (cs : List Cell) (c : Cell) (W : Walk) (p q : Shape) (k : Tally) → ((x : Name) (e s : ℕ) → c ≡ Fun x e s → ⊥) → ((x : Name) (e s : ℕ) → c ≡ Fn x e s → ⊥) → Reads N cs c p
-    → enters W p q k ≡ yields (Wide 0) k
+    → enters W p q k ≡ yields (Wide 0 0) k
 no_function N cs (Ground w j) W p q k f g h = ap (λ p. enters W p q k) h
 no_function N cs (Pair a b) W p q k f g h = ap (λ p. enters W p q k) h.4
 no_function N cs (Bang a) W p q k f g h = ap (λ p. enters W p q k) h.2
@@ -115,21 +115,21 @@ no_function N cs (Frame x s r) W p q k f g h = absurd h
 
 -- one part
 
-unary_path : (W : Walk) (σ : Shapes) (s : Span) (o : Unary) (a : Term) (k : Tally) → walk_rules W σ (at s (unary o a)) k ≡ after_part W σ a k (λ p. yields (unary_shape o p))
-unary_path W σ s Fst a k = refl
-unary_path W σ s Snd a k = refl
-unary_path W σ s Least a k = refl
-unary_path W σ s Greatest a k = refl
-unary_path W σ s Size a k = refl
+unary_path : (W : Walk) (σ : Shapes) (s : Span) (o : Unary) (e : ℕ) (a : Term) (k : Tally) → walk_rules W σ (at s (unary o a)) k ≡ after_part W σ a k (part_gives (Op o e))
+unary_path W σ s Fst e a k = refl
+unary_path W σ s Snd e a k = refl
+unary_path W σ s Least e a k = refl
+unary_path W σ s Greatest e a k = refl
+unary_path W σ s Size e a k = refl
 
 -- a form of one part visits it
-pub part_path : (W : Walk) (σ : Shapes) (ty : ℕ → Ty) (part : ℕ → Term) (s : Span) (f : Form) (e : ℕ) (k : Tally) → part_in f ≡ Some e → walk_rules W σ (term_of ty part s f) k ≡ after_part W σ (part e) k (λ p. yields (part_shape f p))
-part_path W σ ty part s (Op o e') e k h = let i : e' ≡ e = cc h in unary_path W σ s o (part e') k ∙ ap (λ e. after_part W σ (part e) k (λ p. yields (unary_shape o p))) i
-part_path W σ ty part s (Times n e') e k h = let i : e' ≡ e = cc h in ap (λ e. after_part W σ (part e) k (λ p. yields (Wide 0))) i
-part_path W σ ty part s (Bounded Sum lo hi e') e k h = let i : e' ≡ e = cc h in ap (λ e. after_part W σ (part e) k (λ p. yields (Wide 0))) i
-part_path W σ ty part s (Bounded Clip lo hi e') e k h = let i : e' ≡ e = cc h in ap (λ e. after_part W σ (part e) k (λ p. yields (Wide 0))) i
-part_path W σ ty part s (Inject Inl u t e') e k h = let i : e' ≡ e = cc h in ap (λ e. after_part W σ (part e) k (λ p. yields (Wide (width_of p)))) i
-part_path W σ ty part s (Inject Inr u t e') e k h = let i : e' ≡ e = cc h in ap (λ e. after_part W σ (part e) k (λ p. yields (Wide (width_of p)))) i
+pub part_path : (W : Walk) (σ : Shapes) (ty : ℕ → Ty) (part : ℕ → Term) (s : Span) (f : Form) (e : ℕ) (k : Tally) → part_in f ≡ Some e → walk_rules W σ (term_of ty part s f) k ≡ after_part W σ (part e) k (part_gives f)
+part_path W σ ty part s (Op o e') e k h = let i : e' ≡ e = cc h in unary_path W σ s o e' (part e') k ∙ ap (λ e. after_part W σ (part e) k (part_gives (Op o e'))) i
+part_path W σ ty part s (Times n e') e k h = let i : e' ≡ e = cc h in ap (λ e. after_part W σ (part e) k (λ p. yields (Wide 0 0))) i
+part_path W σ ty part s (Bounded Sum lo hi e') e k h = let i : e' ≡ e = cc h in ap (λ e. after_part W σ (part e) k (λ p k. yields (Wide 0 0) (walked p k))) i
+part_path W σ ty part s (Bounded Clip lo hi e') e k h = let i : e' ≡ e = cc h in ap (λ e. after_part W σ (part e) k (λ p. yields (Wide 0 0))) i
+part_path W σ ty part s (Inject Inl u t e') e k h = let i : e' ≡ e = cc h in ap (λ e. after_part W σ (part e) k (λ p. yields (side_shape p))) i
+part_path W σ ty part s (Inject Inr u t e') e k h = let i : e' ≡ e = cc h in ap (λ e. after_part W σ (part e) k (λ p. yields (side_shape p))) i
 part_path W σ ty part s (Banged r e') e k h = let i : e' ≡ e = cc h in ap (λ e. after_part W σ (part e) k (λ p. yields (bang_shape p))) i
 part_path W σ ty part s (Var x) e k h = cc
 part_path W σ ty part s (Num z) e k h = cc
@@ -162,20 +162,24 @@ part_known m i n (Case c x a y b) e h k l = cc
 part_known m i n (Lambda o x u t b) e h k l = cc
 
 pub part_then : (W : Walk) (σ : Shapes) (ty : ℕ → Ty) (N : List Term) (t : Term) (s : Span) (f : Form) (e : ℕ) (k j : Tally) (p : Shape) → t ≡ term_of ty (term_at N) s f → part_in f ≡ Some e → W σ (term_at N e) k ≡ Shaped p j
-    → walk_rules W σ t k ≡ yields (part_shape f p) j
-part_then W σ ty N t s f e k j p h i g = ap (λ t. walk_rules W σ t k) h ∙ part_path W σ ty (term_at N) s f e k i ∙ next_shaped (W σ (term_at N e) k) (λ p. yields (part_shape f p)) p j g
+    → walk_rules W σ t k ≡ part_gives f p j
+part_then W σ ty N t s f e k j p h i g = ap (λ t. walk_rules W σ t k) h ∙ part_path W σ ty (term_at N) s f e k i ∙ next_shaped (W σ (term_at N e) k) (part_gives f) p j g
 
 pub part_stops : (W : Walk) (σ : Shapes) (ty : ℕ → Ty) (N : List Term) (t : Term) (s : Span) (f : Form) (e : ℕ) (k : Tally) (x : ShapeFault) → t ≡ term_of ty (term_at N) s f → part_in f ≡ Some e → StopsAt x (W σ (term_at N e) k) → StopsAt x (walk_rules W σ t k)
 part_stops W σ ty N t s f e k x h i g =
-    to (StopsAt x) (walk_rules W σ t k) (after_part W σ (term_at N e) k (λ p. yields (part_shape f p))) (ap (λ t. walk_rules W σ t k) h ∙ part_path W σ ty (term_at N) s f e k i) (stopped x (W σ (term_at N e) k) (λ p. yields (part_shape f p)) g)
+    to (StopsAt x) (walk_rules W σ t k) (after_part W σ (term_at N e) k (part_gives f)) (ap (λ t. walk_rules W σ t k) h ∙ part_path W σ ty (term_at N) s f e k i) (stopped x (W σ (term_at N e) k) (part_gives f) g)
 
 -- a bag primitive
 
-pub over_then : (W : Walk) (c q r : Shape) (k j : Tally) → enters W c (Wide 0) k ≡ Shaped r j → over W c q k ≡ yields (Wide (width_of q)) j
-over_then W c q r k j h = next_shaped (enters W c (Wide 0) k) (λ r k. yields (Wide (width_of q)) k) r j h
+pub over_then : (W : Walk) (s : Span) (c q r : Shape) (k j : Tally) → enters W c (Wide 0 0) (with_walks 0 k) ≡ Shaped r j → over W s c q k ≡ bag s q k.walks j
+over_then W s c q r k j h = next_shaped (enters W c (Wide 0 0) (with_walks 0 k)) (λ r. bag s q k.walks) r j h
 
-pub over_stops : (W : Walk) (c q : Shape) (k : Tally) (x : ShapeFault) → StopsAt x (enters W c (Wide 0) k) → StopsAt x (over W c q k)
-over_stops W c q k x h = stopped x (enters W c (Wide 0) k) (λ r k. yields (Wide (width_of q)) k) h
+pub over_stops : (W : Walk) (s : Span) (c q : Shape) (k : Tally) (x : ShapeFault) → StopsAt x (enters W c (Wide 0 0) (with_walks 0 k)) → StopsAt x (over W s c q k)
+over_stops W s c q k x h = stopped x (enters W c (Wide 0 0) (with_walks 0 k)) (λ r. bag s q k.walks) h
+
+-- a bag is only as wide as its shape, and takes only its walks
+pub bag_of_side : (s : Span) (q : Shape) (w i before : ℕ) (k : Tally) → w ≡ width_of q → i ≡ walks_of q → bag s q before k ≡ bag s (Wide w i) before k
+bag_of_side s q w i before k h g = rw (h, g) refl
 
 -- let !x
 

@@ -8,7 +8,7 @@ use Rattle.shape_run.specs.Tells.{StopsAt, tally_of}
 use Rattle.shape_run.specs.declared.plan.Plan.{Plan}
 use Rattle.shape_run.specs.declared.plan.ShapeFault.{ShapeFault}
 
--- it passes no limit, and is just so deep, long and wide
+-- it passes no limit, is just so deep, long and wide, and takes just so many walks of bags
 abbrev pub IsPlanOf : Signature → Term → Plan → Type 0
 IsPlanOf ts t plan = (s : Shape) × (shape ts t ≡ Shaped s (tally_of plan))
 

@@ -10,34 +10,31 @@ use Rattle.fz_ast.specs.declared.term.Binary.{Binary}
 use Rattle.fz_ast.specs.declared.term.Binary.TheVariants.{Pair, With, App, Plus, Minus, AtMost, Equal, Union, Map, Filter, Split}
 use Rattle.fz_ast.specs.declared.term.Form.{Form}
 use Rattle.fz_ast.specs.declared.term.Form.TheVariants.{Bang as Banged, Inject, Lambda, Ranged as Bounded, Times, Unary as Op, Var}
+use Rattle.fz_ast.specs.declared.term.Ranged.TheVariants.{Sum}
 use Rattle.fz_ast.specs.declared.term.Unary.{Unary}
 use Rattle.fz_ast.specs.declared.term.Unary.TheVariants.{Fst, Greatest, Least, Size, Snd}
-use Rattle.shape_law.specs.Shapes.{Also, FnS, FunS, Shape, Shapes, Wide, bang_shape, first_half, pair_shape, second_half, shape_of, width_of, wider}
-use Rattle.shape_law.specs.Walk.{WalkOutcome, Tally, Walk, enters, yields, next, union}
+use Rattle.shape_law.specs.Shapes.{Also, FnS, FunS, Shape, Shapes, Wide, bang_shape, first_half, pair_shape, second_half, shape_of, side_shape, wider}
+use Rattle.shape_law.specs.Walk.{WalkOutcome, Tally, Walk, enters, yields, next, over, union, walked}
 use Rattle.shape_run.specs.Cells.{IsScope, IsShape}
 use Rattle.shape_run.specs.declared.store.Cell.{Cell}
-
--- over a bag as wide as q, the function c is entered once
-abbrev pub over : Walk → Shape → Shape → Tally → WalkOutcome
-over W c q k = next (enters W c (Wide 0) k) (λ r k. yields (Wide (width_of q)) k)
 
 -- what the word or sign at s makes of the shapes of its two parts
 abbrev pub combined : Walk → Span → Binary → Shape → Shape → Tally → WalkOutcome
 combined W s Pair p q = yields (pair_shape p q)
 combined W s With p q = yields (pair_shape p q)
 combined W s App p q = enters W p q
-combined W s Plus p q = yields (Wide 0)
-combined W s Minus p q = yields (Wide 0)
-combined W s AtMost p q = yields (Wide 0)
-combined W s Equal p q = yields (Wide 0)
+combined W s Plus p q = yields (Wide 0 0)
+combined W s Minus p q = yields (Wide 0 0)
+combined W s AtMost p q = yields (Wide 0 0)
+combined W s Equal p q = yields (Wide 0 0)
 combined W s Union p q = union s p q
-combined W s Map p q = over W p q
-combined W s Filter p q = over W p q
-combined W s Split p q = over W p q
+combined W s Map p q = over W s p q
+combined W s Filter p q = over W s p q
+combined W s Split p q = over W s p q
 
 -- a name as wide as a condition
 abbrev pub beside : List ℕ → Shape → Shapes → Shapes
-beside x p σ = Also x (Wide (width_of p)) σ
+beside x p σ = Also x (side_shape p) σ
 
 -- a branch under σ, and then one under τ
 abbrev pub branches : Walk → Shapes → Term → Shapes → Term → Tally → WalkOutcome
@@ -59,7 +56,7 @@ function_shape Fn x e σ = FnS x e σ
 abbrev pub leaf_shape : List Term → Shapes → Form → Shape
 leaf_shape N σ (Var x) = shape_of σ (name_of x)
 leaf_shape N σ (Lambda o x u t e) = function_shape o (name_of x) (term_at N e) σ
-leaf_shape N σ f = Wide 0
+leaf_shape N σ f = Wide 0 0
 
 -- a function's body is one of so many terms
 abbrev pub HasBody : ℕ → Form → Type 0
@@ -82,13 +79,23 @@ part_in f = None
 abbrev pub unary_shape : Unary → Shape → Shape
 unary_shape Fst p = first_half p
 unary_shape Snd p = second_half p
-unary_shape Least p = Wide 0
-unary_shape Greatest p = Wide 0
-unary_shape Size p = Wide 0
+unary_shape Least p = Wide 0 0
+unary_shape Greatest p = Wide 0 0
+unary_shape Size p = Wide 0 0
 
 -- what it makes of the part's shape
 abbrev pub part_shape : Form → Shape → Shape
 part_shape (Op o e) p = unary_shape o p
-part_shape (Inject o u t e) p = Wide (width_of p)
+part_shape (Inject o u t e) p = side_shape p
 part_shape (Banged r e) p = bang_shape p
-part_shape f p = Wide 0
+part_shape f p = Wide 0 0
+
+-- a bag's size and its sum are walks
+abbrev pub part_tally : Form → Shape → Tally → Tally
+part_tally (Op Size e) p k = walked p k
+part_tally (Bounded Sum lo hi e) p k = walked p k
+part_tally f p k = k
+
+-- what a form of one part gives
+abbrev pub part_gives : Form → Shape → Tally → WalkOutcome
+part_gives f p k = yields (part_shape f p) (part_tally f p k)

@@ -3,11 +3,11 @@ ghost use Rattle.std.specs.Prelude.{◌≡◌, ◌+◌, ◌<◌, ◌≤◌, List
 ghost use Rattle.fz_ast.specs.Names.{name_of};
 ghost use Rattle.fz_ast.specs.TermNodes.{term_at};
 ghost use Rattle.fz_ast.specs.Terms.{Term, at};
-ghost use Rattle.shape_law.specs.Shapes.{Shape, Shapes, bang_shape, first_half, pair_shape, second_half, shape_of, width_of, wider};
-ghost use Rattle.shape_law.specs.Walk.{yields, turn, turn_limit, union};
+ghost use Rattle.shape_law.specs.Shapes.{Shape, Shapes, bang_shape, first_half, pair_shape, second_half, shape_of, side_shape, wider};
+ghost use Rattle.shape_law.specs.Walk.{bag, yields, turn, turn_limit, union, walked};
 ghost use Rattle.shape_run.specs.Cells.{Grown, HasScope, HasShape, HaveShapes, IsScope, IsShape};
-ghost use Rattle.shape_run.specs.Rules.{HasBody, HasLeaf, function_shape, leaf_shape, part_in, part_shape};
-ghost use Rattle.shape_run.specs.Tells.{Tells, tally_of};
+ghost use Rattle.shape_run.specs.Rules.{HasBody, HasLeaf, function_shape, leaf_shape, part_gives, part_in};
+ghost use Rattle.shape_run.specs.Tells.{Tells, TellsAnywhere, tally_of};
 
 use crate::plan::{Plan, ShapeFault};
 use crate::store::Store;
@@ -33,7 +33,7 @@ pub fn give_ground(
     width: u8,
     walks: u8,
 ) -> Result<u32, ShapeFault>
-    ensures is { (N : List Term) → Tells N store.new.cells.items count.new result (yields (Rattle.shape_law.specs.Shapes.Wide width) (tally_of count.old)) }
+    ensures is { (N : List Term) → Tells N store.new.cells.items count.new result (yields (Rattle.shape_law.specs.Shapes.Wide width walks) (tally_of count.old)) }
     ensures grown { Grown store.old.cells.items store.new.cells.items }
 {
     let Ok(k) = store.ground(width, walks) else {
@@ -98,7 +98,7 @@ pub fn give_bang(store: &mut Store, count: &mut Plan, a: u32) -> Result<u32, Sha
 pub fn give_side(store: &mut Store, count: &mut Plan, a: u32) -> Result<u32, ShapeFault>
     requires { HasShape store.old.cells.items a }
     ensures is { (N : List Term) (p : Shape) → IsShape N store.old.cells.items a p
-        → Tells N store.new.cells.items count.new result (yields (Rattle.shape_law.specs.Shapes.Wide (width_of p)) (tally_of count.old)) }
+        → Tells N store.new.cells.items count.new result (yields (side_shape p) (tally_of count.old)) }
     ensures grown { Grown store.old.cells.items store.new.cells.items }
 {
     let width = store.width(a);
@@ -194,15 +194,19 @@ pub fn part_of(form: &Form) -> Option<u32>
 /// A bag's size or sum, which is one walk, with those inside it.
 fn give_walk(store: &mut Store, count: &mut Plan, a: u32) -> Result<u32, ShapeFault>
     requires { HasShape store.old.cells.items a }
-    ensures is { (N : List Term) → Tells N store.new.cells.items count.new result (yields (Rattle.shape_law.specs.Shapes.Wide 0) (tally_of count.old)) }
+    ensures is { (N : List Term) (p : Shape) → IsShape N store.old.cells.items a p
+        → Tells N store.new.cells.items count.new result (yields (Rattle.shape_law.specs.Shapes.Wide 0 0) (walked p (tally_of count.old))) }
     ensures grown { Grown store.old.cells.items store.new.cells.items }
 {
     let inside = store.walks(a);
-    count.walks = count.walks.saturating_add(inside as u32 + 1);
+    let Some(walks) = count.walks.checked_add(inside as u32 + 1) else {
+        return Err(ShapeFault::NoMemory);
+    };
+    count.walks = walks;
     give_ground(store, count, 0, 0)
 }
 
-/// What the rows of a bag become, of which a walk takes those inside it and as many as were counted since `before`.
+/// What the rows of a bag become, of which a walk takes those inside it and, for each table, as many as were counted since `before`.
 ///
 /// # Errors
 ///
@@ -214,14 +218,20 @@ pub fn give_bag(
     inside: u8,
     before: u32,
 ) -> Result<u32, ShapeFault>
-    ensures is { (N : List Term) → Tells N store.new.cells.items count.new result (yields (Rattle.shape_law.specs.Shapes.Wide width) (tally_of count.old)) }
+    ensures is { (N : List Term) → TellsAnywhere N store.new.cells.items count.new result
+        (λ s. bag s (Rattle.shape_law.specs.Shapes.Wide width inside) before (tally_of count.old)) }
     ensures grown { Grown store.old.cells.items store.new.cells.items }
 {
-    let walks = count.walks.saturating_add(inside as u32);
-    count.walks = before;
+    let Some(body) = count.walks.checked_mul(width as u32) else {
+        return Err(ShapeFault::NoMemory);
+    };
+    let Some(walks) = body.checked_add(inside as u32) else {
+        return Err(ShapeFault::NoMemory);
+    };
     if walks >= WALKS {
         return Err(ShapeFault::NoMemory);
     }
+    count.walks = before;
     give_ground(store, count, width, walks as u8)
 }
 
@@ -234,7 +244,7 @@ pub fn give_part(
 ) -> Result<u32, ShapeFault>
     requires { HasShape store.old.cells.items a }
     ensures is { (N : List Term) (p : Shape) → IsShape N store.old.cells.items a p
-        → Tells N store.new.cells.items count.new result (yields (part_shape form.now p) (tally_of count.old)) }
+        → Tells N store.new.cells.items count.new result (part_gives form.now p (tally_of count.old)) }
     ensures grown { Grown store.old.cells.items store.new.cells.items }
 {
     match form {
@@ -265,8 +275,11 @@ pub fn give_union(
     if width > 64 {
         return Err(ShapeFault::TooWide { span, width });
     }
-    let walks = store.walks(a).max(store.walks(b));
-    give_ground(store, count, width as u8, walks)
+    let walks = store.walks(a) as u32 + store.walks(b) as u32;
+    if walks >= WALKS {
+        return Err(ShapeFault::NoMemory);
+    }
+    give_ground(store, count, width as u8, walks as u8)
 }
 
 /// One turn more.

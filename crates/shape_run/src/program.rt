@@ -30,7 +30,7 @@ fn limit() -> u32
 
 // The names of the tables, each as wide as `table` says.
 fn bind_tables(store: &mut Store, sig: &Sig, table: u32) -> Result<u32, NoMemory>
-    requires { (N : List Term) → IsShape N store.old.cells.items table (Rattle.shape_law.specs.Shapes.Wide 1) }
+    requires { (N : List Term) → IsShape N store.old.cells.items table (Rattle.shape_law.specs.Shapes.Wide 1 0) }
     ensures { IfOk result (λ n. (N : List Term) → IsScope N store.new.cells.items n (table_shapes sig.now)) }
 {
     let mut scope = 0;
@@ -50,7 +50,8 @@ fn bind_tables(store: &mut Store, sig: &Sig, table: u32) -> Result<u32, NoMemory
 ///
 /// # Errors
 ///
-/// The first limit that the run without data passes, with its span; or `NoMemory` where memory ran out.
+/// The first limit that the run without data passes, with its span; or `NoMemory` where memory ran out, or the functions of a bag
+/// take too many walks.
 pub fn shape(alloc: Global, sig: &Sig, term: &Term) -> Result<Plan, ShapeFault>
     ensures planned { IfOk result (IsPlanOf sig.now term.now) }
     ensures stopped { IfErr result (IsStopOf sig.now term.now) }

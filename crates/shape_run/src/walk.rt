@@ -6,10 +6,10 @@ ghost use Rattle.fz_ast.specs.Names.{name_of};
 ghost use Rattle.fz_ast.specs.TermNodes.{IsKnown, term_of, term_at};
 ghost use Rattle.fz_ast.specs.TypeNodes.{type_at};
 ghost use Rattle.shape_law.specs.Shapes.{Shape, Shapes, first_half, in_bang, second_half};
-ghost use Rattle.shape_law.specs.Walk.{enters, walk, walk_rules};
+ghost use Rattle.shape_law.specs.Walk.{enters, over, walk, walk_rules};
 ghost use Rattle.shape_run.specs.Cells.{Grown, IsScope, IsShape};
-ghost use Rattle.shape_run.specs.Rules.{Scopes, StandsForShape, beside, combined, branches, over, part_in, part_shape};
-ghost use Rattle.shape_run.specs.Tells.{Tells, tally_of};
+ghost use Rattle.shape_run.specs.Rules.{Scopes, StandsForShape, beside, combined, branches};
+ghost use Rattle.shape_run.specs.Tells.{Tells, TellsAnywhere, tally_of};
 
 use crate::gives::{
     give_bag, give_ground, give_leaf, give_pair, give_part, give_union, give_wider, part_of,
@@ -250,7 +250,7 @@ fn over(
     requires bag { StandsForShape nodes.now.terms store.old.cells.items b }
     requires room { here + left < 4294967295 }
     ensures is { (p q : Shape) → IsShape nodes.now.terms store.old.cells.items c p → IsShape nodes.now.terms store.old.cells.items b q
-        → Tells nodes.now.terms store.new.cells.items count.new result (over (walk left here) p q (tally_of count.old)) }
+        → TellsAnywhere nodes.now.terms store.new.cells.items count.new result (λ s. over (walk left here) s p q (tally_of count.old)) }
     ensures grown { Grown store.old.cells.items store.new.cells.items }
 {
     let width = store.width(b);

@@ -1,11 +1,26 @@
 -- Lists cut at a byte: lines at LF, words at a space, an epsilon at the point.
-use Rattle.std.proofs.Common.{◌≡◌, ◌≢◌, ℕ, ◌+◌, ◌-◌, ◌<◌, true, false, cond, eqb, List, [], ◌∷◌, ◌++◌, length, get_or, take, All, map, refl, sym, ap, ◌∙◌, arith, ◌⊎◌, inl, inr}
+use Rattle.std.proofs.Common.{◌≡◌, ◌≢◌, ℕ, ◌+◌, ◌-◌, ◌<◌, ◌≤◌, true, false, cond, eqb, List, [], ◌∷◌, ◌++◌, length, get_or, take, drop, All, map, refl, sym, ap, ◌∙◌, arith, ◌⊎◌, inl, inr}
 use Rattle.std.specs.List.{AllByRecursion}
-use Rattle.std.proofs.lemmas.List.Elements.{recursion_from_All, All-from_recursion}
-use Rattle.std.proofs.lemmas.Bool.{ne_eqb, cases_eq}
-use Rattle.std.proofs.lemmas.List.{take_more}
+use Rattle.std.proofs.lemmas.List.Elements.{All-from_get_or, recursion_from_All, All-from_recursion}
+use Rattle.std.proofs.lemmas.Bool.{eq-eqb, eqb-true, ne_eqb, cases_eq}
+use Rattle.std.proofs.lemmas.List.{drop_more, get_or-take, length-take-le, take-append-drop, take_more}
 use Rattle.std.proofs.Math.Seq.{take-length}
+use Rattle.memchr.specs.Find.{Nowhere, Passes, is_byte}
 use Rattle.wire_lines.specs.Lines.{cr, lf, without_cr, pieces_of, lines_of}
+
+-- what `memchr` finds: the list is cut at that place, and the byte stands nowhere before it; or it stands nowhere
+module _ (byte : ℕ) (xs : List ℕ) where
+  pub cut_here : (at : ℕ) → at < length xs → Passes (is_byte byte) xs at → xs ≡ take at xs ++ byte ∷ drop (at + 1) xs
+  cut_here at within here =
+      sym (take-append-drop at xs) ∙ ap (λ ys. take at xs ++ ys) (drop_more xs at 0 within ∙ ap (λ b. b ∷ drop (at + 1) xs) (eqb-true (get_or xs at 0) byte here))
+
+  pub apart_before : (at : ℕ) → at ≤ length xs → Nowhere (Passes (is_byte byte) xs) 0 at → All (λ b. b ≢ byte) (take at xs)
+  apart_before at within nowhere = All-from_get_or (λ b. b ≢ byte) (take at xs) 0 (λ i lt same.
+      let low : i < at = omega (arith, lt, length-take-le at xs within) in
+      nowhere i (omega arith) low (eq-eqb (get_or xs i 0) byte (sym (get_or-take at xs i 0 low) ∙ same)))
+
+  pub apart : Nowhere (Passes (is_byte byte) xs) 0 (length xs) → All (λ b. b ≢ byte) xs
+  apart nowhere = All-from_get_or (λ b. b ≢ byte) xs 0 (λ i lt same. nowhere i (omega arith) lt (eq-eqb (get_or xs i 0) byte same))
 
 -- one CR at the end goes
 without_cr-push : (xs : List ℕ) (b : ℕ) → without_cr (xs ++ b ∷ []) ≡ cond (eqb b cr) xs (xs ++ b ∷ [])

@@ -1,4 +1,5 @@
-use Rattle.std.proofs.Common.{refl, subst, sym}
+use Rattle.std.proofs.Common.{◌∙◌, ap, List, ℕ, refl, subst, sym}
+use Rattle.sha2.specs.Sha256.{sha256}
 use Rattle.fz_ast.specs.Signature.{Signature}
 use Rattle.fz_ast.specs.Terms.{Term}
 use Rattle.wire_lines.specs.Refusal.{refusal_at}
@@ -10,7 +11,8 @@ use Rattle.owner_desk.specs.Passes.{Pass}
 use Rattle.answer_path.specs.Reading.{read, IsReading}
 use Rattle.answer_path.specs.Turn.{IsTurn}
 use Rattle.answer_path.specs.Code.{IsJudged, IsTermRefusal, query_of}
-use Rattle.answer_path.proofs.Told.{names_in_view, term_refused}
+use Rattle.shape_run.specs.Plans.{IsPlanOf}
+use Rattle.answer_path.proofs.Told.{names_in_view, term_refused, walks_refused, walks_unplanned}
 use Rattle.answer_path.proofs.Turns.{due_by, of_owner, refused_turn, shuts_by}
 use Rattle.answer_path.proofs.Answering.{owner_with}
 use Rattle.answer_path.proofs.answer.ask.Goals as goal
@@ -19,7 +21,12 @@ pub judge-requires : goal.judge-requires
 judge-requires g c = subst AreNames (sym c.sig.ensures.tables) (names_in_view c.args.dataset.now.tables c.args.dataset.now.partitions c.args.query.now.view c.requires.names)
 
 pub answer_judged-requires-clause-reads : goal.answer_judged-requires-clause-reads
-answer_judged-requires-clause-reads g c = subst (λ (e : Term). IsReading c.args.query.now.program.now (read e)) (sym c.in-Ok-judge.ensures.judged.checked.term) c.in-Ok.ensures.term
+answer_judged-requires-clause-reads g c =
+    subst (λ (e : Term). IsReading c.args.query.now.program.now (read e)) (sym c.in-Ok-judge.ensures.judged.checked.term)
+    (subst (λ (bytes : List ℕ). IsReading bytes (read c.term.result.now)) c.in-Ok.ensures.program c.term.ensures)
+
+pub answer_judged-requires-clause-digest : goal.answer_judged-requires-clause-digest
+answer_judged-requires-clause-digest g c = c.digest.ensures ∙ ap sha256 c.in-Ok.ensures.program
 
 pub answer_judged-requires-clause-judged : goal.answer_judged-requires-clause-judged
 answer_judged-requires-clause-judged g c =
@@ -43,6 +50,7 @@ returns-in-Err g c =
       shuts = λ owner is other own. shuts_by owner draws query pass pass (refused refusal) (turn owner is) other own;
       due = λ owner is other own. due_by owner draws query pass pass (refused refusal) (turn owner is) other own;
       same = λ unasked. refl;
+      walks = λ (e, reads, walks). ap refused (walks_refused (signature_in dataset.tables dataset.partitions query.view) query.program e refusal reads walks (c.in-Err.ensures.refused (signature_in dataset.tables dataset.partitions query.view)));
       kept = record { lock = refl; share = refl; opened = refl };
       fits = tt;
     }
@@ -61,16 +69,26 @@ returns-in-Ok-judge-clause-due g c = λ owner is other own.
 pub returns-in-Ok-judge-clause-same : goal.returns-in-Ok-judge-clause-same
 returns-in-Ok-judge-clause-same g c = λ unasked. absurd (c.answer_judged.ensures.asked unasked)
 
+pub returns-in-Ok-judge-clause-walks : goal.returns-in-Ok-judge-clause-walks
+returns-in-Ok-judge-clause-walks g c = λ (e, reads, walks).
+    let query = query_of c.args.query.now in
+    let plan = c.in-Ok-judge.judged.plan in
+    let term : Term = c.term.result.now in
+    let is_read = subst (λ (bytes : List ℕ). IsReading bytes (read term)) c.in-Ok.ensures.program c.term.ensures in
+    absurd (walks_unplanned (signature_in c.args.dataset.now.tables c.args.dataset.now.partitions query.view) query.program e term plan reads is_read walks
+    (subst (λ (ts : Signature). IsPlanOf ts term plan) c.sig.ensures.tables c.in-Ok-judge.ensures.judged.planned))
+
 -- its term is refused
-pub returns : goal.returns
-returns g c =
+pub returns-in-Err-judge : goal.returns-in-Err-judge
+returns-in-Err-judge g c =
     let pass : Pass = c.args.pass.now.knows in
     let dataset = c.args.dataset.now in
     let query = query_of c.args.query.now in
     let draws = g.S.Streams.given c.args.streams.now c.args.owner in
     let refusal = refusal_at c.in-Err-judge.refusal in
-    let why = term_refused (signature_in dataset.tables dataset.partitions query.view) query.program c.in-Ok.term refusal c.in-Ok.ensures.term
-    (subst (λ (tables : Signature). IsTermRefusal tables c.in-Ok.term refusal) c.sig.ensures.tables c.in-Err-judge.ensures.refused) in
+    let reads = subst (λ (bytes : List ℕ). IsReading bytes (read c.term.result.now)) c.in-Ok.ensures.program c.term.ensures in
+    let why = term_refused (signature_in dataset.tables dataset.partitions query.view) query.program c.term.result.now refusal reads
+    (subst (λ (tables : Signature). IsTermRefusal tables c.term.result.now refusal) c.sig.ensures.tables c.in-Err-judge.ensures.refused) in
     let turn : (owner : Owner) → IsOwnerOf pass.opened.ledger.entry dataset owner → IsTurn owner draws query pass (refused refusal) pass =
     of_owner (λ (owner : Owner). IsTurn owner draws query pass (refused refusal) pass) pass dataset
     (λ name. refused_turn (owner_with name pass.opened.ledger.entry dataset) draws query pass refusal why) in
@@ -79,6 +97,7 @@ returns g c =
       shuts = λ owner is other own. shuts_by owner draws query pass pass (refused refusal) (turn owner is) other own;
       due = λ owner is other own. due_by owner draws query pass pass (refused refusal) (turn owner is) other own;
       same = λ unasked. refl;
+      walks = λ (e, reads, walks). ap refused (walks_refused (signature_in dataset.tables dataset.partitions query.view) query.program e refusal reads walks why);
       kept = record { lock = refl; share = refl; opened = refl };
       fits = tt;
     }

@@ -3,7 +3,7 @@ use Rattle.budget_core.specs.Entries.{Entry}
 use Rattle.wire_lines.specs.Reply.{replied}
 use Rattle.owner_desk.specs.Passes.{first_of_run}
 use Rattle.answer_path.specs.declared.demand.Demand.{Demand as DemandAt}
-use Rattle.answer_path.specs.Code.{HasPartFor, IsDemandOf, demand_of, query_of}
+use Rattle.answer_path.specs.Code.{AsksTooManyWalks, HasPartFor, IsDemandOf, demand_of, query_of}
 use Rattle.answer_path.specs.Shut.{LeavesDue}
 use Rattle.answer_path.specs.Standing.{IsBalance}
 use Rattle.answer_path.proofs.Meets.{IsLine, asked_due, asked_line, balance_due, balance_line, recalled_due, recalled_line}
@@ -55,3 +55,12 @@ returns-in-Recalls-clause-same g c = λ unasked. absurd (c.recall.ensures.asked 
 
 pub returns-in-Balances-clause-same : goal.returns-in-Balances-clause-same
 returns-in-Balances-clause-same g c = λ unasked. absurd (c.left.ensures.asked unasked)
+
+pub returns-in-Asks-clause-walks : goal.returns-in-Asks-clause-walks
+returns-in-Asks-clause-walks g c = λ walks. c.ask.ensures.walks (subst (λ (d : DemandAt). AsksTooManyWalks c.args.dataset.now (demand_of d)) c.in-Asks.is walks)
+
+pub returns-in-Recalls-clause-walks : goal.returns-in-Recalls-clause-walks
+returns-in-Recalls-clause-walks g c = λ walks. absurd (subst (λ (d : DemandAt). AsksTooManyWalks c.args.dataset.now (demand_of d)) c.in-Recalls.is walks)
+
+pub returns-in-Balances-clause-walks : goal.returns-in-Balances-clause-walks
+returns-in-Balances-clause-walks g c = λ walks. absurd (subst (λ (d : DemandAt). AsksTooManyWalks c.args.dataset.now (demand_of d)) c.in-Balances.is walks)

@@ -14,7 +14,8 @@ loop-index-preserved g c =
     let I = c.loop-index.invariant in
     let worker = c.in_ok-hire.field-0 in
     let kept = c.in_ok-hire.ensures.kept in
-    let hired = c.in_ok-hire.ensures.hired in
+    let within : c.loop-index.index < c.args.count = omega (arith, c.loop-index-test.true) in
+    let asked = c.in_ok-hire.ensures.hired c.args.count c.loop-index.index c.args.script.now (c.needs_of_all-needs.ensures c.loop-index.index _ within) in
     let more = c.push_reserved.ensures.items in
     record {
       len = omega (arith, ap length more, length_push c.loop-index.crew.items worker, I.len);
@@ -24,7 +25,7 @@ loop-index-preserved g c =
           (half_needed (c.args.count - c.loop-index.index) (c.args.count - (c.loop-index.index + 1)) c.loop-index.passes.shares (omega (arith, c.loop-index-test.true)) I.needs);
       hired = λ i d lt. push_cases (λ n w. IsHired c.args.count n c.args.script.now c.args.passes.now w.passes w.texts) c.loop-index.crew.items _ worker d i more lt (I.hired i d)
           (subst (λ (n : ℕ). IsHired c.args.count n c.args.script.now c.args.passes.now worker.passes worker.texts) (sym I.len)
-          (record { locks = hired.locks ∙ I.kept.0; knows = hired.knows ∙ ap (map handed_on) I.kept.1; room = hired.room }));
+          (record { locks = asked.locks ∙ I.kept.0; knows = asked.knows ∙ ap (map handed_on) I.kept.1; room = asked.room }));
       shares = λ o. shares_step (λ w. get_or w.passes.shares o 0) o _ c.loop-index.crew.items _ worker c.loop-index.passes.shares _ more (ap (λ (b : Bundle). b.shares) kept)
           (ap (λ (shares : List ℕ). get_or shares o 0) c.in_ok-hire.ensures.shares) (I.shares o);
     }

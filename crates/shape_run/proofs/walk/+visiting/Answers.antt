@@ -2,15 +2,15 @@ use Rattle.std.proofs.Common.{rules, length}
 use Rattle.fz_ast.specs.Names.{name_of}
 use Rattle.fz_ast.specs.TermNodes.{term_at}
 use Rattle.fz_ast.specs.TypeNodes.{type_at}
-use Rattle.shape_law.specs.Walk.{enters, yields, walk, walk_rules}
-use Rattle.shape_run.specs.Rules.{beside, branches, over}
+use Rattle.shape_law.specs.Walk.{enters, over, walk, walk_rules}
+use Rattle.shape_run.specs.Rules.{beside, branches}
 use Rattle.shape_run.specs.Tells.{StopsAt, Tells, tally_of}
 use Rattle.std.proofs.Common.{ap, refl, sym, ◌∙◌}
 use Rattle.std.proofs.lemmas.Result.{err_from_is_err_and}
 use Rattle.shape_law.specs.Shapes.{Also, Wide, first_half, in_bang, second_half}
 use Rattle.shape_run.specs.declared.store.Cell.TheVariants.{Fn, Fun}
 use Rattle.shape_run.proofs.CellFacts.{grown_on, in_cells, read, scope_kept, shape_kept}
-use Rattle.shape_run.proofs.Steps.{a_turn, branches_then, case_then, if_then, known_case, known_if, known_let_pair, leaf_known, leaf_then, IsLeft, let_pair_then, node_case, node_if, node_let_pair, second_branch_stops, known_let_bang, let_bang_then, node_let_bang, binary_then, over_stops, over_then, part_known, part_stops, part_then, known_binary, known_let, let_then, no_function, node_binary, node_let, node_span, past_limit, second_stops, to}
+use Rattle.shape_run.proofs.Steps.{a_turn, branches_then, case_then, if_then, known_case, known_if, known_let_pair, leaf_known, leaf_then, IsLeft, let_pair_then, node_case, node_if, node_let_pair, second_branch_stops, known_let_bang, let_bang_then, node_let_bang, binary_then, bag_of_side, over_stops, over_then, part_known, part_stops, part_then, known_binary, known_let, let_then, no_function, node_binary, node_let, node_span, past_limit, second_stops, to}
 use Rattle.shape_run.proofs.walk.+visiting.Goals as goal
 
 pub combine-give_pair-requires : goal.combine-give_pair-requires
@@ -248,21 +248,23 @@ over-walks-inside-requires t c = (c.args.nodes.now.terms, c.requires.bag.0, c.re
 pub over-enter-requires : goal.over-enter-requires
 over-enter-requires t c =
     let f = c.requires.function in
-    (search rules, ((f.0, shape_kept c.args.nodes.now.terms c.args.store.now.cells.items c.ground.new.self.cells.items c.args.c f.0 c.ground.ensures.grown f.1), ((Wide 0, c.in-Ok.ensures.is c.args.nodes.now.terms (Wide 0) refl), c.requires.room)))
+    (search rules, ((f.0, shape_kept c.args.nodes.now.terms c.args.store.now.cells.items c.ground.new.self.cells.items c.args.c f.0 c.ground.ensures.grown f.1), ((Wide 0 0, c.in-Ok.ensures.is c.args.nodes.now.terms (Wide 0 0) refl), c.requires.room)))
 
 pub over-returns-in_err-enter-clause-is : goal.over-returns-in_err-enter-clause-is
-over-returns-in_err-enter-clause-is t c = λ p q h k.
-    let told : StopsAt c.in_err-enter.field-0.0 (over (walk c.args.left c.args.here) p q (tally_of c.args.count.now)) = over_stops (walk c.args.left c.args.here) p q (tally_of c.args.count.now) c.in_err-enter.field-0.0 (c.in_err-enter.ensures.is p (Wide 0) (shape_kept c.args.nodes.now.terms c.args.store.now.cells.items c.ground.new.self.cells.items c.args.c p c.ground.ensures.grown h) (c.in-Ok.ensures.is c.args.nodes.now.terms (Wide 0) refl)) in
+over-returns-in_err-enter-clause-is t c = λ p q h k s.
+    let told : StopsAt c.in_err-enter.field-0.0 (over (walk c.args.left c.args.here) s p q (tally_of c.args.count.now)) = over_stops (walk c.args.left c.args.here) s p q (tally_of c.args.count.now) c.in_err-enter.field-0.0 (c.in_err-enter.ensures.is p (Wide 0 0) (shape_kept c.args.nodes.now.terms c.args.store.now.cells.items c.ground.new.self.cells.items c.args.c p c.ground.ensures.grown h) (c.in-Ok.ensures.is c.args.nodes.now.terms (Wide 0 0) refl)) in
     let e = err_from_is_err_and c.from_residual.result c.from_residual.ensures.1 in rw (e.1, e.2) told
 
 pub over-returns-in_err-enter-clause-grown : goal.over-returns-in_err-enter-clause-grown
 over-returns-in_err-enter-clause-grown t c = grown_on c.args.store.now.cells.items c.ground.new.self.cells.items c.enter.new.store.cells.items c.ground.ensures.grown c.enter.ensures.grown
 
 pub over-returns-clause-is : goal.over-returns-clause-is
-over-returns-clause-is t c = λ p q h k.
-    let a = c.in_ok-enter.ensures.is p (Wide 0) (shape_kept c.args.nodes.now.terms c.args.store.now.cells.items c.ground.new.self.cells.items c.args.c p c.ground.ensures.grown h) (c.in-Ok.ensures.is c.args.nodes.now.terms (Wide 0) refl) in
+over-returns-clause-is t c = λ p q h k s.
+    let a = c.in_ok-enter.ensures.is p (Wide 0 0) (shape_kept c.args.nodes.now.terms c.args.store.now.cells.items c.ground.new.self.cells.items c.args.c p c.ground.ensures.grown h) (c.in-Ok.ensures.is c.args.nodes.now.terms (Wide 0 0) refl) in
     to (Tells c.args.nodes.now.terms c.give_bag.new.store.cells.items c.give_bag.new.count c.give_bag.result) _ _
-    (over_then (walk c.args.left c.args.here) p q a.0 (tally_of c.args.count.now) (tally_of c.enter.new.count) a.2 ∙ ap (λ w. yields (Wide w) (tally_of c.enter.new.count)) (sym (c.width-width.ensures c.args.nodes.now.terms q k))) (c.give_bag.ensures.is c.args.nodes.now.terms)
+    (over_then (walk c.args.left c.args.here) s p q a.0 (tally_of c.args.count.now) (tally_of c.enter.new.count) a.2
+    ∙ bag_of_side s q c.width-width.result c.walks-inside.result c.args.count.now.walks (tally_of c.enter.new.count) (c.width-width.ensures c.args.nodes.now.terms q k) (c.walks-inside.ensures c.args.nodes.now.terms q k))
+    (c.give_bag.ensures.is c.args.nodes.now.terms s)
 
 pub over-returns-clause-grown : goal.over-returns-clause-grown
 over-returns-clause-grown t c = grown_on c.args.store.now.cells.items c.ground.new.self.cells.items c.give_bag.new.store.cells.items c.ground.ensures.grown (grown_on c.ground.new.self.cells.items c.enter.new.store.cells.items c.give_bag.new.store.cells.items c.enter.ensures.grown c.give_bag.ensures.grown)

@@ -1,5 +1,0 @@
-//! Tests of generated runs, by one worker and by several.
-#![tactic(auto)]
-
-#[cfg(test)]
-mod runs;
