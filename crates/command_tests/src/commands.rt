@@ -2,9 +2,8 @@
 
 use fz_outside::files::MemFile;
 use memory_runs::journals::{LARGE, MemJournals, SMALL, journals_on};
-use memory_runs::{CATALOG, KEY, TABLE, file};
+use memory_runs::{CATALOG, KEY, Status, TABLE, file};
 use outside_disks::memory::{Limits, MemDisk};
-use query_server::Status;
 use std::alloc::{AllocError, Global};
 use std::sync::Wait;
 use std::thread::Threads;

@@ -2,7 +2,7 @@
 //! written is missing, what is spent covers it, and the next number is new.
 
 use crate::commands::{AUDIT, Faults, INIT, NO_FAULTS, Outcome, RUN, ran_again, ran_over};
-use query_server::Status;
+use memory_runs::Status;
 use std::alloc::{AllocError, Global};
 use std::sync::Wait;
 use std::test::Fail;

@@ -5,8 +5,7 @@ use crate::commands::{AUDIT, Faults, INIT, NO_FAULTS, Outcome, held, ran_again, 
 use crate::histories::{Step, as_wanted};
 use fz_outside::files::MemFile;
 use memory_runs::journals::empty_journals;
-use memory_runs::{KEY, TABLE, file};
-use query_server::Status;
+use memory_runs::{KEY, Status, TABLE, file};
 use std::alloc::{AllocError, Global};
 use std::sync::Wait;
 use std::test::Fail;

@@ -3,8 +3,7 @@
 
 use crate::commands::{AUDIT, INIT, RUN, held};
 use memory_runs::journals::empty_journals;
-use memory_runs::{KEY, TABLE, census_files};
-use query_server::Status;
+use memory_runs::{KEY, Status, TABLE, census_files};
 use std::alloc::{AllocError, Global};
 use std::sync::Wait;
 use std::test::Fail;

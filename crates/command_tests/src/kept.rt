@@ -1,7 +1,7 @@
 //! Files of journals, byte by byte: those that a stop may have left, and those that are refused.
 
 use crate::commands::{AUDIT, INIT, RUN, ran_again};
-use query_server::Status;
+use memory_runs::Status;
 use std::alloc::{AllocError, Global};
 use std::sync::Wait;
 use std::test::Fail;

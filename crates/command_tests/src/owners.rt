@@ -3,9 +3,8 @@
 use crate::stops::LIMITS;
 use fz_outside::files::MemFile;
 use memory_runs::journals::{NEVER, cut_disk, cut_journals, journals_on};
-use memory_runs::{AGE, KEY, TABLE, file, owner_text};
+use memory_runs::{AGE, KEY, Status, TABLE, file, owner_text};
 use outside_disks::memory::MemDisk;
-use query_server::Status;
 use std::alloc::{AllocError, Global};
 use std::sync::Wait;
 use std::test::Fail;

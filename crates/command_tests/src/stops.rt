@@ -3,10 +3,9 @@
 use crate::commands::RUN;
 use crate::found::{is_closed_behind, is_kept};
 use memory_runs::journals::{NEVER, SMALL, cut_disk, cut_journals, empty_journals, journals_on};
-use memory_runs::{KEY, Piece, TABLE, census_files, joined};
+use memory_runs::{KEY, Piece, Status, TABLE, census_files, joined};
 use outside_disks::disk::Disk;
 use outside_disks::memory::{Limits, MemDisk, Torn};
-use query_server::Status;
 use std::alloc::{AllocError, Global};
 use std::sync::Wait;
 use std::test::Fail;

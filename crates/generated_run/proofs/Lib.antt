@@ -3,3 +3,7 @@ pub mod Settling
 pub mod Counts
 pub mod Recalls
 mod Examples
+-- passed on to the crates above
+pub use Rattle.session_laws.proofs.Causes
+pub use Rattle.session_laws.proofs.Scripts
+pub use Rattle.session_laws.proofs.Worked

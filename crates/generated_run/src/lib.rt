@@ -7,3 +7,5 @@ mod run;
 
 pub use counting::Tally;
 pub use run::run_generated;
+// The crates above answer their scripts by it, too.
+pub use script_workers::answer_script;

@@ -1,3 +1,9 @@
 pub mod Sittings
 pub mod Kept
 pub mod Crews
+-- passed on to the crates above
+pub use Rattle.session_laws.specs.Causes
+pub use Rattle.session_laws.specs.Growing
+pub use Rattle.session_laws.specs.Lines
+pub use Rattle.session_serve.specs.Session
+pub use Rattle.session_serve.specs.declared.serve.SessionEnd.TheVariants as SessionEnds

@@ -1,8 +1,7 @@
 //! Commands and what they must come to.
 
 use fz_outside::files::MemFile;
-use memory_runs::ended;
-use query_server::Status;
+use memory_runs::{Status, ended};
 use std::alloc::{AllocError, Global};
 use std::sync::Wait;
 use std::thread::Threads;

@@ -1,8 +1,7 @@
 //! Two datasets, by the command `gap`.
 
 use fz_outside::files::MemFile;
-use memory_runs::{AGE, CATALOG, TableText, census_with, ended, file};
-use query_server::Status;
+use memory_runs::{AGE, CATALOG, Status, TableText, census_with, ended, file};
 use std::alloc::{AllocError, Global};
 use std::sync::Wait;
 use std::test::Fail;

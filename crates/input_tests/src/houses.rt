@@ -1,8 +1,7 @@
 //! Houses of several owners and tables. What is wanted was worked out by hand, with the noise that tools/reference.py draws.
 
 use crate::commands::{RUN, ends};
-use memory_runs::{AGE, KEY, TABLE, census_with, file, owner_text};
-use query_server::Status;
+use memory_runs::{AGE, KEY, Status, TABLE, census_with, file, owner_text};
 use std::alloc::{AllocError, Global};
 use std::test::Fail;
 

@@ -2,9 +2,8 @@
 
 use crate::commands::{RUN, ends, refuses};
 use fz_outside::files::MemFile;
-use memory_runs::{AGE, CATALOG, KEY, TABLE, TableText, file, joined, owner_text};
+use memory_runs::{AGE, CATALOG, KEY, Status, TABLE, TableText, file, joined, owner_text};
 use owner_catalog::{Catalog, read};
-use query_server::Status;
 use std::alloc::{AllocError, Global};
 use std::sync::Wait;
 use std::test::Fail;

@@ -5,8 +5,9 @@ use fz_outside::sink::MemSink;
 use fz_outside::source::{MemSource, Source};
 use memory_runs::doors::idle_doors;
 use memory_runs::journals::empty_journals;
-use memory_runs::{AGE, CATALOG, TABLE, TableText, census_with, ended, file, owner_text, words_of};
-use query_server::Status;
+use memory_runs::{
+    AGE, CATALOG, Status, TABLE, TableText, census_with, ended, file, owner_text, words_of,
+};
 use std::alloc::{AllocError, Global};
 use std::sync::Wait;
 use std::test::Fail;

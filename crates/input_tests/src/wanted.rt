@@ -1,6 +1,6 @@
 //! What is wanted of a program: by `check`, and where it is asked under a key of zeros.
 
-use query_server::Status;
+use memory_runs::Status;
 use std::alloc::{AllocError, Global};
 
 /// What a program comes to over a table of the ages 20, 30 and 40.

@@ -6,7 +6,7 @@ pub mod journals;
 
 use crate::journals::empty_journals;
 use fz_outside::files::MemFile;
-use query_server::Status;
+pub use query_server::{Status, run_server};
 use std::alloc::{AllocError, Global};
 use std::sync::Wait;
 use std::thread::Threads;

@@ -17,7 +17,7 @@ use Rattle.query_server.specs.declared.end.Status.TheVariants as code
 use Rattle.word_streams.specs.Draws.{draws_of}
 use Rattle.owner_house.specs.House.{house_of}
 use Rattle.session_core.specs.Gathered.{IsGatheredScript}
-use Rattle.session_laws.proofs.Scripts.{transcript_of}
+use Rattle.generated_run.proofs.Scripts.{transcript_of}
 use Rattle.query_server.proofs.Doors.{doors_stay, doors_stay_on}
 use Rattle.query_server.proofs.Contents.{at_held, at_told, for_contents}
 use Rattle.query_server.proofs.Endings.{counted_lawful, house_by, house_served_by, made_lawful, work_by, work_comes}

@@ -40,7 +40,7 @@ use Rattle.query_server.proofs.Endings.{ComesTo, answers, checks, compares, coun
 use Rattle.query_server.proofs.Disks.{may_stop_same}
 use Rattle.query_server.proofs.Owed.{histories}
 use Rattle.query_server.proofs.Versions.{lawful_in}
-use Rattle.session_laws.proofs.Scripts.{headline_of, owed_of}
+use Rattle.generated_run.proofs.Scripts.{headline_of, owed_of}
 use Rattle.owner_house.proofs.Owners.{register_owners}
 
 -- The end's text is written whole or in part: so it is written what is due.

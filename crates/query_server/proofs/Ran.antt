@@ -22,7 +22,7 @@ use Rattle.session_core.specs.Bundles.{Bundle, bundle_of}
 use Rattle.session_core.specs.Code.{AreClosed, ArePasses, AreFresh, found_by, pass_at}
 use Rattle.session_core.specs.Worked.{HasWorked, HaveAddedNone}
 use Rattle.session_core.specs.Transcript.{Journals}
-use Rattle.session_laws.proofs.Worked.{script_gathered}
+use Rattle.generated_run.proofs.Worked.{script_gathered}
 use Rattle.owner_house.proofs.Owners.{entry_said, in_catalog, owner_there, owners_length}
 use Rattle.std.proofs.lemmas.Option.{slice_get_within}
 use Rattle.catalog_loading.specs.Given.{stop_at_fault}

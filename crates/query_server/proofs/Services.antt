@@ -10,8 +10,8 @@ use Rattle.owner_house.specs.Owner.{Owner}
 use Rattle.owner_house.proofs.Owners.{register_owners}
 use Rattle.owner_history.specs.Sound.{IsFound, IsOwed, MayBeFound}
 use Rattle.session_core.specs.Headline.{Programs, AreFound}
-use Rattle.held_sessions.specs.Kept.{KeepThePromises}
-use Rattle.held_sessions.proofs.Together.{together_keep, together_owed}
+use Rattle.service_workers.specs.Kept.{KeepThePromises}
+use Rattle.service_workers.proofs.Together.{together_keep, together_owed}
 use Rattle.service_workers.specs.Services.{Door}
 use Rattle.service_workers.specs.declared.posting.Service.{Service}
 use Rattle.service_workers.specs.declared.posting.Service.TheVariants.{Served, DoorFault, NoMemory}

@@ -23,3 +23,6 @@ pub mod Books
 pub mod Making
 pub mod Taken
 pub mod Laws
+-- passed on to the crates above
+pub use Rattle.service_workers.specs.Services as ServiceOver
+pub use Rattle.service_workers.specs.declared.posting.Service as PostedService

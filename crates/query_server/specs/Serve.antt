@@ -8,8 +8,8 @@ use Rattle.owner_house.specs.Owner.{Owner}
 use Rattle.session_core.specs.Code.{AreClosed, AreFresh, found_by}
 use Rattle.session_core.specs.Gathered.{AreGathered, AreShut}
 use Rattle.session_core.specs.Transcript.{Journals}
-use Rattle.held_sessions.specs.Sittings.{Sitting}
-use Rattle.held_sessions.specs.Crews.{AreHeldBy}
+use Rattle.service_workers.specs.Sittings.{Sitting}
+use Rattle.service_workers.specs.Crews.{AreHeldBy}
 use Rattle.catalog_loading.specs.Steps.{FileStep}
 use Rattle.catalog_loading.specs.Loaded.{Loading, header_of, in_versions, with_house, entry_at, owners_in}
 use Rattle.query_server.specs.Work.{Work, to_serve}

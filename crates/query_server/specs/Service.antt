@@ -9,7 +9,7 @@ use Rattle.owner_house.specs.Owner.{Owner}
 use Rattle.session_core.specs.Headline.{Programs, AreFound, AreOwed}
 use Rattle.session_core.specs.Transcript.{Journals}
 use Rattle.session_core.specs.Worked.{HaveAddedNone}
-use Rattle.held_sessions.specs.Kept.{KeepThePromises}
+use Rattle.service_workers.specs.Kept.{KeepThePromises}
 use Rattle.service_workers.specs.Services.{Door, IsService}
 use Rattle.service_workers.specs.declared.posting.Service.{Service}
 use Rattle.service_workers.specs.declared.posting.Service.TheVariants as outcome

@@ -1,8 +1,7 @@
 //! Several workers ask one budget.
 
 use memory_runs::journals::empty_journals;
-use memory_runs::{AGE, KEY, TABLE, file, owner_text};
-use query_server::Status;
+use memory_runs::{AGE, KEY, Status, TABLE, file, owner_text};
 use std::alloc::{AllocError, Global};
 use std::sync::Wait;
 use std::test::Fail;

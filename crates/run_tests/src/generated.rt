@@ -1,7 +1,6 @@
 //! Generated runs.
 
-use memory_runs::ended;
-use query_server::Status;
+use memory_runs::{Status, ended};
 use std::alloc::{AllocError, Global};
 use std::sync::Wait;
 use std::test::Fail;

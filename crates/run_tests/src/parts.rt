@@ -3,8 +3,7 @@
 
 use crate::commands::{AUDIT, INIT, RUN};
 use memory_runs::journals::empty_journals;
-use memory_runs::{KEY, file, joined};
-use query_server::Status;
+use memory_runs::{KEY, Status, file, joined};
 use std::alloc::{AllocError, Global};
 use std::sync::Wait;
 use std::test::Fail;

@@ -2,8 +2,7 @@
 //! names from outside. What is wanted was worked out by tools/reference.py, which goes from row to row and draws the noise.
 
 use crate::commands::RUN;
-use memory_runs::{KEY, ended, file};
-use query_server::Status;
+use memory_runs::{KEY, Status, ended, file};
 use std::alloc::{AllocError, Global};
 use std::sync::Wait;
 use std::test::Fail;

@@ -2,8 +2,7 @@
 //! with the noise that tools/reference.py draws.
 
 use crate::commands::RUN;
-use memory_runs::{AGE, KEY, Piece, TABLE, census_files, ended, file, joined, owner_text};
-use query_server::Status;
+use memory_runs::{AGE, KEY, Piece, Status, TABLE, census_files, ended, file, joined, owner_text};
 use std::alloc::{AllocError, Global};
 use std::sync::Wait;
 use std::test::Fail;

@@ -35,9 +35,9 @@ use Rattle.session_core.specs.Served.{AnswersOn, ShutsFor, ShutsOn}
 use Rattle.session_core.specs.Transcript.{Journals, LeadExactly}
 use Rattle.session_core.proofs.Exactly.{answers_on}
 use Rattle.session_core.proofs.Examples.{three_rows, the_owner, a_query, an_ask, a_grant, made, only, outcome_with, settled_with, size_asked, three_value, turn, quiet, ask_line}
-use Rattle.session_laws.specs.Lines.{AreKnown}
-use Rattle.session_serve.specs.Session.{IsSession}
-use Rattle.session_serve.specs.declared.serve.SessionEnd.TheVariants.{Bye, WriteFault}
+use Rattle.held_sessions.specs.Lines.{AreKnown}
+use Rattle.held_sessions.specs.Session.{IsSession}
+use Rattle.held_sessions.specs.SessionEnds.{Bye, WriteFault}
 use Rattle.successive_runs.specs.Life.{Run, IsRun, AreRuns}
 use Rattle.held_sessions.specs.Sittings.{Sitting, FollowOn, all_exchanges, is_sent, whole_count}
 use Rattle.held_sessions.specs.Kept.{AreHeld, IsKept, IsShift, AreShifts}

@@ -27,11 +27,11 @@ use Rattle.session_core.specs.Transcript.{Journals, first_new, MeetsExactly, Lea
 use Rattle.session_core.specs.Gathered.{one_worker, part_of, AreGathered, AreShut}
 use Rattle.session_core.specs.Code.{found_by}
 use Rattle.session_core.proofs.Exactly.{answers_on, adds_in_order}
-use Rattle.session_laws.specs.Growing.{IsMetOn}
-use Rattle.session_laws.proofs.Comes.{slice_take}
-use Rattle.session_laws.proofs.Exact.{exact}
-use Rattle.session_laws.proofs.Growing.{growing_from}
-use Rattle.session_laws.proofs.Locals.{part_has}
+use Rattle.held_sessions.specs.Growing.{IsMetOn}
+use Rattle.held_sessions.proofs.Comes.{slice_take}
+use Rattle.held_sessions.proofs.Exact.{exact}
+use Rattle.held_sessions.proofs.Growing.{growing_from}
+use Rattle.held_sessions.proofs.Locals.{part_has}
 use Rattle.successive_runs.specs.Left.{IsLeft}
 use Rattle.successive_runs.specs.Life.{Run, IsRun, AreRuns}
 use Rattle.successive_runs.proofs.Files.{moment_stands}

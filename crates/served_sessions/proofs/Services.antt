@@ -24,12 +24,12 @@ use Rattle.session_core.specs.Turns.{meant_at}
 use Rattle.session_core.specs.Exchanges.{Exchange}
 use Rattle.session_core.specs.Gathered.{AreGathered, AreShut}
 use Rattle.session_core.specs.Transcript.{Journals}
-use Rattle.session_laws.specs.Causes.{AreCaused}
-use Rattle.session_laws.proofs.Causes.{caused}
+use Rattle.held_sessions.specs.Causes.{AreCaused}
+use Rattle.held_sessions.proofs.Causes.{caused}
 use Rattle.catalog_loading.specs.Loaded.{IsLoading, Loading, header_of, owners_in}
-use Rattle.query_server.specs.Shelves.{Shelf}
-use Rattle.query_server.specs.Serve.{WereHeld}
-use Rattle.query_server.specs.Run.{WentOn}
+use Rattle.successive_runs.specs.Shelves.{Shelf}
+use Rattle.successive_runs.specs.Serve.{WereHeld}
+use Rattle.successive_runs.specs.Run.{WentOn}
 use Rattle.successive_runs.specs.Life.{none_sent}
 use Rattle.successive_runs.specs.Kept.{MayBeGoneOnFrom}
 use Rattle.successive_runs.proofs.Files.{its_disk, lines_are_runs, lines_may_be_gone_on}

@@ -9,11 +9,11 @@ use Rattle.owner_house.specs.Owner.{Owner}
 use Rattle.owner_house.specs.House.{house_of}
 use Rattle.session_core.specs.Transcript.{Journals}
 use Rattle.catalog_loading.specs.Loaded.{Loading, header_of, in_versions}
-use Rattle.service_workers.specs.Services.{Door}
-use Rattle.service_workers.specs.declared.posting.Service.{Service}
-use Rattle.query_server.specs.Shelves.{Shelf}
-use Rattle.query_server.specs.Serve.{WereHeld}
-use Rattle.query_server.specs.Service.{IsServiceOver}
+use Rattle.successive_runs.specs.ServiceOver.{Door}
+use Rattle.successive_runs.specs.PostedService.{Service}
+use Rattle.successive_runs.specs.Shelves.{Shelf}
+use Rattle.successive_runs.specs.Serve.{WereHeld}
+use Rattle.successive_runs.specs.Service.{IsServiceOver}
 use Rattle.successive_runs.specs.Life.{Run, IsRun}
 
 -- the sessions that a service held, in the house with the versions of its journals

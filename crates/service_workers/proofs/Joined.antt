@@ -12,8 +12,8 @@ use Rattle.session_core.specs.Gathered.{StillShut, added_below, part_of}
 use Rattle.session_core.specs.Bundles.{Bundle, handed_on}
 use Rattle.session_core.specs.Code.{GoesOn, no_pass, pass_at}
 use Rattle.session_core.specs.Worked.{IsBroughtIn}
-use Rattle.session_laws.proofs.Assembles.{added_same}
-use Rattle.session_laws.proofs.Dealing.{in_some_order}
+use Rattle.held_sessions.proofs.Assembles.{added_same}
+use Rattle.held_sessions.proofs.Dealing.{in_some_order}
 use Rattle.held_sessions.specs.Sittings.{Sitting, FollowOn, all_exchanges}
 use Rattle.held_sessions.proofs.Rows.{row_served}
 use Rattle.held_sessions.proofs.Together.{pass_handed}

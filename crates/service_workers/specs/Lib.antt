@@ -1,2 +1,6 @@
 pub mod Services
 pub mod Code
+-- passed on to the crates above
+pub use Rattle.held_sessions.specs.Sittings
+pub use Rattle.held_sessions.specs.Kept
+pub use Rattle.held_sessions.specs.Crews

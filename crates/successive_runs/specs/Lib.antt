@@ -4,3 +4,10 @@ pub mod Kept
 pub mod Raised
 pub mod Script
 pub mod Agreed
+-- passed on to the crates above
+pub use Rattle.query_server.specs.Shelves
+pub use Rattle.query_server.specs.Serve
+pub use Rattle.query_server.specs.Service
+pub use Rattle.query_server.specs.Run
+pub use Rattle.query_server.specs.ServiceOver
+pub use Rattle.query_server.specs.PostedService
