@@ -49,7 +49,7 @@ scope_kept N cs ds k σ g h = rw g.1 (scope_more N cs g.0 h)
 -- a cell that is read
 
 abbrev pub Reads : List Term → List Cell → Cell → Shape → Type 0
-Reads N cs (Ground w j) s = s ≡ Wide w j
+Reads N cs (Ground w j v) s = s ≡ Wide w j
 Reads N cs (Pair a b) s = (p q : Shape) × IsShape N cs a p × IsShape N cs b q × (s ≡ PairS p q)
 Reads N cs (Bang a) s = (p : Shape) × IsShape N cs a p × (s ≡ BangS p)
 Reads N cs (Fun x e r) s = (σ : Shapes) × IsScope N cs r σ × (e < length N) × (s ≡ FunS (name_of x) (term_at N e) σ)
@@ -57,7 +57,7 @@ Reads N cs (Fn x e r) s = (σ : Shapes) × IsScope N cs r σ × (e < length N) �
 Reads N cs (Frame x s r) t = ⊥
 
 pub read : (N : List Term) (cs : List Cell) (k : ℕ) (s : Shape) (c : Cell) → slice_get cs k ≡ Some c → IsShape N cs k s → Reads N cs c s
-read N cs k _ c h (is_ground {w = w} {i = j} g) = let i : Ground w j ≡ c = cc (h, g) in subst (λ c. Reads N cs c (Wide w j)) i refl
+read N cs k _ c h (is_ground {w = w} {i = j} {h = v} g) = let i : Ground w j v ≡ c = cc (h, g) in subst (λ c. Reads N cs c (Wide w j)) i refl
 read N cs k _ c h (is_pair {a = m} {b = n} {p = p} {q = q} g a b) = let i : Pair m n ≡ c = cc (h, g) in subst (λ c. Reads N cs c (PairS p q)) i (p, q, a, b, refl)
 read N cs k _ c h (is_bang {a = m} {p = p} g a) = let i : Bang m ≡ c = cc (h, g) in subst (λ c. Reads N cs c (BangS p)) i (p, a, refl)
 read N cs k _ c h (is_fun {e = e} {r = r} {x = x} {σ = σ} g l t) = let i : Fun x e r ≡ c = cc (h, g) in subst (λ c. Reads N cs c (FunS (name_of x) (term_at N e) σ)) i (σ, t, l, refl)
@@ -80,9 +80,9 @@ pub on_ok : {A E : Type 0} {P Q : A → Type 0} (r : Result A E) → IfOk r P �
 on_ok (Ok a) h k = k a h
 on_ok (Err e) h k = tt
 
-pub ground_added : (cs ds : List Cell) (w j : ℕ) (r : Result ℕ NoMemory) (P : List Term → Shape → Type 0) → IfOk r (λ n. (slice_get ds n ≡ Some (Ground w j)) × (n ≡ length cs) × (n < 4294967295))
+pub ground_added : (cs ds : List Cell) (w j v : ℕ) (r : Result ℕ NoMemory) (P : List Term → Shape → Type 0) → IfOk r (λ n. (slice_get ds n ≡ Some (Ground w j v)) × (n ≡ length cs) × (n < 4294967295))
     → ((N : List Term) (p : Shape) → P N p → p ≡ Wide w j) → Adds ds r P
-ground_added cs ds w j r P h k = on_ok r h (λ n g N p a. rw (k N p a) (is_ground g.0))
+ground_added cs ds w j v r P h k = on_ok r h (λ n g N p a. rw (k N p a) (is_ground g.0))
 
 pub fun_added : (cs ds : List Cell) (x : Name) (e s : ℕ) (r : Result ℕ NoMemory) → IfOk r (λ n. (slice_get ds n ≡ Some (Fun x e s)) × (n ≡ length cs) × (n < 4294967295)) → Grown cs ds
     → Adds ds r (λ N p. (σ : Shapes) × IsScope N cs s σ × (e < length N) × (p ≡ FunS (name_of x) (term_at N e) σ))
@@ -145,7 +145,7 @@ pair_ground cs ds a b v w m i j n r g h k e h' k' e' added =
 
 -- neither a ground value's shape nor a pair's
 abbrev pub NotHalved : Cell → Type 0
-NotHalved (Ground w j) = ⊥
+NotHalved (Ground w j v) = ⊥
 NotHalved (Pair a b) = ⊥
 NotHalved c = ⊤
 
@@ -153,7 +153,7 @@ pub unhalved : (cs : List Cell) (k : ℕ) (c : Cell) → slice_get cs k ≡ Some
 unhalved cs k c h n N r t = go c n (read N cs k t.0 c h t.1)
   where
     go : (c : Cell) → NotHalved c → Reads N cs c t.0 → r ≡ Wide 0 0
-    go (Ground w j) n i = absurd n
+    go (Ground w j v) n i = absurd n
     go (Pair a b) n i = absurd n
     go (Bang a) n i = rw (t.2, i.2) refl
     go (Fun x e s) n i = rw (t.2, i.3) refl
@@ -164,15 +164,15 @@ pub unhalved2 : (cs : List Cell) (k : ℕ) (c : Cell) → slice_get cs k ≡ Som
 unhalved2 cs k c h n N r t = go c n (read N cs k t.0 c h t.1)
   where
     go : (c : Cell) → NotHalved c → Reads N cs c t.0 → r ≡ Wide 0 0
-    go (Ground w j) n i = absurd n
+    go (Ground w j v) n i = absurd n
     go (Pair a b) n i = absurd n
     go (Bang a) n i = rw (t.2, i.2) refl
     go (Fun x e s) n i = rw (t.2, i.3) refl
     go (Fn x e s) n i = rw (t.2, i.3) refl
     go (Frame x s q) n i = absurd i
 
-pub not_halved : (c : Cell) → ((w j : ℕ) → c ≡ Ground w j → ⊥) → ((a b : ℕ) → c ≡ Pair a b → ⊥) → NotHalved c
-not_halved (Ground w j) h k = h w j refl
+pub not_halved : (c : Cell) → ((w j v : ℕ) → c ≡ Ground w j v → ⊥) → ((a b : ℕ) → c ≡ Pair a b → ⊥) → NotHalved c
+not_halved (Ground w j v) h k = h w j v refl
 not_halved (Pair a b) h k = k a b refl
 not_halved (Bang a) h k = tt
 not_halved (Fun x e s) h k = tt
@@ -226,12 +226,12 @@ further N cs k σ x s r y z h e i = let t = frame_read N cs k σ x s r z h i in 
 
 -- neither a ground value's shape nor a bang's
 abbrev pub NotHolding : Cell → Type 0
-NotHolding (Ground w j) = ⊥
+NotHolding (Ground w j v) = ⊥
 NotHolding (Bang a) = ⊥
 NotHolding c = ⊤
 
-pub not_holding : (c : Cell) → ((w j : ℕ) → c ≡ Ground w j → ⊥) → ((a : ℕ) → c ≡ Bang a → ⊥) → NotHolding c
-not_holding (Ground w j) h k = h w j refl
+pub not_holding : (c : Cell) → ((w j v : ℕ) → c ≡ Ground w j v → ⊥) → ((a : ℕ) → c ≡ Bang a → ⊥) → NotHolding c
+not_holding (Ground w j v) h k = h w j v refl
 not_holding (Pair a b) h k = tt
 not_holding (Bang a) h k = k a refl
 not_holding (Fun x e s) h k = tt
@@ -242,7 +242,7 @@ pub unheld : (cs : List Cell) (k : ℕ) (c : Cell) → slice_get cs k ≡ Some c
 unheld cs k c h n N r t = go c n (read N cs k t.0 c h t.1)
   where
     go : (c : Cell) → NotHolding c → Reads N cs c t.0 → r ≡ Wide 0 0
-    go (Ground w j) n i = absurd n
+    go (Ground w j v) n i = absurd n
     go (Pair a b) n i = rw (t.2, i.4) refl
     go (Bang a) n i = absurd n
     go (Fun x e s) n i = rw (t.2, i.3) refl

@@ -106,7 +106,7 @@ let_then W σ s x a b t k j p e h = ap (λ t. walk_rules W σ t k) e ∙ next_sh
 
 pub no_function : (N : List Term) (cs : List Cell) (c : Cell) (W : Walk) (p q : Shape) (k : Tally) → ((x : Name) (e s : ℕ) → c ≡ Fun x e s → ⊥) → ((x : Name) (e s : ℕ) → c ≡ Fn x e s → ⊥) → Reads N cs c p
     → enters W p q k ≡ yields (Wide 0 0) k
-no_function N cs (Ground w j) W p q k f g h = ap (λ p. enters W p q k) h
+no_function N cs (Ground w j v) W p q k f g h = ap (λ p. enters W p q k) h
 no_function N cs (Pair a b) W p q k f g h = ap (λ p. enters W p q k) h.4
 no_function N cs (Bang a) W p q k f g h = ap (λ p. enters W p q k) h.2
 no_function N cs (Fun x e s) W p q k f g h = absurd (f x e s refl)
@@ -176,10 +176,6 @@ over_then W s c q r k j h = next_shaped (enters W c (Wide 0 0) (with_walks 0 k))
 
 pub over_stops : (W : Walk) (s : Span) (c q : Shape) (k : Tally) (x : ShapeFault) → StopsAt x (enters W c (Wide 0 0) (with_walks 0 k)) → StopsAt x (over W s c q k)
 over_stops W s c q k x h = stopped x (enters W c (Wide 0 0) (with_walks 0 k)) (λ r. bag s q k.walks) h
-
--- a bag is only as wide as its shape, and takes only its walks
-pub bag_of_side : (s : Span) (q : Shape) (w i before : ℕ) (k : Tally) → w ≡ width_of q → i ≡ walks_of q → bag s q before k ≡ bag s (Wide w i) before k
-bag_of_side s q w i before k h g = rw (h, g) refl
 
 -- let !x
 

@@ -12,7 +12,8 @@ use Rattle.shape_run.specs.declared.store.Cell.TheVariants.{Ground, Pair, Bang, 
 mutual
   -- cell k stands for this shape; bodies are terms of N
   pub data IsShape (N : List Term) (cs : List Cell) : ℕ → Shape → Type 0 where
-    is_ground : {k w i : ℕ} → slice_get cs k ≡ Some (Ground w i) → IsShape N cs k (Wide w i)
+    -- the cell says, too, how deep the functions of its bags are evaluated, of which the definition says nothing
+    is_ground : {k w i h : ℕ} → slice_get cs k ≡ Some (Ground w i h) → IsShape N cs k (Wide w i)
     is_pair : {k a b : ℕ} {p q : Shape} → slice_get cs k ≡ Some (Pair a b) → IsShape N cs a p → IsShape N cs b q → IsShape N cs k (PairS p q)
     is_bang : {k a : ℕ} {p : Shape} → slice_get cs k ≡ Some (Bang a) → IsShape N cs a p → IsShape N cs k (BangS p)
     is_fun : {k e r : ℕ} {x : Name} {σ : Shapes} → slice_get cs k ≡ Some (Fun x e r) → e < length N → IsScope N cs r σ

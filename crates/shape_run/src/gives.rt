@@ -16,6 +16,9 @@ use fz_ast::{Arrow, Form, Name, Ranged, Span, Unary};
 // How many walks one may take, with itself.
 const WALKS: u32 = 64;
 
+// How deep walks within walks may be evaluated: so many levels fit into the stack of a thread.
+const REACH: u32 = 400;
+
 /// The shape in this cell.
 pub fn give(store: &Store, count: &mut Plan, k: u32) -> Result<u32, ShapeFault>
     requires { HasShape store.now.cells.items k }
@@ -32,11 +35,12 @@ pub fn give_ground(
     count: &mut Plan,
     width: u8,
     walks: u8,
+    height: u32,
 ) -> Result<u32, ShapeFault>
     ensures is { (N : List Term) → Tells N store.new.cells.items count.new result (yields (Rattle.shape_law.specs.Shapes.Wide width walks) (tally_of count.old)) }
     ensures grown { Grown store.old.cells.items store.new.cells.items }
 {
-    let Ok(k) = store.ground(width, walks) else {
+    let Ok(k) = store.ground(width, walks, height) else {
         return Err(ShapeFault::NoMemory);
     };
     give(store, count, k)
@@ -103,7 +107,8 @@ pub fn give_side(store: &mut Store, count: &mut Plan, a: u32) -> Result<u32, Sha
 {
     let width = store.width(a);
     let walks = store.walks(a);
-    give_ground(store, count, width, walks)
+    let height = store.height(a);
+    give_ground(store, count, width, walks, height)
 }
 
 /// The wider of two ground shapes.
@@ -115,7 +120,8 @@ pub fn give_wider(store: &mut Store, count: &mut Plan, a: u32, b: u32) -> Result
 {
     let width = store.width(a).max(store.width(b));
     let walks = store.walks(a).max(store.walks(b));
-    give_ground(store, count, width, walks)
+    let height = store.height(a).max(store.height(b));
+    give_ground(store, count, width, walks, height)
 }
 
 /// The shape of a name.
@@ -132,7 +138,7 @@ fn give_name(
 {
     match store.find(scope, name) {
         Some(k) => give(store, count, k),
-        None => give_ground(store, count, 0, 0),
+        None => give_ground(store, count, 0, 0, 0),
     }
 }
 
@@ -173,7 +179,7 @@ pub fn give_leaf(
         Form::Lambda(arrow, name, _, _, body) => {
             give_function(store, count, scope, *arrow, *name, *body)
         }
-        _ => give_ground(store, count, 0, 0),
+        _ => give_ground(store, count, 0, 0, 0),
     }
 }
 
@@ -191,8 +197,12 @@ pub fn part_of(form: &Form) -> Option<u32>
     }
 }
 
-/// A bag's size or sum, which is one walk, with those inside it.
-fn give_walk(store: &mut Store, count: &mut Plan, a: u32) -> Result<u32, ShapeFault>
+/// A bag's size or sum at depth `here`, which is one walk, with those inside it.
+///
+/// # Errors
+///
+/// `NoMemory` where its functions would be evaluated too deep.
+fn give_walk(store: &mut Store, count: &mut Plan, a: u32, here: u32) -> Result<u32, ShapeFault>
     requires { HasShape store.old.cells.items a }
     ensures is { (N : List Term) (p : Shape) → IsShape N store.old.cells.items a p
         → Tells N store.new.cells.items count.new result (yields (Rattle.shape_law.specs.Shapes.Wide 0 0) (walked p (tally_of count.old))) }
@@ -202,11 +212,17 @@ fn give_walk(store: &mut Store, count: &mut Plan, a: u32) -> Result<u32, ShapeFa
     let Some(walks) = count.walks.checked_add(inside as u32 + 1) else {
         return Err(ShapeFault::NoMemory);
     };
+    let reach = here.saturating_add(store.height(a));
+    if reach > REACH {
+        return Err(ShapeFault::NoMemory);
+    }
     count.walks = walks;
-    give_ground(store, count, 0, 0)
+    count.reach = count.reach.max(reach);
+    give_ground(store, count, 0, 0, 0)
 }
 
-/// What the rows of a bag become, of which a walk takes those inside it and, for each table, as many as were counted since `before`.
+/// What the rows of the bag `b` become, where a function's body was visited at depth `here` and counted what `count` says since `before`:
+/// a walk takes those inside the bag and, for each table, as many as the body, and is evaluated as deep as the deeper of both.
 ///
 /// # Errors
 ///
@@ -214,33 +230,38 @@ fn give_walk(store: &mut Store, count: &mut Plan, a: u32) -> Result<u32, ShapeFa
 pub fn give_bag(
     store: &mut Store,
     count: &mut Plan,
-    width: u8,
-    inside: u8,
-    before: u32,
+    b: u32,
+    before: Plan,
+    here: u32,
 ) -> Result<u32, ShapeFault>
-    ensures is { (N : List Term) → TellsAnywhere N store.new.cells.items count.new result
-        (λ s. bag s (Rattle.shape_law.specs.Shapes.Wide width inside) before (tally_of count.old)) }
+    requires { HasShape store.old.cells.items b }
+    ensures is { (N : List Term) (q : Shape) → IsShape N store.old.cells.items b q
+        → TellsAnywhere N store.new.cells.items count.new result (λ s. bag s q before.walks (tally_of count.old)) }
     ensures grown { Grown store.old.cells.items store.new.cells.items }
 {
+    let width = store.width(b);
     let Some(body) = count.walks.checked_mul(width as u32) else {
         return Err(ShapeFault::NoMemory);
     };
-    let Some(walks) = body.checked_add(inside as u32) else {
+    let Some(walks) = body.checked_add(store.walks(b) as u32) else {
         return Err(ShapeFault::NoMemory);
     };
     if walks >= WALKS {
         return Err(ShapeFault::NoMemory);
     }
-    count.walks = before;
-    give_ground(store, count, width, walks as u8)
+    let height = store.height(b).max(count.reach.saturating_sub(here));
+    count.walks = before.walks;
+    count.reach = before.reach;
+    give_ground(store, count, width, walks as u8, height)
 }
 
-/// What such a form makes of its part's shape.
+/// What such a form makes of the shape of its part at depth `here`.
 pub fn give_part(
     store: &mut Store,
     count: &mut Plan,
     form: &Form,
     a: u32,
+    here: u32,
 ) -> Result<u32, ShapeFault>
     requires { HasShape store.old.cells.items a }
     ensures is { (N : List Term) (p : Shape) → IsShape N store.old.cells.items a p
@@ -252,9 +273,9 @@ pub fn give_part(
         Form::Unary(Unary::Snd, _) => give_second(store, count, a),
         Form::Inject(_, _, _, _) => give_side(store, count, a),
         Form::Bang(_, _) => give_bang(store, count, a),
-        Form::Unary(Unary::Size, _) => give_walk(store, count, a),
-        Form::Ranged(Ranged::Sum, _, _, _) => give_walk(store, count, a),
-        _ => give_ground(store, count, 0, 0),
+        Form::Unary(Unary::Size, _) => give_walk(store, count, a, here),
+        Form::Ranged(Ranged::Sum, _, _, _) => give_walk(store, count, a, here),
+        _ => give_ground(store, count, 0, 0, 0),
     }
 }
 
@@ -279,7 +300,8 @@ pub fn give_union(
     if walks >= WALKS {
         return Err(ShapeFault::NoMemory);
     }
-    give_ground(store, count, width as u8, walks as u8)
+    let height = store.height(a).max(store.height(b));
+    give_ground(store, count, width as u8, walks as u8, height)
 }
 
 /// One turn more.
@@ -289,4 +311,5 @@ pub fn take_turn(count: &mut Plan, here: u32)
 {
     count.turns += 1;
     count.depth = count.depth.max(here);
+    count.reach = count.reach.max(here);
 }

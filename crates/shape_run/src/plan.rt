@@ -9,6 +9,8 @@ pub struct Plan {
     pub turns: u32,
     pub width: u32,
     pub walks: u32,
+    /// How deep the evaluation goes where bags are walked within walks: at least `depth`, which the definition says nothing of.
+    pub reach: u32,
 }
 
 /// Why a program has no plan: the first limit that its run without data passes, and where.
@@ -20,6 +22,6 @@ pub enum ShapeFault {
     TooLong { span: Span },
     /// A union is more than 64 tables wide.
     TooWide { span: Span, width: u32 },
-    /// Memory ran out, or a walk of a bag takes more than 64 walks with itself.
+    /// Memory ran out, a walk of a bag takes more than 64 walks with itself, or walks within walks would be evaluated too deep.
     NoMemory,
 }

@@ -61,7 +61,7 @@ pub fn shape(alloc: Global, sig: &Sig, term: &Term) -> Result<Plan, ShapeFault>
 {
     let (nodes, root) = term.parts();
     let mut store = Store::new(alloc);
-    let Ok(table) = store.ground(1, 0) else {
+    let Ok(table) = store.ground(1, 0, 0) else {
         return Err(ShapeFault::NoMemory);
     };
     let Ok(scope) = bind_tables(&mut store, sig, table) else {
@@ -72,6 +72,7 @@ pub fn shape(alloc: Global, sig: &Sig, term: &Term) -> Result<Plan, ShapeFault>
         turns: 0,
         width: 0,
         walks: 0,
+        reach: 0,
     };
     let _ = visit(nodes, &mut store, &mut plan, scope, root, limit(), 1)?;
     Ok(plan)

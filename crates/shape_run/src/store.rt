@@ -13,8 +13,8 @@ use std::alloc::Global;
 /// A shape, or a name with its shape before others. Numbers are those of cells, of a scope 0 or one more than its cell's.
 #[derive(Clone, Copy)]
 pub enum Cell {
-    /// How many tables wide it is, and how many walks the functions of its bags take for a row.
-    Ground(u8, u8),
+    /// How many tables wide it is, how many walks the functions of its bags take for a row, and how deep they are evaluated.
+    Ground(u8, u8, u32),
     Pair(u32, u32),
     Bang(u32),
     /// The name, the number of the body's term, and the scope.
@@ -63,11 +63,11 @@ impl Store {
     }
 
     /// The shape of a ground value.
-    pub fn ground(&mut self, width: u8, walks: u8) -> Result<u32, NoMemory>
+    pub fn ground(&mut self, width: u8, walks: u8, height: u32) -> Result<u32, NoMemory>
         ensures is { Adds self.new.cells.items result (λ N p. p ≡ Rattle.shape_law.specs.Shapes.Wide width walks) }
         ensures grown { Grown self.old.cells.items self.new.cells.items }
     {
-        self.push(Cell::Ground(width, walks))
+        self.push(Cell::Ground(width, walks, height))
     }
 
     /// A function, with the number of its body's term.
@@ -105,7 +105,7 @@ impl Store {
         ensures { (N : List Term) (p : Shape) → IsShape N self.now.cells.items k p → result ≡ width_of p }
     {
         match self.cell(k) {
-            Cell::Ground(w, _) => w,
+            Cell::Ground(w, _, _) => w,
             _ => 0,
         }
     }
@@ -116,7 +116,17 @@ impl Store {
         ensures { (N : List Term) (p : Shape) → IsShape N self.now.cells.items k p → result ≡ walks_of p }
     {
         match self.cell(k) {
-            Cell::Ground(_, n) => n,
+            Cell::Ground(_, n, _) => n,
+            _ => 0,
+        }
+    }
+
+    /// How deep the functions of a ground value's bags are evaluated, with the walks that they take. Nothing is proved of it.
+    pub fn height(&self, k: u32) -> u32
+        requires { HasShape self.now.cells.items k }
+    {
+        match self.cell(k) {
+            Cell::Ground(_, _, n) => n,
             _ => 0,
         }
     }
@@ -126,7 +136,7 @@ impl Store {
         ensures { (N : List Term) (p : Shape) → IsShape N self.now.cells.items k p → result ≡ is_wide p }
     {
         match self.cell(k) {
-            Cell::Ground(_, _) => true,
+            Cell::Ground(_, _, _) => true,
             _ => false,
         }
     }
@@ -150,7 +160,8 @@ impl Store {
         if self.are_ground(a, b) {
             let width = self.width(a).max(self.width(b));
             let walks = self.walks(a).max(self.walks(b));
-            return self.ground(width, walks);
+            let height = self.height(a).max(self.height(b));
+            return self.ground(width, walks, height);
         }
         self.push(Cell::Pair(a, b))
     }
@@ -162,9 +173,9 @@ impl Store {
         ensures grown { Grown self.old.cells.items self.new.cells.items }
     {
         match self.cell(k) {
-            Cell::Ground(_, _) => Ok(k),
+            Cell::Ground(_, _, _) => Ok(k),
             Cell::Pair(a, _) => Ok(a),
-            _ => self.push(Cell::Ground(0, 0)),
+            _ => self.push(Cell::Ground(0, 0, 0)),
         }
     }
 
@@ -175,9 +186,9 @@ impl Store {
         ensures grown { Grown self.old.cells.items self.new.cells.items }
     {
         match self.cell(k) {
-            Cell::Ground(_, _) => Ok(k),
+            Cell::Ground(_, _, _) => Ok(k),
             Cell::Pair(_, b) => Ok(b),
-            _ => self.push(Cell::Ground(0, 0)),
+            _ => self.push(Cell::Ground(0, 0, 0)),
         }
     }
 
@@ -200,9 +211,9 @@ impl Store {
         ensures grown { Grown self.old.cells.items self.new.cells.items }
     {
         match self.cell(k) {
-            Cell::Ground(_, _) => Ok(k),
+            Cell::Ground(_, _, _) => Ok(k),
             Cell::Bang(a) => Ok(a),
-            _ => self.push(Cell::Ground(0, 0)),
+            _ => self.push(Cell::Ground(0, 0, 0)),
         }
     }
 
@@ -228,7 +239,8 @@ impl Store {
     {
         let width = self.width(side);
         let walks = self.walks(side);
-        let Ok(k) = self.ground(width, walks) else {
+        let height = self.height(side);
+        let Ok(k) = self.ground(width, walks, height) else {
             return Err(NoMemory);
         };
         self.bind(name, k, scope)

@@ -198,7 +198,7 @@ fn enter(
             };
             visit_under(nodes, store, count, scope, name, held, body, left, here)
         }
-        _ => give_ground(store, count, 0, 0),
+        _ => give_ground(store, count, 0, 0, 0),
     }
 }
 
@@ -226,7 +226,7 @@ fn combine(
         Binary::Pair | Binary::With => give_pair(store, count, a, b),
         Binary::App => enter(nodes, store, count, a, b, left, here),
         Binary::Plus | Binary::Minus | Binary::AtMost | Binary::Equal => give_ground(
-            store, count, 0, 0,
+            store, count, 0, 0, 0,
         ),
         Binary::Union => give_union(store, count, span, a, b),
         Binary::Map | Binary::Filter | Binary::Split => {
@@ -253,15 +253,14 @@ fn over(
         → TellsAnywhere nodes.now.terms store.new.cells.items count.new result (λ s. over (walk left here) s p q (tally_of count.old)) }
     ensures grown { Grown store.old.cells.items store.new.cells.items }
 {
-    let width = store.width(b);
-    let inside = store.walks(b);
-    let Ok(element) = store.ground(0, 0) else {
+    let Ok(element) = store.ground(0, 0, 0) else {
         return Err(ShapeFault::NoMemory);
     };
-    let before = count.walks;
+    let before = *count;
     count.walks = 0;
+    count.reach = here;
     let _ = enter(nodes, store, count, c, element, left, here)?;
-    give_bag(store, count, width, inside, before)
+    give_bag(store, count, b, before, here)
 }
 
 // The shape of a term after its own turn. Its parts are at `here`.
@@ -285,7 +284,7 @@ fn visit_parts(
     let node = nodes.node(i);
     if let Some(e) = part_of(&node.form) {
         let a = visit(nodes, store, count, scope, e, left, here)?;
-        return give_part(store, count, &node.form, a);
+        return give_part(store, count, &node.form, a, here);
     }
     match node.form {
         Form::Binary(form, a, b) => {

@@ -10,7 +10,7 @@ use Rattle.std.proofs.lemmas.Result.{err_from_is_err_and}
 use Rattle.shape_law.specs.Shapes.{Also, Wide, first_half, in_bang, second_half}
 use Rattle.shape_run.specs.declared.store.Cell.TheVariants.{Fn, Fun}
 use Rattle.shape_run.proofs.CellFacts.{grown_on, in_cells, read, scope_kept, shape_kept}
-use Rattle.shape_run.proofs.Steps.{a_turn, branches_then, case_then, if_then, known_case, known_if, known_let_pair, leaf_known, leaf_then, IsLeft, let_pair_then, node_case, node_if, node_let_pair, second_branch_stops, known_let_bang, let_bang_then, node_let_bang, binary_then, bag_of_side, over_stops, over_then, part_known, part_stops, part_then, known_binary, known_let, let_then, no_function, node_binary, node_let, node_span, past_limit, second_stops, to}
+use Rattle.shape_run.proofs.Steps.{a_turn, branches_then, case_then, if_then, known_case, known_if, known_let_pair, leaf_known, leaf_then, IsLeft, let_pair_then, node_case, node_if, node_let_pair, second_branch_stops, known_let_bang, let_bang_then, node_let_bang, binary_then, over_stops, over_then, part_known, part_stops, part_then, known_binary, known_let, let_then, no_function, node_binary, node_let, node_span, past_limit, second_stops, to}
 use Rattle.shape_run.proofs.walk.+visiting.Goals as goal
 
 pub combine-give_pair-requires : goal.combine-give_pair-requires
@@ -239,11 +239,10 @@ visit_parts-visit-requires-in-Binary t c = search rules
 pub visit_parts-returns-in_err-a-clause-grown : goal.visit_parts-returns-in_err-a-clause-grown
 visit_parts-returns-in_err-a-clause-grown t c = search rules
 
-pub over-width-width-requires : goal.over-width-width-requires
-over-width-width-requires t c = (c.args.nodes.now.terms, c.requires.bag.0, c.requires.bag.1)
-
-pub over-walks-inside-requires : goal.over-walks-inside-requires
-over-walks-inside-requires t c = (c.args.nodes.now.terms, c.requires.bag.0, c.requires.bag.1)
+pub over-give_bag-requires : goal.over-give_bag-requires
+over-give_bag-requires t c =
+    let q = c.requires.bag in
+    (c.args.nodes.now.terms, q.0, shape_kept c.args.nodes.now.terms c.args.store.now.cells.items c.enter.new.store.cells.items c.args.b q.0 (grown_on c.args.store.now.cells.items c.ground.new.self.cells.items c.enter.new.store.cells.items c.ground.ensures.grown c.enter.ensures.grown) q.1)
 
 pub over-enter-requires : goal.over-enter-requires
 over-enter-requires t c =
@@ -262,9 +261,8 @@ pub over-returns-clause-is : goal.over-returns-clause-is
 over-returns-clause-is t c = λ p q h k s.
     let a = c.in_ok-enter.ensures.is p (Wide 0 0) (shape_kept c.args.nodes.now.terms c.args.store.now.cells.items c.ground.new.self.cells.items c.args.c p c.ground.ensures.grown h) (c.in-Ok.ensures.is c.args.nodes.now.terms (Wide 0 0) refl) in
     to (Tells c.args.nodes.now.terms c.give_bag.new.store.cells.items c.give_bag.new.count c.give_bag.result) _ _
-    (over_then (walk c.args.left c.args.here) s p q a.0 (tally_of c.args.count.now) (tally_of c.enter.new.count) a.2
-    ∙ bag_of_side s q c.width-width.result c.walks-inside.result c.args.count.now.walks (tally_of c.enter.new.count) (c.width-width.ensures c.args.nodes.now.terms q k) (c.walks-inside.ensures c.args.nodes.now.terms q k))
-    (c.give_bag.ensures.is c.args.nodes.now.terms s)
+    (over_then (walk c.args.left c.args.here) s p q a.0 (tally_of c.args.count.now) (tally_of c.enter.new.count) a.2)
+    (c.give_bag.ensures.is c.args.nodes.now.terms q (shape_kept c.args.nodes.now.terms c.args.store.now.cells.items c.enter.new.store.cells.items c.args.b q (grown_on c.args.store.now.cells.items c.ground.new.self.cells.items c.enter.new.store.cells.items c.ground.ensures.grown c.enter.ensures.grown) k) s)
 
 pub over-returns-clause-grown : goal.over-returns-clause-grown
 over-returns-clause-grown t c = grown_on c.args.store.now.cells.items c.ground.new.self.cells.items c.give_bag.new.store.cells.items c.ground.ensures.grown (grown_on c.ground.new.self.cells.items c.enter.new.store.cells.items c.give_bag.new.store.cells.items c.enter.ensures.grown c.give_bag.ensures.grown)
