@@ -15,52 +15,52 @@ use Rattle.shape_law.specs.Worked.{PassesLimit, Plans}
 abbrev id : Shape
 id = FunS (codes "x") (at nowhere (VarE (codes "x"))) Nothing
 
-wider_of_two : wider (Wide 2 0) (Wide 3 0) ≡ Wide 3 0
+wider_of_two : wider (Wide 2 0 0) (Wide 3 0 0) ≡ Wide 3 0 0
 wider_of_two = refl
 
 function_has_no_width : width_of id ≡ 0
 function_has_no_width = refl
 
-ground_pair : pair_shape (Wide 3 0) (Wide 2 0) ≡ Wide 3 0
+ground_pair : pair_shape (Wide 3 0 0) (Wide 2 0 0) ≡ Wide 3 0 0
 ground_pair = refl
 
-pair_with_a_function : pair_shape (Wide 3 0) id ≡ PairS (Wide 3 0) id
+pair_with_a_function : pair_shape (Wide 3 0 0) id ≡ PairS (Wide 3 0 0) id
 pair_with_a_function = refl
 
-halves_of_ground : pair_shape (first_half (Wide 3 0)) (second_half (Wide 3 0)) ≡ Wide 3 0
+halves_of_ground : pair_shape (first_half (Wide 3 0 0)) (second_half (Wide 3 0 0)) ≡ Wide 3 0 0
 halves_of_ground = refl
 
-first_of_a_pair : first_half (PairS (Wide 3 0) id) ≡ Wide 3 0
+first_of_a_pair : first_half (PairS (Wide 3 0 0) id) ≡ Wide 3 0 0
 first_of_a_pair = refl
 
-second_of_a_pair : second_half (PairS (Wide 3 0) id) ≡ id
+second_of_a_pair : second_half (PairS (Wide 3 0 0) id) ≡ id
 second_of_a_pair = refl
 
-ground_bang : bang_shape (Wide 2 0) ≡ Wide 2 0
+ground_bang : bang_shape (Wide 2 0 0) ≡ Wide 2 0 0
 ground_bang = refl
 
 bang_of_a_function : bang_shape id ≡ BangS id
 bang_of_a_function = refl
 
-held_by_ground : in_bang (Wide 2 0) ≡ Wide 2 0
+held_by_ground : in_bang (Wide 2 0 0) ≡ Wide 2 0 0
 held_by_ground = refl
 
 held_by_a_bang : in_bang (BangS id) ≡ id
 held_by_a_bang = refl
 
-innermost_name : shape_of (Also (codes "x") (Wide 1 0) (Also (codes "x") (Wide 2 0) Nothing)) (codes "x") ≡ Wide 1 0
+innermost_name : shape_of (Also (codes "x") (Wide 1 0 0) (Also (codes "x") (Wide 2 0 0) Nothing)) (codes "x") ≡ Wide 1 0 0
 innermost_name = refl
 
-outer_name : shape_of (Also (codes "x") (Wide 1 0) (Also (codes "y") (Wide 2 0) Nothing)) (codes "y") ≡ Wide 2 0
+outer_name : shape_of (Also (codes "x") (Wide 1 0 0) (Also (codes "y") (Wide 2 0 0) Nothing)) (codes "y") ≡ Wide 2 0 0
 outer_name = refl
 
-a_table_is_one_wide : table_shapes worked_tables ≡ Also (codes "people") (Wide 1 0) Nothing
+a_table_is_one_wide : table_shapes worked_tables ≡ Also (codes "people") (Wide 1 0 0) Nothing
 a_table_is_one_wide = refl
 
 -- a term under names, visited at depth 1 with five depths left: its shape, and the turns, depth and width
 
 abbrev under : Shapes
-under = Also (codes "b") (Wide 2 0) (Also (codes "a") (Wide 1 0) Nothing)
+under = Also (codes "b") (Wide 2 0 0) (Also (codes "a") (Wide 1 0 0) Nothing)
 
 abbrev a : Term
 a = at nowhere (VarE (codes "a"))
@@ -68,25 +68,25 @@ a = at nowhere (VarE (codes "a"))
 abbrev b : Term
 b = at nowhere (VarE (codes "b"))
 
-abbrev Takes : Term → Shape → (turns depth width walks : ℕ) → Type 0
-Takes t r turns depth width walks = walk 5 1 under t start ≡ Shaped r (record { turns = turns; depth = depth; width = width; walks = walks })
+abbrev Takes : Term → Shape → (turns depth width walks reach : ℕ) → Type 0
+Takes t r turns depth width walks reach = walk 5 1 under t start ≡ Shaped r (record { turns = turns; depth = depth; width = width; walks = walks; reach = reach })
 
--- and with no walks
+-- and with no walks, evaluated as deep as it is visited
 abbrev Visits : Term → Shape → (turns depth width : ℕ) → Type 0
-Visits t r turns depth width = Takes t r turns depth width 0
+Visits t r turns depth width = Takes t r turns depth width 0 depth
 
 -- leaves
 
-a_name : Visits b (Wide 2 0) 1 1 2
+a_name : Visits b (Wide 2 0 0) 1 1 2
 a_name = refl
 
-a_number : Visits (at nowhere (NumE (pos 7))) (Wide 0 0) 1 1 0
+a_number : Visits (at nowhere (NumE (pos 7))) (Wide 0 0 0) 1 1 0
 a_number = refl
 
-a_text : Visits (at nowhere (TextE (codes "t"))) (Wide 0 0) 1 1 0
+a_text : Visits (at nowhere (TextE (codes "t"))) (Wide 0 0 0) 1 1 0
 a_text = refl
 
-a_unit : Visits (at nowhere UnitE) (Wide 0 0) 1 1 0
+a_unit : Visits (at nowhere UnitE) (Wide 0 0 0) 1 1 0
 a_unit = refl
 
 -- the body of a function isn't visited where the function stands
@@ -99,69 +99,69 @@ a_fn = refl
 
 -- one part, one deeper
 
-a_first : Visits (at nowhere (FstE b)) (Wide 2 0) 2 2 2
+a_first : Visits (at nowhere (FstE b)) (Wide 2 0 0) 2 2 2
 a_first = refl
 
-a_second : Visits (at nowhere (SndE b)) (Wide 2 0) 2 2 2
+a_second : Visits (at nowhere (SndE b)) (Wide 2 0 0) 2 2 2
 a_second = refl
 
-an_inl : Visits (at nowhere (InlE nowhere UnitT b)) (Wide 2 0) 2 2 2
+an_inl : Visits (at nowhere (InlE nowhere UnitT b)) (Wide 2 0 0) 2 2 2
 an_inl = refl
 
-an_inr : Visits (at nowhere (InrE nowhere UnitT b)) (Wide 2 0) 2 2 2
+an_inr : Visits (at nowhere (InrE nowhere UnitT b)) (Wide 2 0 0) 2 2 2
 an_inr = refl
 
-a_bang : Visits (at nowhere (BangE (Fin 2 1) b)) (Wide 2 0) 2 2 2
+a_bang : Visits (at nowhere (BangE (Fin 2 1) b)) (Wide 2 0 0) 2 2 2
 a_bang = refl
 
-a_multiple : Visits (at nowhere (TimesE (pos 3) b)) (Wide 0 0) 2 2 2
+a_multiple : Visits (at nowhere (TimesE (pos 3) b)) (Wide 0 0 0) 2 2 2
 a_multiple = refl
 
-a_clip : Visits (at nowhere (ClipE (pos 0) (pos 9) b)) (Wide 0 0) 2 2 2
+a_clip : Visits (at nowhere (ClipE (pos 0) (pos 9) b)) (Wide 0 0 0) 2 2 2
 a_clip = refl
 
-a_least : Visits (at nowhere (LeastE b)) (Wide 0 0) 2 2 2
+a_least : Visits (at nowhere (LeastE b)) (Wide 0 0 0) 2 2 2
 a_least = refl
 
-a_greatest : Visits (at nowhere (GreatestE b)) (Wide 0 0) 2 2 2
+a_greatest : Visits (at nowhere (GreatestE b)) (Wide 0 0 0) 2 2 2
 a_greatest = refl
 
-a_size : Takes (at nowhere (SizeE b)) (Wide 0 0) 2 2 2 1
+a_size : Takes (at nowhere (SizeE b)) (Wide 0 0 0) 2 2 2 1 2
 a_size = refl
 
-a_sum : Takes (at nowhere (SumE (pos 0) (pos 9) b)) (Wide 0 0) 2 2 2 1
+a_sum : Takes (at nowhere (SumE (pos 0) (pos 9) b)) (Wide 0 0 0) 2 2 2 1 2
 a_sum = refl
 
 -- two parts, both one deeper
 
-a_pair : Visits (at nowhere (PairE a b)) (Wide 2 0) 3 2 2
+a_pair : Visits (at nowhere (PairE a b)) (Wide 2 0 0) 3 2 2
 a_pair = refl
 
-a_with : Visits (at nowhere (WithE b a)) (Wide 2 0) 3 2 2
+a_with : Visits (at nowhere (WithE b a)) (Wide 2 0 0) 3 2 2
 a_with = refl
 
-an_addition : Visits (at nowhere (PlusE a b)) (Wide 0 0) 3 2 2
+an_addition : Visits (at nowhere (PlusE a b)) (Wide 0 0 0) 3 2 2
 an_addition = refl
 
-a_subtraction : Visits (at nowhere (MinusE a b)) (Wide 0 0) 3 2 2
+a_subtraction : Visits (at nowhere (MinusE a b)) (Wide 0 0 0) 3 2 2
 a_subtraction = refl
 
-an_at_most : Visits (at nowhere (LeE a b)) (Wide 0 0) 3 2 2
+an_at_most : Visits (at nowhere (LeE a b)) (Wide 0 0 0) 3 2 2
 an_at_most = refl
 
-an_equal : Visits (at nowhere (EqE a b)) (Wide 0 0) 3 2 2
+an_equal : Visits (at nowhere (EqE a b)) (Wide 0 0 0) 3 2 2
 an_equal = refl
 
 -- widths of a union add up, and where it is the widest it is kept
-a_union : Visits (at nowhere (UnionE a b)) (Wide 3 0) 3 2 3
+a_union : Visits (at nowhere (UnionE a b)) (Wide 3 0 0) 3 2 3
 a_union = refl
 
 -- names bound
 
-a_let : Visits (at nowhere (LetE (codes "x") b (at nowhere (VarE (codes "x"))))) (Wide 2 0) 3 2 2
+a_let : Visits (at nowhere (LetE (codes "x") b (at nowhere (VarE (codes "x"))))) (Wide 2 0 0) 3 2 2
 a_let = refl
 
-a_let_bang : Visits (at nowhere (LetBangE (codes "x") b (at nowhere (VarE (codes "x"))))) (Wide 2 0) 3 2 2
+a_let_bang : Visits (at nowhere (LetBangE (codes "x") b (at nowhere (VarE (codes "x"))))) (Wide 2 0 0) 3 2 2
 a_let_bang = refl
 
 -- `let (x, y) = (a, fun (z : num) => z) in x`: the first name has the first half's shape
@@ -171,7 +171,7 @@ z = at nowhere (VarE (codes "z"))
 abbrev unequal_pair : Term
 unequal_pair = at nowhere (PairE a (at nowhere (FunE (codes "z") nowhere NumT z)))
 
-a_let_pair_first : Visits (at nowhere (LetPairE (codes "x") (codes "y") unequal_pair (at nowhere (VarE (codes "x"))))) (Wide 1 0) 5 3 1
+a_let_pair_first : Visits (at nowhere (LetPairE (codes "x") (codes "y") unequal_pair (at nowhere (VarE (codes "x"))))) (Wide 1 0 0) 5 3 1
 a_let_pair_first = refl
 
 a_let_pair_second : Visits (at nowhere (LetPairE (codes "x") (codes "y") unequal_pair (at nowhere (VarE (codes "y"))))) (FunS (codes "z") z under) 5 3 1
@@ -183,21 +183,21 @@ a_let_pair_same = refl
 
 -- the condition, and then both branches; the result has the greater width
 
-an_if : Visits (at nowhere (IfE a (at nowhere (UnionE a b)) a)) (Wide 3 0) 6 3 3
+an_if : Visits (at nowhere (IfE a (at nowhere (UnionE a b)) a)) (Wide 3 0 0) 6 3 3
 an_if = refl
 
-an_if_wide_at_last : Visits (at nowhere (IfE a a (at nowhere (UnionE a b)))) (Wide 3 0) 6 3 3
+an_if_wide_at_last : Visits (at nowhere (IfE a a (at nowhere (UnionE a b)))) (Wide 3 0 0) 6 3 3
 an_if_wide_at_last = refl
 
 -- a condition's width isn't the result's
-an_if_over_a_wide_condition : Visits (at nowhere (IfE b a a)) (Wide 1 0) 4 2 2
+an_if_over_a_wide_condition : Visits (at nowhere (IfE b a a)) (Wide 1 0 0) 4 2 2
 an_if_over_a_wide_condition = refl
 
 -- a case's names are as wide as its condition, in both branches
-a_case_left : Visits (at nowhere (CaseE b (codes "x") (at nowhere (VarE (codes "x"))) (codes "y") a)) (Wide 2 0) 4 2 2
+a_case_left : Visits (at nowhere (CaseE b (codes "x") (at nowhere (VarE (codes "x"))) (codes "y") a)) (Wide 2 0 0) 4 2 2
 a_case_left = refl
 
-a_case_right : Visits (at nowhere (CaseE b (codes "x") a (codes "y") (at nowhere (VarE (codes "y"))))) (Wide 2 0) 4 2 2
+a_case_right : Visits (at nowhere (CaseE b (codes "x") a (codes "y") (at nowhere (VarE (codes "y"))))) (Wide 2 0 0) 4 2 2
 a_case_right = refl
 
 -- applications: the function, the argument, and the body, one deeper than the application
@@ -205,52 +205,53 @@ a_case_right = refl
 abbrev x_twice : Term
 x_twice = at nowhere (UnionE (at nowhere (VarE (codes "x"))) (at nowhere (VarE (codes "x"))))
 
-an_application : Visits (at nowhere (AppE (at nowhere (FunE (codes "x") nowhere NumT x_twice)) b)) (Wide 4 0) 6 3 4
+an_application : Visits (at nowhere (AppE (at nowhere (FunE (codes "x") nowhere NumT x_twice)) b)) (Wide 4 0 0) 6 3 4
 an_application = refl
 
-an_unlimited_application : Visits (at nowhere (AppE (at nowhere (FnE (codes "x") nowhere NumT x_twice)) (at nowhere (BangE (Fin 2 1) b)))) (Wide 4 0) 7 3 4
+an_unlimited_application : Visits (at nowhere (AppE (at nowhere (FnE (codes "x") nowhere NumT x_twice)) (at nowhere (BangE (Fin 2 1) b)))) (Wide 4 0 0) 7 3 4
 an_unlimited_application = refl
 
 -- a body keeps the names where the function stood: `let f = fun (x : num) => a in let a = b in f b`
-old_names : Visits (at nowhere (LetE (codes "f") (at nowhere (FunE (codes "x") nowhere NumT a)) (at nowhere (LetE (codes "a") b (at nowhere (AppE (at nowhere (VarE (codes "f"))) b)))))) (Wide 1 0) 8 4 2
+old_names : Visits (at nowhere (LetE (codes "f") (at nowhere (FunE (codes "x") nowhere NumT a)) (at nowhere (LetE (codes "a") b (at nowhere (AppE (at nowhere (VarE (codes "f"))) b)))))) (Wide 1 0 0) 8 4 2
 old_names = refl
 
 -- applied twice, a body is visited twice: `(f b, f b)` under `f`
 twice_applied : Visits (at nowhere (LetE (codes "f") (at nowhere (FunE (codes "x") nowhere NumT x_twice)) (at nowhere (PairE (at nowhere (AppE (at nowhere (VarE (codes "f"))) b)) (at nowhere (AppE (at nowhere (VarE (codes "f"))) b))))))
-    (Wide 4 0) 15 5 4
+    (Wide 4 0 0) 15 5 4
 twice_applied = refl
 
--- a bag primitive: function, bag and then the function's body once with `G(0)`; the result is as wide as the bag
+-- a bag primitive: function, bag and then the function's body once with `G(0)`; the result is as wide as the bag,
+-- and its functions are evaluated as deep as the body, wherever it is walked
 
 abbrev x_more : Term
 x_more = at nowhere (PlusE (at nowhere (VarE (codes "x"))) (at nowhere (NumE (pos 1))))
 
-a_map : Visits (at nowhere (MapE (at nowhere (FnE (codes "x") nowhere NumT x_more)) b)) (Wide 2 0) 6 3 2
+a_map : Takes (at nowhere (MapE (at nowhere (FnE (codes "x") nowhere NumT x_more)) b)) (Wide 2 0 1) 6 3 2 0 2
 a_map = refl
 
-a_filter : Visits (at nowhere (FilterE (at nowhere (FnE (codes "x") nowhere NumT x_more)) b)) (Wide 2 0) 6 3 2
+a_filter : Takes (at nowhere (FilterE (at nowhere (FnE (codes "x") nowhere NumT x_more)) b)) (Wide 2 0 1) 6 3 2 0 2
 a_filter = refl
 
-a_split : Visits (at nowhere (SplitE (at nowhere (FnE (codes "x") nowhere NumT x_more)) b)) (Wide 2 0) 6 3 2
+a_split : Takes (at nowhere (SplitE (at nowhere (FnE (codes "x") nowhere NumT x_more)) b)) (Wide 2 0 1) 6 3 2 0 2
 a_split = refl
 
 -- the body's width isn't the result's, but it is met
-a_wide_body : Visits (at nowhere (MapE (at nowhere (FnE (codes "x") nowhere NumT b)) a)) (Wide 1 0) 4 2 2
+a_wide_body : Visits (at nowhere (MapE (at nowhere (FnE (codes "x") nowhere NumT b)) a)) (Wide 1 0 0) 4 2 2
 a_wide_body = refl
 
 -- whole programs
 
-counts_of_halves : Plans split_in_halves 12 4 1 2
+counts_of_halves : Plans split_in_halves 12 4 1 2 5
 unfolding depth_limit
-counts_of_halves = (Wide 0 0, refl)
+counts_of_halves = (Wide 0 0 0, refl)
 
-a_bang_undone : Plans bang_undone 5 4 1 1
+a_bang_undone : Plans bang_undone 5 4 1 1 4
 unfolding depth_limit
-a_bang_undone = (Wide 0 0, refl)
+a_bang_undone = (Wide 0 0 0, refl)
 
-unused_branches : Plans unused_names 6 4 1 1
+unused_branches : Plans unused_names 6 4 1 1 4
 unfolding depth_limit
-unused_branches = (Wide 0 0, refl)
+unused_branches = (Wide 0 0 0, refl)
 
 -- limits
 
@@ -260,7 +261,7 @@ nested zero = at (span 0 0) (NumE (pos 1))
 nested (suc n) = at (span n (suc n)) (LeastE (nested n))
 
 -- 128 visits below each other are within the depth, and the 129th is not
-just_deep : shape worked_tables (nested 127) ≡ Shaped (Wide 0 0) (record { turns = 128; depth = 128; width = 0; walks = 0 })
+just_deep : shape worked_tables (nested 127) ≡ Shaped (Wide 0 0 0) (record { turns = 128; depth = 128; width = 0; walks = 0; reach = 128 })
 unfolding depth_limit
 just_deep = refl
 
@@ -274,9 +275,9 @@ too_deep_within = refl
 
 -- after so many turns a term is visited, or not
 abbrev after : ℕ → Tally
-after n = record { turns = n; depth = 0; width = 0; walks = 0 }
+after n = record { turns = n; depth = 0; width = 0; walks = 0; reach = 0 }
 
-last_turn : walk 5 1 under (numeral_at 3 4 7) (after 19999) ≡ Shaped (Wide 0 0) (record { turns = 20000; depth = 1; width = 0; walks = 0 })
+last_turn : walk 5 1 under (numeral_at 3 4 7) (after 19999) ≡ Shaped (Wide 0 0 0) (record { turns = 20000; depth = 1; width = 0; walks = 0; reach = 1 })
 last_turn = refl
 
 too_long : walk 5 1 under (numeral_at 3 4 7) (after 20000) ≡ Stops (TooLong (span 3 4))
@@ -291,12 +292,12 @@ too_deep_first : walk 0 1 under (numeral_at 3 4 7) (after 20000) ≡ Stops (TooD
 too_deep_first = refl
 
 abbrev wide_names : ℕ → Shapes
-wide_names w = Also (codes "x") (Wide w 0) (Also (codes "y") (Wide 32 0) Nothing)
+wide_names w = Also (codes "x") (Wide w 0 0) (Also (codes "y") (Wide 32 0 0) Nothing)
 
 abbrev wide_union : Term
 wide_union = at (span 0 9) (UnionE (name_at 6 7 (codes "x")) (name_at 8 9 (codes "y")))
 
-just_wide : walk 5 1 (wide_names 32) wide_union start ≡ Shaped (Wide 64 0) (record { turns = 3; depth = 2; width = 64; walks = 0 })
+just_wide : walk 5 1 (wide_names 32) wide_union start ≡ Shaped (Wide 64 0 0) (record { turns = 3; depth = 2; width = 64; walks = 0; reach = 2 })
 just_wide = refl
 
 too_wide : walk 5 1 (wide_names 33) wide_union start ≡ Stops (TooWide (span 0 9) 65)
@@ -357,7 +358,7 @@ body_after_bag = refl
 
 -- an element has no width: a union over it in the body is as wide as the other side
 element_without_width : walk 5 1 under (at nowhere (MapE (at nowhere (FnE (codes "x") nowhere NumT (at nowhere (UnionE (at nowhere (VarE (codes "x"))) b)))) a)) start
-    ≡ Shaped (Wide 1 0) (record { turns = 6; depth = 3; width = 2; walks = 0 })
+    ≡ Shaped (Wide 1 0 1) (record { turns = 6; depth = 3; width = 2; walks = 0; reach = 2 })
 element_without_width = refl
 
 -- a `fun` takes a bang whole, and an `fn` what it holds; so do `let` and `let !x`
@@ -396,9 +397,9 @@ abbrev ten_functions : ℕ → Term
 ten_functions n =
     at (span 0 0) (LetE (codes "f") (at (span 0 0) (FunE (codes "x") nowhere NumT (multiples 33 (name_at 7 8 (codes "x"))))) (twice_applied_in 9 (multiples n (at (span 0 0) (AppE (name_at 0 0 (codes "f")) (numeral_at 0 0 1))))))
 
-whole_just_long : Plans (ten_functions 14) 20000 77 0 0
+whole_just_long : Plans (ten_functions 14) 20000 77 0 0 77
 unfolding depth_limit
-whole_just_long = (Wide 0 0, refl)
+whole_just_long = (Wide 0 0 0, refl)
 
 whole_too_long : PassesLimit (ten_functions 15) (TooLong (span 7 8))
 unfolding depth_limit
@@ -421,15 +422,20 @@ walks_told (Shaped r k) = k.walks
 walks_told (Stops f) = 0
 walks_told (TooManyWalks s) = 0
 
+abbrev reach_told : WalkOutcome → ℕ
+reach_told (Shaped r k) = k.reach
+reach_told (Stops f) = 0
+reach_told (TooManyWalks s) = 0
+
 -- `true` and `false` are two nodes each, at the one span
 
-a_true : Visits (TrueE nowhere) (Wide 0 0) 2 2 0
+a_true : Visits (TrueE nowhere) (Wide 0 0 0) 2 2 0
 a_true = refl
 
-a_false : Visits (FalseE nowhere) (Wide 0 0) 2 2 0
+a_false : Visits (FalseE nowhere) (Wide 0 0 0) 2 2 0
 a_false = refl
 
-true_is_not_one_turn : Visits (TrueE nowhere) (Wide 0 0) 1 1 0 → ⊥
+true_is_not_one_turn : Visits (TrueE nowhere) (Wide 0 0 0) 1 1 0 → ⊥
 true_is_not_one_turn h = let told : 2 ≡ 1 = ap turns_told h in absurd (omega (arith, told))
 
 inside_of_true_is_too_deep : walk 1 1 under (TrueE (span 3 7)) start ≡ Stops (TooDeep (span 3 7))
@@ -439,26 +445,26 @@ inside_of_false_is_too_long : walk 5 1 under (FalseE (span 3 8)) (after 19999) �
 inside_of_false_is_too_long = refl
 
 -- a case's condition is no part of its width
-a_case_over_a_wide_condition : Visits (at nowhere (CaseE b (codes "x") a (codes "y") a)) (Wide 1 0) 4 2 2
+a_case_over_a_wide_condition : Visits (at nowhere (CaseE b (codes "x") a (codes "y") a)) (Wide 1 0 0) 4 2 2
 a_case_over_a_wide_condition = refl
 
-not_as_wide_as_the_condition : Visits (at nowhere (CaseE b (codes "x") a (codes "y") a)) (Wide 2 0) 4 2 2 → ⊥
+not_as_wide_as_the_condition : Visits (at nowhere (CaseE b (codes "x") a (codes "y") a)) (Wide 2 0 0) 4 2 2 → ⊥
 not_as_wide_as_the_condition h = absurd (cc h)
 
 -- a bag primitive's function may be a `fun (x : ![inf] num)`, whose element is in a bang: no width, and held by none
 abbrev fun_of_elements : Term
 fun_of_elements = at nowhere (FunE (codes "x") nowhere (BangT Inf NumT) (at nowhere (LetBangE (codes "y") x (at nowhere (UnionE (at nowhere (VarE (codes "y"))) b)))))
 
-a_map_by_a_fun : Visits (at nowhere (MapE fun_of_elements a)) (Wide 1 0) 8 4 2
+a_map_by_a_fun : Takes (at nowhere (MapE fun_of_elements a)) (Wide 1 0 2) 8 4 2 0 2
 a_map_by_a_fun = refl
 
-a_filter_by_a_fun : Visits (at nowhere (FilterE fun_of_elements a)) (Wide 1 0) 8 4 2
+a_filter_by_a_fun : Takes (at nowhere (FilterE fun_of_elements a)) (Wide 1 0 2) 8 4 2 0 2
 a_filter_by_a_fun = refl
 
-a_split_by_a_fun : Visits (at nowhere (SplitE fun_of_elements a)) (Wide 1 0) 8 4 2
+a_split_by_a_fun : Takes (at nowhere (SplitE fun_of_elements a)) (Wide 1 0 2) 8 4 2 0 2
 a_split_by_a_fun = refl
 
-not_a_bang_of_a_bag : Visits (at nowhere (MapE fun_of_elements a)) (Wide 1 0) 8 4 3 → ⊥
+not_a_bang_of_a_bag : Visits (at nowhere (MapE fun_of_elements a)) (Wide 1 0 0) 8 4 3 → ⊥
 not_a_bang_of_a_bag h = let told : 2 ≡ 3 = ap width_told h in absurd (omega (arith, told))
 
 -- a union that is itself too deep or too late is told so, though it would be too wide, too
@@ -483,7 +489,7 @@ late_union_is_not_told_wide h = absurd (cc h)
 abbrev wide_function : Term → Term
 wide_function body = at (span 0 40) (LetE (codes "f") (at (span 1 2) (FunE (codes "z") nowhere NumT wide_union)) body)
 
-never_applied : walk 5 1 (wide_names 33) (wide_function (name_at 30 31 (codes "y"))) start ≡ Shaped (Wide 32 0) (record { turns = 3; depth = 2; width = 32; walks = 0 })
+never_applied : walk 5 1 (wide_names 33) (wide_function (name_at 30 31 (codes "y"))) start ≡ Shaped (Wide 32 0 0) (record { turns = 3; depth = 2; width = 32; walks = 0; reach = 2 })
 never_applied = refl
 
 once_applied : walk 5 1 (wide_names 33) (wide_function (at (span 30 33) (AppE (name_at 30 31 (codes "f")) (name_at 32 33 (codes "y"))))) start ≡ Stops (TooWide (span 0 9) 65)
@@ -546,29 +552,30 @@ body_of_split = (refl, refl)
 
 -- walks of bags
 
-wider_takes_the_greater : wider (Wide 2 5) (Wide 3 4) ≡ Wide 3 5
+wider_takes_the_greater : wider (Wide 2 5 0) (Wide 3 4 0) ≡ Wide 3 5 0
 wider_takes_the_greater = refl
 
-pair_takes_the_greater : pair_shape (Wide 3 4) (Wide 2 5) ≡ Wide 3 5
+pair_takes_the_greater : pair_shape (Wide 3 4 0) (Wide 2 5 0) ≡ Wide 3 5 0
 pair_takes_the_greater = refl
 
-unions_add_up : union_shape (Wide 2 5) (Wide 3 4) ≡ Wide 5 9
+unions_add_up : union_shape (Wide 2 5 0) (Wide 3 4 0) ≡ Wide 5 9 0
 unions_add_up = refl
 
-side_takes_the_same : side_shape (Wide 2 5) ≡ Wide 2 5
+side_takes_the_same : side_shape (Wide 2 5 0) ≡ Wide 2 5 0
 side_takes_the_same = refl
 
 function_takes_no_walks : walks_of id ≡ 0
 function_takes_no_walks = refl
 
 -- a visit under x, whose functions take i walks for a row, and y, which takes 3
-abbrev TakesUnder : (i : ℕ) → Term → Shape → (turns depth width walks : ℕ) → Type 0
-TakesUnder i t r turns depth width walks =
-    walk 6 1 (Also (codes "x") (Wide 1 i) (Also (codes "y") (Wide 1 3) Nothing)) t start ≡ Shaped r (record { turns = turns; depth = depth; width = width; walks = walks })
+abbrev TakesUnder : (i : ℕ) → Term → Shape → (turns depth width walks reach : ℕ) → Type 0
+TakesUnder i t r turns depth width walks reach =
+    walk 6 1 (Also (codes "x") (Wide 1 i 0) (Also (codes "y") (Wide 1 3 0) Nothing)) t start
+    ≡ Shaped r (record { turns = turns; depth = depth; width = width; walks = walks; reach = reach })
 
 -- and its bag at this span takes too many
 abbrev RefusedUnder : (i : ℕ) → Term → (from to : ℕ) → Type 0
-RefusedUnder i t from to = walk 6 1 (Also (codes "x") (Wide 1 i) (Also (codes "y") (Wide 1 3) Nothing)) t start ≡ TooManyWalks (span from to)
+RefusedUnder i t from to = walk 6 1 (Also (codes "x") (Wide 1 i 0) (Also (codes "y") (Wide 1 3 0) Nothing)) t start ≡ TooManyWalks (span from to)
 
 abbrev y : Term
 y = at nowhere (VarE (codes "y"))
@@ -587,85 +594,85 @@ abbrev in_halves : Term → Term → Term
 in_halves body bag = at (span 3 8) (SplitE (at nowhere (FnE (codes "z") nowhere NumT body)) bag)
 
 -- a walk, with those that the bag's functions take for a row
-size_of_a_table : TakesUnder 0 (counted x) (Wide 0 0) 2 2 1 1
+size_of_a_table : TakesUnder 0 (counted x) (Wide 0 0 0) 2 2 1 1 2
 size_of_a_table = refl
 
-size_of_a_bag : TakesUnder 5 (counted x) (Wide 0 0) 2 2 1 6
+size_of_a_bag : TakesUnder 5 (counted x) (Wide 0 0 0) 2 2 1 6 2
 size_of_a_bag = refl
 
-sum_of_a_bag : TakesUnder 5 (at nowhere (SumE (pos 0) (pos 9) x)) (Wide 0 0) 2 2 1 6
+sum_of_a_bag : TakesUnder 5 (at nowhere (SumE (pos 0) (pos 9) x)) (Wide 0 0 0) 2 2 1 6 2
 sum_of_a_bag = refl
 
-not_a_walk_less : TakesUnder 5 (counted x) (Wide 0 0) 2 2 1 5 → ⊥
+not_a_walk_less : TakesUnder 5 (counted x) (Wide 0 0 0) 2 2 1 5 2 → ⊥
 not_a_walk_less h = let told : 6 ≡ 5 = ap walks_told h in absurd (omega (arith, told))
 
 -- walks beside one another add up; a bag that is used twice is walked twice
-used_twice : TakesUnder 5 (at nowhere (PlusE (counted x) (counted x))) (Wide 0 0) 5 3 1 12
+used_twice : TakesUnder 5 (at nowhere (PlusE (counted x) (counted x))) (Wide 0 0 0) 5 3 1 12 3
 used_twice = refl
 
-both_branches : TakesUnder 5 (at nowhere (IfE (counted x) (counted x) (counted y))) (Wide 0 0) 7 3 1 16
+both_branches : TakesUnder 5 (at nowhere (IfE (counted x) (counted x) (counted y))) (Wide 0 0 0) 7 3 1 16 3
 both_branches = refl
 
 -- a bag that isn't walked takes none; an `if`, a `case` and a pair take what the greater of theirs does, and a union what both do
 
-greater_branch : TakesUnder 5 (at nowhere (IfE z x y)) (Wide 1 5) 4 2 1 0
+greater_branch : TakesUnder 5 (at nowhere (IfE z x y)) (Wide 1 5 0) 4 2 1 0 2
 greater_branch = refl
 
-lesser_branch_first : TakesUnder 2 (at nowhere (IfE z x y)) (Wide 1 3) 4 2 1 0
+lesser_branch_first : TakesUnder 2 (at nowhere (IfE z x y)) (Wide 1 3 0) 4 2 1 0 2
 lesser_branch_first = refl
 
-name_of_a_case : TakesUnder 5 (at nowhere (CaseE x (codes "l") (at nowhere (VarE (codes "l"))) (codes "r") z)) (Wide 1 5) 4 2 1 0
+name_of_a_case : TakesUnder 5 (at nowhere (CaseE x (codes "l") (at nowhere (VarE (codes "l"))) (codes "r") z)) (Wide 1 5 0) 4 2 1 0 2
 name_of_a_case = refl
 
-side_of_a_sum : TakesUnder 5 (at nowhere (InlE nowhere UnitT x)) (Wide 1 5) 2 2 1 0
+side_of_a_sum : TakesUnder 5 (at nowhere (InlE nowhere UnitT x)) (Wide 1 5 0) 2 2 1 0 2
 side_of_a_sum = refl
 
-a_union_of_both : TakesUnder 5 (at nowhere (UnionE x y)) (Wide 2 8) 3 2 2 0
+a_union_of_both : TakesUnder 5 (at nowhere (UnionE x y)) (Wide 2 8 0) 3 2 2 0 2
 a_union_of_both = refl
 
-a_pair_of_both : TakesUnder 2 (at nowhere (PairE x y)) (Wide 1 3) 3 2 1 0
+a_pair_of_both : TakesUnder 2 (at nowhere (PairE x y)) (Wide 1 3 0) 3 2 1 0 2
 a_pair_of_both = refl
 
 -- What a function's body walks is taken for each row of its bag, and where the function stands no walk is counted.
 
-walk_in_a_map : TakesUnder 5 (mapped (counted x) y) (Wide 1 9) 5 3 1 0
+walk_in_a_map : TakesUnder 5 (mapped (counted x) y) (Wide 1 9 1) 5 3 1 0 2
 walk_in_a_map = refl
 
-walk_in_a_filter : TakesUnder 5 (filtered (counted x) y) (Wide 1 9) 5 3 1 0
+walk_in_a_filter : TakesUnder 5 (filtered (counted x) y) (Wide 1 9 1) 5 3 1 0 2
 walk_in_a_filter = refl
 
-walk_in_a_split : TakesUnder 5 (in_halves (counted x) y) (Wide 1 9) 5 3 1 0
+walk_in_a_split : TakesUnder 5 (in_halves (counted x) y) (Wide 1 9 1) 5 3 1 0 2
 walk_in_a_split = refl
 
-walk_of_a_map : TakesUnder 5 (counted (mapped (counted x) y)) (Wide 0 0) 6 4 1 10
+walk_of_a_map : TakesUnder 5 (counted (mapped (counted x) y)) (Wide 0 0 0) 6 4 1 10 3
 walk_of_a_map = refl
 
-map_without_a_walk : TakesUnder 5 (counted (mapped z x)) (Wide 0 0) 5 3 1 6
+map_without_a_walk : TakesUnder 5 (counted (mapped z x)) (Wide 0 0 0) 5 3 1 6 3
 map_without_a_walk = refl
 
 -- for each table of the bag, so that it has the rows of both where each table has one
-walk_over_a_union : TakesUnder 5 (mapped (counted y) (at nowhere (UnionE x x))) (Wide 2 18) 7 3 2 0
+walk_over_a_union : TakesUnder 5 (mapped (counted y) (at nowhere (UnionE x x))) (Wide 2 18 1) 7 3 2 0 3
 walk_over_a_union = refl
 
-walk_of_a_union : TakesUnder 5 (counted (at nowhere (UnionE x x))) (Wide 0 0) 4 3 2 11
+walk_of_a_union : TakesUnder 5 (counted (at nowhere (UnionE x x))) (Wide 0 0 0) 4 3 2 11 3
 walk_of_a_union = refl
 
 -- a function's body doesn't see what was walked before it, which counts on: x is walked, then y's map, then y
-walks_before_a_map : TakesUnder 5 (at nowhere (PlusE (counted x) (counted (mapped (counted y) y)))) (Wide 0 0) 9 5 1 14
+walks_before_a_map : TakesUnder 5 (at nowhere (PlusE (counted x) (counted (mapped (counted y) y)))) (Wide 0 0 0) 9 5 1 14 4
 walks_before_a_map = refl
 
-walks_before_are_kept : TakesUnder 5 (at nowhere (PlusE (counted x) (counted (mapped (counted y) y)))) (Wide 0 0) 9 5 1 8 → ⊥
+walks_before_are_kept : TakesUnder 5 (at nowhere (PlusE (counted x) (counted (mapped (counted y) y)))) (Wide 0 0 0) 9 5 1 8 4 → ⊥
 walks_before_are_kept h = let told : 14 ≡ 8 = ap walks_told h in absurd (omega (arith, told))
 
 -- the limit: what the bag's functions took and what this one takes is at most 63
 
-just_few_enough : TakesUnder 59 (mapped (counted x) y) (Wide 1 63) 5 3 1 0
+just_few_enough : TakesUnder 59 (mapped (counted x) y) (Wide 1 63 1) 5 3 1 0 2
 just_few_enough = refl
 
 one_too_many : RefusedUnder 60 (mapped (counted x) y) 3 8
 one_too_many = refl
 
-just_few_enough_before : TakesUnder 59 (mapped (counted y) x) (Wide 1 63) 5 3 1 0
+just_few_enough_before : TakesUnder 59 (mapped (counted y) x) (Wide 1 63 1) 5 3 1 0 2
 just_few_enough_before = refl
 
 one_too_many_before : RefusedUnder 60 (mapped (counted y) x) 3 8
@@ -678,20 +685,20 @@ one_too_many_in_a_split : RefusedUnder 60 (in_halves (counted x) y) 3 8
 one_too_many_in_a_split = refl
 
 -- of a union, too, and of the tables of one
-just_few_enough_in_a_union : TakesUnder 60 (at (span 3 8) (UnionE x y)) (Wide 2 63) 3 2 2 0
+just_few_enough_in_a_union : TakesUnder 60 (at (span 3 8) (UnionE x y)) (Wide 2 63 0) 3 2 2 0 2
 just_few_enough_in_a_union = refl
 
 one_too_many_in_a_union : RefusedUnder 61 (at (span 3 8) (UnionE x y)) 3 8
 one_too_many_in_a_union = refl
 
-just_few_enough_over_a_union : TakesUnder 0 (mapped (counted y) (at nowhere (UnionE x (at nowhere (UnionE x x))))) (Wide 3 12) 9 4 3 0
+just_few_enough_over_a_union : TakesUnder 0 (mapped (counted y) (at nowhere (UnionE x (at nowhere (UnionE x x))))) (Wide 3 12 1) 9 4 3 0 4
 just_few_enough_over_a_union = refl
 
 one_too_many_over_a_union : RefusedUnder 28 (mapped (counted y) (at nowhere (UnionE x x))) 3 8
 one_too_many_over_a_union = refl
 
 -- walks beside one another have no limit, nor has a bag that is walked last
-many_beside : TakesUnder 63 (at nowhere (PlusE (counted x) (counted x))) (Wide 0 0) 5 3 1 128
+many_beside : TakesUnder 63 (at nowhere (PlusE (counted x) (counted x))) (Wide 0 0 0) 5 3 1 128 3
 many_beside = refl
 
 -- a refusal comes before what stands behind it
@@ -699,5 +706,93 @@ first_comes_first : RefusedUnder 60 (at nowhere (PairE (mapped (counted x) y) (a
 first_comes_first = refl
 
 -- a function that is never applied isn't refused for what its body walks
-never_applied_walks : TakesUnder 60 (at nowhere (LetE (codes "f") (at nowhere (FunE (codes "w") nowhere NumT (mapped (counted x) y))) y)) (Wide 1 3) 3 2 1 0
+never_applied_walks : TakesUnder 60 (at nowhere (LetE (codes "f") (at nowhere (FunE (codes "w") nowhere NumT (mapped (counted x) y))) y)) (Wide 1 3 0) 3 2 1 0 2
 never_applied_walks = refl
+
+-- how deep terms are evaluated
+
+wider_is_as_deep : wider (Wide 2 5 7) (Wide 3 4 6) ≡ Wide 3 5 7
+wider_is_as_deep = refl
+
+pair_is_as_deep : pair_shape (Wide 2 5 6) (Wide 3 4 7) ≡ Wide 3 5 7
+pair_is_as_deep = refl
+
+union_is_as_deep : union_shape (Wide 2 5 6) (Wide 3 4 7) ≡ Wide 5 9 7
+union_is_as_deep = refl
+
+side_is_as_deep : side_shape (Wide 2 5 6) ≡ Wide 2 5 6
+side_is_as_deep = refl
+
+-- a visit under x, whose functions are evaluated h deep, and y, where it is 3
+abbrev ReachesUnder : (h : ℕ) → Term → Shape → (turns depth width walks reach : ℕ) → Type 0
+ReachesUnder h t r turns depth width walks reach =
+    walk 6 1 (Also (codes "x") (Wide 1 0 h) (Also (codes "y") (Wide 1 0 3) Nothing)) t start
+    ≡ Shaped r (record { turns = turns; depth = depth; width = width; walks = walks; reach = reach })
+
+-- and the walk at this span evaluates them too deep
+abbrev TooDeepUnder : (h : ℕ) → Term → (from to : ℕ) → Type 0
+TooDeepUnder h t from to = walk 6 1 (Also (codes "x") (Wide 1 0 h) (Also (codes "y") (Wide 1 0 3) Nothing)) t start ≡ TooManyWalks (span from to)
+
+-- a walk evaluates the bag's functions from where its part stands
+size_reaches : ReachesUnder 5 (counted x) (Wide 0 0 0) 2 2 1 1 7
+size_reaches = refl
+
+sum_reaches : ReachesUnder 5 (at nowhere (SumE (pos 0) (pos 9) x)) (Wide 0 0 0) 2 2 1 1 7
+sum_reaches = refl
+
+not_one_less : ReachesUnder 5 (counted x) (Wide 0 0 0) 2 2 1 1 6 → ⊥
+not_one_less h = let told : 7 ≡ 6 = ap reach_told h in absurd (omega (arith, told))
+
+-- a bag that isn't walked evaluates nothing
+name_reaches : ReachesUnder 5 x (Wide 1 0 5) 1 1 1 0 1
+name_reaches = refl
+
+deeper_first : ReachesUnder 5 (at nowhere (PlusE (counted x) (counted y))) (Wide 0 0 0) 5 3 1 2 8
+deeper_first = refl
+
+deeper_last : ReachesUnder 5 (at nowhere (PlusE (counted y) (counted x))) (Wide 0 0 0) 5 3 1 2 8
+deeper_last = refl
+
+-- a map's function is as deep as its body with the walks in it, or as the bag's functions before it
+deep_body : ReachesUnder 5 (mapped (counted x) y) (Wide 1 1 6) 5 3 1 0 2
+deep_body = refl
+
+deep_bag : ReachesUnder 5 (mapped (counted y) x) (Wide 1 1 5) 5 3 1 0 2
+deep_bag = refl
+
+flat_body : ReachesUnder 5 (mapped z x) (Wide 1 0 5) 4 2 1 0 2
+flat_body = refl
+
+deep_filter : ReachesUnder 5 (filtered (counted x) y) (Wide 1 1 6) 5 3 1 0 2
+deep_filter = refl
+
+deep_split : ReachesUnder 5 (in_halves (counted x) y) (Wide 1 1 6) 5 3 1 0 2
+deep_split = refl
+
+-- and is evaluated where it is walked
+deep_map_walked : ReachesUnder 5 (counted (mapped (counted x) y)) (Wide 0 0 0) 6 4 1 2 8
+deep_map_walked = refl
+
+-- what was reached before a map is kept
+kept_before_a_map : ReachesUnder 5 (at nowhere (PlusE (counted x) (counted (mapped z y)))) (Wide 0 0 0) 8 4 1 2 8
+kept_before_a_map = refl
+
+-- the limit
+just_shallow : ReachesUnder 398 (at (span 3 8) (SizeE x)) (Wide 0 0 0) 2 2 1 1 400
+just_shallow = refl
+
+one_too_deep : TooDeepUnder 399 (at (span 3 8) (SizeE x)) 3 8
+one_too_deep = refl
+
+just_shallow_sum : ReachesUnder 398 (at (span 3 8) (SumE (pos 0) (pos 9) x)) (Wide 0 0 0) 2 2 1 1 400
+just_shallow_sum = refl
+
+one_too_deep_sum : TooDeepUnder 399 (at (span 3 8) (SumE (pos 0) (pos 9) x)) 3 8
+one_too_deep_sum = refl
+
+-- of a bag that is never walked nothing is refused, nor where it stands in a body that is not
+never_walked : ReachesUnder 399 (mapped (at nowhere (VarE (codes "z"))) x) (Wide 1 0 399) 4 2 1 0 2
+never_walked = refl
+
+walked_in_a_body : TooDeepUnder 398 (mapped (at (span 4 6) (SizeE x)) y) 4 6
+walked_in_a_body = refl

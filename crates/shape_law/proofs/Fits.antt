@@ -14,7 +14,7 @@ use Rattle.shape_law.specs.Shapes.{Also, BangS, FnS, FunS, Nothing, PairS, Shape
 
 mutual
   pub data Fits : Shape → Ty → Value → Type 0 where
-    fits_ground : {w i : ℕ} {A : Ty} {v : Value} → Ground A → Typed A v → Fits (Wide w i) A v
+    fits_ground : {w i d : ℕ} {A : Ty} {v : Value} → Ground A → Typed A v → Fits (Wide w i d) A v
     fits_pair : {s t : Shape} {A B : Ty} {u v : Value} → Fits s A u → Fits t B v → Fits (PairS s t) (TensorT A B) (PairV u v)
     fits_with : {s t : Shape} {A B : Ty} {u v : Value} → Fits s A u → Fits t B v → Fits (PairS s t) (WithT A B) (PairV u v)
     fits_bang : {s : Shape} {r : Distance} {A : Ty} {v : Value} → Fits s A v → Fits (BangS s) (BangT r A) (BangV v)
@@ -38,8 +38,8 @@ ground_typed (ArrowT A B) _ _ g (fits_fun w p f) = absurd g
 ground_typed (ArrowT A B) _ _ g (fits_fn w p f) = absurd g
 
 -- so at a ground type each shape of its width does
-pub as_wide : (w i : ℕ) (A : Ty) (s : Shape) (v : Value) → Ground A → Fits s A v → Fits (Wide w i) A v
-as_wide w i A s v g f = fits_ground g (ground_typed A s v g f)
+pub as_wide : (w i d : ℕ) (A : Ty) (s : Shape) (v : Value) → Ground A → Fits s A v → Fits (Wide w i d) A v
+as_wide w i d A s v g f = fits_ground g (ground_typed A s v g f)
 
 -- a name's value fits its shape
 pub find_fits : {Γ : Context} {x : Name} {A : Ty} {D : Sensitivities} {γ : Env} {σ : Shapes} → IsBound Γ x A D → FitsEnv σ Γ γ → (v : Value) × (find γ x ≡ Some v) × Fits (shape_of σ x) A v

@@ -5,8 +5,8 @@ use Rattle.std.specs.Prelude.{Bool, cond, false, max, nat_le, suc, true, zero, �
 use Rattle.fz_ast.specs.Terms.{AppE, BangE, CaseE, ClipE, EqE, FilterE, FnE, FstE, FunE, GreatestE, IfE, InlE, InrE, LeE, LeastE, LetBangE, LetE, LetPairE, MapE, MinusE, NumE, PairE, PlusE, SizeE, SndE, SplitE, SumE, Term, TextE, TimesE, UnionE, UnitE, VarE, WithE, at}
 use Rattle.fz_ast.specs.declared.span.Span.{Span}
 use Rattle.shape_law.specs.ShapeIn.{Enters, One, OverBag, ShapeIn, ShapeRules, Shaping, Two}
-use Rattle.shape_law.specs.Shapes.{Also, BangS, FnS, FunS, PairS, Shape, Shapes, Wide, bang_shape, first_half, in_bang, pair_shape, second_half, shape_of, side_shape, union_shape, walks_of, width_of, wider}
-use Rattle.shape_law.specs.Walk.{WalkOutcome, ShapeFault, Shaped, Stops, Tally, TooManyWalks, TooWide, Walk, bag, enters, yields, next, after_part, over, over_bag, turn, turn_limit, after_parts, union, walk, walk_limit, walk_rules, walked, weighed, width_limit, with_walks}
+use Rattle.shape_law.specs.Shapes.{Also, BangS, FnS, FunS, PairS, Shape, Shapes, Wide, bang_shape, first_half, in_bang, height_of, pair_shape, second_half, shape_of, side_shape, union_shape, walks_of, width_of, wider}
+use Rattle.shape_law.specs.Walk.{WalkOutcome, ShapeFault, Shaped, Stops, Tally, TooManyWalks, TooWide, Walk, apart, as_before, bag, enters, yields, next, after_part, over, over_bag, reach_limit, turn, turn_limit, after_parts, union, walk, walk_limit, walk_rules, walked, walks_at, weighed, width_limit}
 
 -- one tally after another, where no visit is deeper than D
 pub record Later (D : ℕ) (k k' : Tally) : Type 0 where
@@ -53,13 +53,23 @@ union_is D u p q s k k' h = go (nat_le (width_of p + width_of q) width_limit) h
     go true h = weighed_is D u (union_shape p q) s k k' h
     go false h = cc
 
--- how many walks a tally has is no matter
-walks_before : {D i : ℕ} {k k' : Tally} → Later D (with_walks i k) k' → Later D k k'
-walks_before l = record { deeper = l.deeper; shallow = l.shallow; short = l.short }
+-- how many walks a tally has, and how deep they are, is no matter
+walks_before : {D : ℕ} {k' : Tally} (j k : Tally) → j.depth ≡ k.depth → j.turns ≡ k.turns → Later D j k' → Later D k k'
+walks_before j k d t l =
+    let a = l.deeper in let b = l.shallow in let c = l.short in
+    record { deeper = omega (arith, a, d); shallow = omega (arith, b, d); short = omega (arith, c, t) }
 
-bag_is : (D : ℕ) (u : Span) (q s : Shape) (before : ℕ) (k k' : Tally) → bag u q before k ≡ Shaped s k' → (s ≡ Wide (width_of q) (width_of q * k.walks + walks_of q)) × Later D k k'
-bag_is D u q s before k k' h =
-    let g = weighed_is D u (Wide (width_of q) (width_of q * k.walks + walks_of q)) s (with_walks before k) k' h in (g.0, walks_before g.1)
+walks_is : (D d : ℕ) (u : Span) (p s : Shape) (k k' : Tally) → walks_at d u p k ≡ Shaped s k' → (s ≡ Wide 0 0 0) × Later D k k'
+walks_is D d u p s k k' h = go (nat_le (d + height_of p) reach_limit) h
+  where
+    go : (b : Bool) → cond b (yields (Wide 0 0 0) (walked d p k)) (TooManyWalks u) ≡ Shaped s k' → (s ≡ Wide 0 0 0) × Later D k k'
+    go true h = let g = yields_is D (Wide 0 0 0) s (walked d p k) k' h in (g.0, walks_before (walked d p k) k refl refl g.1)
+    go false h = cc
+
+bag_is : (D d : ℕ) (u : Span) (q s : Shape) (before k k' : Tally) → bag d u q before k ≡ Shaped s k' → (s ≡ Wide (width_of q) (width_of q * k.walks + walks_of q) (max (height_of q) (k.reach - d))) × Later D k k'
+bag_is D d u q s before k k' h =
+    let g = weighed_is D u (Wide (width_of q) (width_of q * k.walks + walks_of q) (max (height_of q) (k.reach - d))) s (as_before before k) k' h in
+    (g.0, walks_before (as_before before k) k refl refl g.1)
 
 -- W gives shapes by R
 abbrev Keeps : ℕ → Walk → (ℕ → Shaping) → Type 0
@@ -118,68 +128,67 @@ module _ (D : ℕ) (W : Walk) (R : ℕ → Shaping) (keeps : Keeps D W R) where
   entered : (c u s : Shape) (k k' : Tally) → enters W c u k ≡ Shaped s k' → Kept D (λ m. Enters (R m) c u s) k k'
   entered (FunS x e σ) u s k k' h = keeps (Also x u σ) e s k k' h
   entered (FnS x e σ) u s k k' h = keeps (Also x (in_bang u) σ) e s k k' h
-  entered (Wide w i) u s k k' h = leaf (Wide 0 0) s k k' h
-  entered (PairS a b) u s k k' h = leaf (Wide 0 0) s k k' h
-  entered (BangS a) u s k k' h = leaf (Wide 0 0) s k k' h
+  entered (Wide w i d) u s k k' h = leaf (Wide 0 0 0) s k k' h
+  entered (PairS a b) u s k k' h = leaf (Wide 0 0 0) s k k' h
+  entered (BangS a) u s k k' h = leaf (Wide 0 0 0) s k k' h
 
   -- a bag's size or sum
-  counted : (σ : Shapes) (e : Term) (s : Shape) (k k' : Tally) → after_part W σ e k (λ p k. yields (Wide 0 0) (walked p k)) ≡ Shaped s k' → Kept D (λ m. One (R m) σ e (λ p. Wide 0 0) s) k k'
-  counted σ e s k k' h =
-      let i = next_is (W σ e k) (λ p k. yields (Wide 0 0) (walked p k)) s k' h in
+  counted : (d : ℕ) (u : Span) (σ : Shapes) (e : Term) (s : Shape) (k k' : Tally) → after_part W σ e k (walks_at d u) ≡ Shaped s k' → Kept D (λ m. One (R m) σ e (λ p. Wide 0 0 0) s) k k'
+  counted d u σ e s k k' h =
+      let i = next_is (W σ e k) (walks_at d u) s k' h in
       let a = keeps σ e i.0 k i.1 i.2 in
-      let g = yields_is D (Wide 0 0) s (walked i.0 i.1) k' i.3 in
-      let l = walks_before g.1 in
-      record { later = follows a.later l; holds = λ m n. (i.0, a.holds m (up_to l.deeper n), g.0) }
+      let g = walks_is D d u i.0 s i.1 k' i.3 in
+      record { later = follows a.later g.1; holds = λ m n. (i.0, a.holds m (up_to g.1.deeper n), g.0) }
 
-  over_is : (u : Span) (σ : Shapes) (f b : Term) (s : Shape) (k k' : Tally) → over_bag W u σ f b k ≡ Shaped s k' → Kept D (λ m. OverBag (R m) σ f b s) k k'
-  over_is u σ f b s k k' h =
-      let r = both σ f b (over W u) Over s k k' inside h in
-      record { later = r.later; holds = λ m n. let o = r.holds m n in (o.0, o.1, o.2, o.3, (o.4.0, o.4.1), o.4.2, o.4.3) }
+  over_is : (d : ℕ) (u : Span) (σ : Shapes) (f b : Term) (s : Shape) (k k' : Tally) → over_bag d W u σ f b k ≡ Shaped s k' → Kept D (λ m. OverBag (R m) σ f b s) k k'
+  over_is d u σ f b s k k' h =
+      let r = both σ f b (over d W u) Over s k k' inside h in
+      record { later = r.later; holds = λ m n. let o = r.holds m n in (o.0, o.1, o.2, o.3, (o.4.0, o.4.1), o.4.2, o.4.3, o.4.4) }
     where
       Over : Shape → Shape → ℕ → Type 0
-      Over = λ c q m. (r : Shape) × Enters (R m) c (Wide 0 0) r × (i : ℕ) × (s ≡ Wide (width_of q) i)
+      Over = λ c q m. (r : Shape) × Enters (R m) c (Wide 0 0 0) r × (i h : ℕ) × (s ≡ Wide (width_of q) i h)
 
-      inside : (c q : Shape) (j : Tally) → over W u c q j ≡ Shaped s k' → Kept D (Over c q) j k'
+      inside : (c q : Shape) (j : Tally) → over d W u c q j ≡ Shaped s k' → Kept D (Over c q) j k'
       inside c q j h =
-          let i = next_is (enters W c (Wide 0 0) (with_walks 0 j)) (λ r. bag u q j.walks) s k' h in
-          let x = entered c (Wide 0 0) i.0 (with_walks 0 j) i.1 i.2 in
-          let g = bag_is D u q s j.walks i.1 k' i.3 in
-          record { later = follows (walks_before x.later) g.1; holds = λ m n. (i.0, x.holds m (up_to g.1.deeper n), _, g.0) }
+          let i = next_is (enters W c (Wide 0 0 0) (apart d j)) (λ r. bag d u q j) s k' h in
+          let x = entered c (Wide 0 0 0) i.0 (apart d j) i.1 i.2 in
+          let g = bag_is D d u q s j i.1 k' i.3 in
+          record { later = follows (walks_before (apart d j) j refl refl x.later) g.1; holds = λ m n. (i.0, x.holds m (up_to g.1.deeper n), _, _, g.0) }
 
-  rules_keep : (σ : Shapes) (t : Term) (s : Shape) (k k' : Tally) → walk_rules W σ t k ≡ Shaped s k' → Kept D (λ m. ShapeRules (R m) σ t s) k k'
-  rules_keep σ (at _ (VarE x)) s k k' h = leaf (shape_of σ x) s k k' h
-  rules_keep σ (at _ (NumE z)) s k k' h = leaf (Wide 0 0) s k k' h
-  rules_keep σ (at _ (TextE t)) s k k' h = leaf (Wide 0 0) s k k' h
-  rules_keep σ (at _ UnitE) s k k' h = leaf (Wide 0 0) s k k' h
-  rules_keep σ (at _ (PairE a b)) s k k' h = pair σ a b pair_shape s k k' h
-  rules_keep σ (at _ (WithE a b)) s k k' h = pair σ a b pair_shape s k k' h
-  rules_keep σ (at _ (FstE e)) s k k' h = alone σ e first_half s k k' h
-  rules_keep σ (at _ (SndE e)) s k k' h = alone σ e second_half s k k' h
-  rules_keep σ (at _ (LetPairE x y e b)) s k k' h = bound σ e b (λ p. Also y (second_half p) (Also x (first_half p) σ)) s k k' h
-  rules_keep σ (at _ (InlE _ T e)) s k k' h = alone σ e side_shape s k k' h
-  rules_keep σ (at _ (InrE _ T e)) s k k' h = alone σ e side_shape s k k' h
-  rules_keep σ (at _ (CaseE e x a y b)) s k k' h = branches σ e a b (λ c. Also x (side_shape c) σ) (λ c. Also y (side_shape c) σ) s k k' h
-  rules_keep σ (at _ (IfE e a b)) s k k' h = branches σ e a b (λ c. σ) (λ c. σ) s k k' h
-  rules_keep σ (at _ (FunE x _ T e)) s k k' h = leaf (FunS x e σ) s k k' h
-  rules_keep σ (at _ (FnE x _ T e)) s k k' h = leaf (FnS x e σ) s k k' h
-  rules_keep σ (at _ (AppE f a)) s k k' h = both σ f a (enters W) (λ c u m. Enters (R m) c u s) s k k' (λ c u j. entered c u s j k') h
-  rules_keep σ (at _ (BangE r e)) s k k' h = alone σ e bang_shape s k k' h
-  rules_keep σ (at _ (LetBangE x e b)) s k k' h = bound σ e b (λ p. Also x (in_bang p) σ) s k k' h
-  rules_keep σ (at _ (LetE x e b)) s k k' h = bound σ e b (λ p. Also x p σ) s k k' h
-  rules_keep σ (at _ (PlusE a b)) s k k' h = pair σ a b (λ p q. Wide 0 0) s k k' h
-  rules_keep σ (at _ (MinusE a b)) s k k' h = pair σ a b (λ p q. Wide 0 0) s k k' h
-  rules_keep σ (at _ (TimesE n e)) s k k' h = alone σ e (λ p. Wide 0 0) s k k' h
-  rules_keep σ (at _ (LeE a b)) s k k' h = pair σ a b (λ p q. Wide 0 0) s k k' h
-  rules_keep σ (at _ (EqE a b)) s k k' h = pair σ a b (λ p q. Wide 0 0) s k k' h
-  rules_keep σ (at _ (ClipE lo hi e)) s k k' h = alone σ e (λ p. Wide 0 0) s k k' h
-  rules_keep σ (at _ (LeastE e)) s k k' h = alone σ e (λ p. Wide 0 0) s k k' h
-  rules_keep σ (at _ (GreatestE e)) s k k' h = alone σ e (λ p. Wide 0 0) s k k' h
-  rules_keep σ (at _ (SizeE e)) s k k' h = counted σ e s k k' h
-  rules_keep σ (at _ (SumE lo hi e)) s k k' h = counted σ e s k k' h
-  rules_keep σ (at u (UnionE a b)) s k k' h = both σ a b (union u) (λ p q m. s ≡ union_shape p q) s k k' (λ p q j h. let g = union_is D u p q s j k' h in record { later = g.1; holds = λ m l. g.0 }) h
-  rules_keep σ (at u (MapE f b)) s k k' h = over_is u σ f b s k k' h
-  rules_keep σ (at u (FilterE f b)) s k k' h = over_is u σ f b s k k' h
-  rules_keep σ (at u (SplitE f b)) s k k' h = over_is u σ f b s k k' h
+  rules_keep : (d : ℕ) (σ : Shapes) (t : Term) (s : Shape) (k k' : Tally) → walk_rules d W σ t k ≡ Shaped s k' → Kept D (λ m. ShapeRules (R m) σ t s) k k'
+  rules_keep d σ (at _ (VarE x)) s k k' h = leaf (shape_of σ x) s k k' h
+  rules_keep d σ (at _ (NumE z)) s k k' h = leaf (Wide 0 0 0) s k k' h
+  rules_keep d σ (at _ (TextE t)) s k k' h = leaf (Wide 0 0 0) s k k' h
+  rules_keep d σ (at _ UnitE) s k k' h = leaf (Wide 0 0 0) s k k' h
+  rules_keep d σ (at _ (PairE a b)) s k k' h = pair σ a b pair_shape s k k' h
+  rules_keep d σ (at _ (WithE a b)) s k k' h = pair σ a b pair_shape s k k' h
+  rules_keep d σ (at _ (FstE e)) s k k' h = alone σ e first_half s k k' h
+  rules_keep d σ (at _ (SndE e)) s k k' h = alone σ e second_half s k k' h
+  rules_keep d σ (at _ (LetPairE x y e b)) s k k' h = bound σ e b (λ p. Also y (second_half p) (Also x (first_half p) σ)) s k k' h
+  rules_keep d σ (at _ (InlE _ T e)) s k k' h = alone σ e side_shape s k k' h
+  rules_keep d σ (at _ (InrE _ T e)) s k k' h = alone σ e side_shape s k k' h
+  rules_keep d σ (at _ (CaseE e x a y b)) s k k' h = branches σ e a b (λ c. Also x (side_shape c) σ) (λ c. Also y (side_shape c) σ) s k k' h
+  rules_keep d σ (at _ (IfE e a b)) s k k' h = branches σ e a b (λ c. σ) (λ c. σ) s k k' h
+  rules_keep d σ (at _ (FunE x _ T e)) s k k' h = leaf (FunS x e σ) s k k' h
+  rules_keep d σ (at _ (FnE x _ T e)) s k k' h = leaf (FnS x e σ) s k k' h
+  rules_keep d σ (at _ (AppE f a)) s k k' h = both σ f a (enters W) (λ c u m. Enters (R m) c u s) s k k' (λ c u j. entered c u s j k') h
+  rules_keep d σ (at _ (BangE r e)) s k k' h = alone σ e bang_shape s k k' h
+  rules_keep d σ (at _ (LetBangE x e b)) s k k' h = bound σ e b (λ p. Also x (in_bang p) σ) s k k' h
+  rules_keep d σ (at _ (LetE x e b)) s k k' h = bound σ e b (λ p. Also x p σ) s k k' h
+  rules_keep d σ (at _ (PlusE a b)) s k k' h = pair σ a b (λ p q. Wide 0 0 0) s k k' h
+  rules_keep d σ (at _ (MinusE a b)) s k k' h = pair σ a b (λ p q. Wide 0 0 0) s k k' h
+  rules_keep d σ (at _ (TimesE n e)) s k k' h = alone σ e (λ p. Wide 0 0 0) s k k' h
+  rules_keep d σ (at _ (LeE a b)) s k k' h = pair σ a b (λ p q. Wide 0 0 0) s k k' h
+  rules_keep d σ (at _ (EqE a b)) s k k' h = pair σ a b (λ p q. Wide 0 0 0) s k k' h
+  rules_keep d σ (at _ (ClipE lo hi e)) s k k' h = alone σ e (λ p. Wide 0 0 0) s k k' h
+  rules_keep d σ (at _ (LeastE e)) s k k' h = alone σ e (λ p. Wide 0 0 0) s k k' h
+  rules_keep d σ (at _ (GreatestE e)) s k k' h = alone σ e (λ p. Wide 0 0 0) s k k' h
+  rules_keep d σ (at u (SizeE e)) s k k' h = counted d u σ e s k k' h
+  rules_keep d σ (at u (SumE lo hi e)) s k k' h = counted d u σ e s k k' h
+  rules_keep d σ (at u (UnionE a b)) s k k' h = both σ a b (union u) (λ p q m. s ≡ union_shape p q) s k k' (λ p q j h. let g = union_is D u p q s j k' h in record { later = g.1; holds = λ m l. g.0 }) h
+  rules_keep d σ (at u (MapE f b)) s k k' h = over_is d u σ f b s k k' h
+  rules_keep d σ (at u (FilterE f b)) s k k' h = over_is d u σ f b s k k' h
+  rules_keep d σ (at u (SplitE f b)) s k k' h = over_is d u σ f b s k k' h
 
 -- a turn that isn't past the limit
 pub turn_is : (b : Bool) (f : ShapeFault) (o : WalkOutcome) (s : Shape) (k' : Tally) → cond b (Stops f) o ≡ Shaped s k' → (b ≡ false) × (o ≡ Shaped s k')
@@ -201,7 +210,7 @@ walk_keeps D zero here e σ t s k k' h = cc
 walk_keeps D (suc left) here e σ t s k k' h =
     let i = turn_is (nat_le turn_limit k.turns) _ _ s k' h in
     let a = turn_later D here k (omega arith) i.0 in
-    let r = rules_keep D (walk left (suc here)) (λ m. ShapeIn (suc m - suc here)) (walk_keeps D left (suc here) (omega arith)) σ t s (turn here k) k' i.1 in
+    let r = rules_keep D (walk left (suc here)) (λ m. ShapeIn (suc m - suc here)) (walk_keeps D left (suc here) (omega arith)) (suc here) σ t s (turn here k) k' i.1 in
     record {
       later = follows a r.later;
       holds = λ m n. subst (λ c. ShapeIn c σ t s) (one_more here m (seen k.depth here k'.depth m r.later.deeper n)) (r.holds m n);

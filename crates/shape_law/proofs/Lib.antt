@@ -2,6 +2,7 @@ pub mod Fits
 pub mod Runs
 pub mod Kept
 pub mod Widths
+pub mod Reaches
 pub mod Programs
 pub mod Worked
 mod Examples

@@ -11,6 +11,7 @@ use Rattle.metric_values.specs.Values.{BagV}
 use Rattle.shape_law.proofs.Fits.{FitsEnv, fits_also, fits_ground, fits_nothing}
 use Rattle.shape_law.proofs.Runs.{num_run, run}
 use Rattle.shape_law.proofs.Kept.{walk_keeps}
+use Rattle.shape_law.proofs.Reaches.{low_walk}
 use Rattle.shape_law.proofs.Widths.{narrow_walk, tables_narrow}
 use Rattle.shape_law.specs.Law.{Planned, PlansAreWithinLimits, ShapedProgramsRun, WalksHaveHeights}
 use Rattle.shape_law.specs.Walk.{Shaped, depth_limit, start, turn_limit, walk}
@@ -45,11 +46,11 @@ pub shaped : ShapedProgramsRun
 shaped ts t D r l a p s k h =
     planned ts t D r l a p k.depth s (heights depth_limit (table_shapes ts) t s k h).0
 
-pub within_limits : PlansAreWithinLimits
-within_limits ts t s k h =
-    let w = heights depth_limit (table_shapes ts) t s k h in
-    record { deep = w.1; long = w.2; wide = (narrow_walk depth_limit 1 (table_shapes ts) t s start k (tables_narrow ts) (omega arith) h).1 }
-
 pub depth_limit_is : depth_limit ≡ 128
 unfolding depth_limit
 depth_limit_is = refl
+
+pub within_limits : PlansAreWithinLimits
+within_limits ts t s k h =
+    let w = heights depth_limit (table_shapes ts) t s k h in
+    record { deep = w.1; long = w.2; wide = (narrow_walk depth_limit 1 (table_shapes ts) t s start k (tables_narrow ts) (omega arith) h).1; shallow = low_walk depth_limit 1 (omega (arith, depth_limit_is)) (table_shapes ts) t s start k (omega arith) h }

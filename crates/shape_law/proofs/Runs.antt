@@ -64,20 +64,20 @@ bag_run {n} {γ} {e} {A = A} r = let t = typed_run tt r in go t.2 t.1
 
 -- results of ground types
 
-gives_num : {w i : ℕ} (z : ℤ) → IsNumber z → Fits (Wide w i) NumT (NumV z)
+gives_num : {w i d : ℕ} (z : ℤ) → IsNumber z → Fits (Wide w i d) NumT (NumV z)
 gives_num z l = fits_ground tt (typed_num l)
 
-gives_clamped : {w i : ℕ} (z : ℤ) → Fits (Wide w i) NumT (NumV (clamp z))
+gives_clamped : {w i d : ℕ} (z : ℤ) → Fits (Wide w i d) NumT (NumV (clamp z))
 gives_clamped z = gives_num (clamp z) (clamped z)
 
-gives_truth : {w i : ℕ} (b : Bool) → Fits (Wide w i) BoolT (truth b)
+gives_truth : {w i d : ℕ} (b : Bool) → Fits (Wide w i d) BoolT (truth b)
 gives_truth b = fits_ground (tt, tt) (typed_truth b)
 
-inl_fits : (w i : ℕ) (A T : Ty) (s : Shape) (v : Value) → Ground A → Ground T → Fits s A v → Fits (Wide w i) (SumT A T) (InlV v)
-inl_fits w i A T s v g h f = fits_ground (g, h) (typed_inl (ground_typed A s v g f))
+inl_fits : (w i d : ℕ) (A T : Ty) (s : Shape) (v : Value) → Ground A → Ground T → Fits s A v → Fits (Wide w i d) (SumT A T) (InlV v)
+inl_fits w i d A T s v g h f = fits_ground (g, h) (typed_inl (ground_typed A s v g f))
 
-inr_fits : (w i : ℕ) (A T : Ty) (s : Shape) (v : Value) → Ground A → Ground T → Fits s A v → Fits (Wide w i) (SumT T A) (InrV v)
-inr_fits w i A T s v g h f = fits_ground (h, g) (typed_inr (ground_typed A s v g f))
+inr_fits : (w i d : ℕ) (A T : Ty) (s : Shape) (v : Value) → Ground A → Ground T → Fits s A v → Fits (Wide w i d) (SumT T A) (InrV v)
+inr_fits w i d A T s v g h f = fits_ground (h, g) (typed_inr (ground_typed A s v g f))
 
 -- a sum's type is ground, since no other shape fits it
 sum_ground : {s : Shape} {A B : Ty} {v : Value} → Fits s (SumT A B) v → Ground A × Ground B × TypedSum (Typed A) (Typed B) v
@@ -104,15 +104,15 @@ case_run : {n : ℕ} {o : Span} {Γ : Context} {σ : Shapes} {γ : Env} {x y : N
 case_run {n} {o} {Γ} {σ} {γ} {x} {y} {e} {A} {B} {C} a b c p q v rec w f wa wb ta tb g m s ha hb = go s.2 m
   where
     go : {v : Value} → TypedSum (Typed A) (Typed B) v → MeansIn n γ e v → Runs (suc n) γ (at o (CaseE e x a y b)) (wider p q) C
-    go (typed_inl {a = u} t) m = let o = rec _ wa a C _ ta _ _ p (fits_also (fits_ground s.0 t) f) ha in record { value = o.value; does = inl (u, m, o.does); fits = as_wide _ _ C p o.value g o.fits }
-    go (typed_inr {a = u} t) m = let o = rec _ wb b C _ tb _ _ q (fits_also (fits_ground s.1 t) f) hb in record { value = o.value; does = inr (u, m, o.does); fits = as_wide _ _ C q o.value g o.fits }
+    go (typed_inl {a = u} t) m = let o = rec _ wa a C _ ta _ _ p (fits_also (fits_ground s.0 t) f) ha in record { value = o.value; does = inl (u, m, o.does); fits = as_wide _ _ _ C p o.value g o.fits }
+    go (typed_inr {a = u} t) m = let o = rec _ wb b C _ tb _ _ q (fits_also (fits_ground s.1 t) f) hb in record { value = o.value; does = inr (u, m, o.does); fits = as_wide _ _ _ C q o.value g o.fits }
 
 if_run : {n : ℕ} {o : Span} {γ : Env} {e a b : Term} {C : Ty} {c p q : Shape} → Ground C → Runs n γ e c BoolT → Runs n γ a p C → Runs n γ b q C → Runs (suc n) γ (at o (IfE e a b)) (wider p q) C
 if_run {n} {o} {γ} {e} {a} {b} {C} {c} {p} {q} g r i j = let t = typed_run (tt, tt) r in go t.2 t.1
   where
     go : {v : Value} → TypedSum TypedUnit TypedUnit v → MeansIn n γ e v → Runs (suc n) γ (at o (IfE e a b)) (wider p q) C
-    go (typed_inl typed_unit) m = record { value = i.value; does = inl (m, i.does); fits = as_wide _ _ C p i.value g i.fits }
-    go (typed_inr typed_unit) m = record { value = j.value; does = inr (m, j.does); fits = as_wide _ _ C q j.value g j.fits }
+    go (typed_inl typed_unit) m = record { value = i.value; does = inl (m, i.does); fits = as_wide _ _ _ C p i.value g i.fits }
+    go (typed_inr typed_unit) m = record { value = j.value; does = inr (m, j.does); fits = as_wide _ _ _ C q j.value g j.fits }
 
 -- bag primitives
 
@@ -128,15 +128,15 @@ flat_ground (BangT r A) g = flat_ground A g.1
 flat_ground (BagT A) g = absurd g
 
 -- each element as the function takes it
-element_fits : (A : Ty) (x : Flat) → IsFlat A → Typed A (value_of x) → Fits (Wide 0 0) (BangT Inf A) (BangV (value_of x))
+element_fits : (A : Ty) (x : Flat) → IsFlat A → Typed A (value_of x) → Fits (Wide 0 0 0) (BangT Inf A) (BangV (value_of x))
 element_fits A x g t = fits_ground (flat_ground A g) (typed_bang t)
 
--- a function that is entered once at `Wide 0 0` splits each list at that height
-splits_run : (n : ℕ) (A : Ty) (c r : Shape) (v : Value) → Below n → IsFlat A → Enters (ShapeIn n) c (Wide 0 0) r → Fits c (ArrowT (BangT Inf A) BoolT) v
+-- a function that is entered once at `Wide 0 0 0` splits each list at that height
+splits_run : (n : ℕ) (A : Ty) (c r : Shape) (v : Value) → Below n → IsFlat A → Enters (ShapeIn n) c (Wide 0 0 0) r → Fits c (ArrowT (BangT Inf A) BoolT) v
     → (xs : List Flat) → All (λ x. Typed A (value_of x)) xs → (ys zs : List Flat) × Splits (MeansIn n) v xs ys zs
 splits_run n A c r v rec g en fc [] t = ([], [], (refl, refl))
 splits_run n A c r v rec g en fc (x ∷ xs) t =
-    one (enters_run c (Wide 0 0) r (BangT Inf A) BoolT v (BangV (value_of x)) rec en fc (element_fits A x g (All-head P x xs t))) (splits_run n A c r v rec g en fc xs (All-tail P x xs t))
+    one (enters_run c (Wide 0 0 0) r (BangT Inf A) BoolT v (BangV (value_of x)) rec en fc (element_fits A x g (All-head P x xs t))) (splits_run n A c r v rec g en fc xs (All-tail P x xs t))
   where
     P : Flat → Type 0
     P = λ x. Typed A (value_of x)
@@ -149,11 +149,11 @@ splits_run n A c r v rec g en fc (x ∷ xs) t =
     one q m = two q.0 (ground_typed BoolT r q.0 (tt, tt) q.2) q.1 m
 
 -- and maps each, to typed elements
-maps_run : (n : ℕ) (A B : Ty) (c r : Shape) (v : Value) → Below n → IsFlat A → IsFlat B → Enters (ShapeIn n) c (Wide 0 0) r → Fits c (ArrowT (BangT Inf A) B) v
+maps_run : (n : ℕ) (A B : Ty) (c r : Shape) (v : Value) → Below n → IsFlat A → IsFlat B → Enters (ShapeIn n) c (Wide 0 0 0) r → Fits c (ArrowT (BangT Inf A) B) v
     → (xs : List Flat) → All (λ x. Typed A (value_of x)) xs → (ys : List Flat) × Maps (MeansIn n) v xs ys × All (λ y. Typed B (value_of y)) ys
 maps_run n A B c r v rec g h en fc [] t = ([], refl, All-nil (λ y. Typed B (value_of y)))
 maps_run n A B c r v rec g h en fc (x ∷ xs) t =
-    one (enters_run c (Wide 0 0) r (BangT Inf A) B v (BangV (value_of x)) rec en fc (element_fits A x g (All-head P x xs t))) (maps_run n A B c r v rec g h en fc xs (All-tail P x xs t))
+    one (enters_run c (Wide 0 0 0) r (BangT Inf A) B v (BangV (value_of x)) rec en fc (element_fits A x g (All-head P x xs t))) (maps_run n A B c r v rec g h en fc xs (All-tail P x xs t))
   where
     P : Flat → Type 0
     P = λ x. Typed A (value_of x)
@@ -167,21 +167,21 @@ maps_run n A B c r v rec g h en fc (x ∷ xs) t =
         let y = flat B q.0 h k in
         (y.0 ∷ m.0, (y.0, m.0, subst (λ v'. Applies (MeansIn n) v (BangV (value_of x)) v') y.1 q.1, m.1, refl), All-cons Q y.0 m.0 (subst (Typed B) y.1 k) m.2)
 
-map_run : {n : ℕ} {o : Span} {γ : Env} {f e : Term} {A B : Ty} {c q : Shape} (w i : ℕ) → Below n → IsFlat A → IsFlat B → Runs n γ f c (ArrowT (BangT Inf A) B) → Runs n γ e q (BagT A) → Visits (ShapeIn n) c → Runs (suc n) γ (at o (MapE f e)) (Wide w i) (BagT B)
-map_run {n} {A = A} {B = B} {c = c} w i rec g h p q en =
+map_run : {n : ℕ} {o : Span} {γ : Env} {f e : Term} {A B : Ty} {c q : Shape} (w i d : ℕ) → Below n → IsFlat A → IsFlat B → Runs n γ f c (ArrowT (BangT Inf A) B) → Runs n γ e q (BagT A) → Visits (ShapeIn n) c → Runs (suc n) γ (at o (MapE f e)) (Wide w i d) (BagT B)
+map_run {n} {A = A} {B = B} {c = c} w i d rec g h p q en =
     let b = bag_run q in
     let k = maps_run n A B c en.0 p.value rec g h en.1 p.fits b.0 b.2 in
     record { value = BagV k.0; does = (p.value, b.0, k.0, p.does, b.1, k.1, refl); fits = fits_ground tt (typed_bag k.2) }
 
-filter_run : {n : ℕ} {o : Span} {γ : Env} {f e : Term} {A : Ty} {c q : Shape} (w i : ℕ) → Below n → IsFlat A → Runs n γ f c (ArrowT (BangT Inf A) BoolT) → Runs n γ e q (BagT A) → Visits (ShapeIn n) c → Runs (suc n) γ (at o (FilterE f e)) (Wide w i) (BagT A)
-filter_run {n} {A = A} {c = c} w i rec g p q en =
+filter_run : {n : ℕ} {o : Span} {γ : Env} {f e : Term} {A : Ty} {c q : Shape} (w i d : ℕ) → Below n → IsFlat A → Runs n γ f c (ArrowT (BangT Inf A) BoolT) → Runs n γ e q (BagT A) → Visits (ShapeIn n) c → Runs (suc n) γ (at o (FilterE f e)) (Wide w i d) (BagT A)
+filter_run {n} {A = A} {c = c} w i d rec g p q en =
     let b = bag_run q in
     let k = splits_run n A c en.0 p.value rec g en.1 p.fits b.0 b.2 in
     let u = splits_typed (MeansIn n) (λ x. Typed A (value_of x)) p.value b.0 k.0 k.1 b.2 k.2 in
     record { value = BagV k.0; does = (p.value, b.0, k.0, k.1, p.does, b.1, k.2, refl); fits = fits_ground tt (typed_bag u.0) }
 
-split_run : {n : ℕ} {o : Span} {γ : Env} {f e : Term} {A : Ty} {c q : Shape} (w i : ℕ) → Below n → IsFlat A → Runs n γ f c (ArrowT (BangT Inf A) BoolT) → Runs n γ e q (BagT A) → Visits (ShapeIn n) c → Runs (suc n) γ (at o (SplitE f e)) (Wide w i) (TensorT (BagT A) (BagT A))
-split_run {n} {A = A} {c = c} w i rec g p q en =
+split_run : {n : ℕ} {o : Span} {γ : Env} {f e : Term} {A : Ty} {c q : Shape} (w i d : ℕ) → Below n → IsFlat A → Runs n γ f c (ArrowT (BangT Inf A) BoolT) → Runs n γ e q (BagT A) → Visits (ShapeIn n) c → Runs (suc n) γ (at o (SplitE f e)) (Wide w i d) (TensorT (BagT A) (BagT A))
+split_run {n} {A = A} {c = c} w i d rec g p q en =
     let b = bag_run q in
     let k = splits_run n A c en.0 p.value rec g en.1 p.fits b.0 b.2 in
     let u = splits_typed (MeansIn n) (λ x. Typed A (value_of x)) p.value b.0 k.0 k.1 b.2 k.2 in
@@ -214,10 +214,10 @@ run (suc n) Γ w (at _ (LetPairE x y e b)) C _ (is_let_pair {A = A} {B = B} p q)
     record { value = z.value; does = (k.first, k.second, subst (MeansIn n γ e) k.is u.does, z.does); fits = z.fits }
 run (suc n) Γ w (at _ (InlE _ T e)) _ _ (is_inl {A = A} p k g g') σ γ s f h =
     let y = run n Γ w e A _ p σ γ h.0 f h.1 in
-    record { value = InlV y.value; does = (y.value, y.does, refl); fits = rw h.2 (inl_fits _ _ A T h.0 y.value (ground_of A g') (ground_of T g) y.fits) }
+    record { value = InlV y.value; does = (y.value, y.does, refl); fits = rw h.2 (inl_fits _ _ _ A T h.0 y.value (ground_of A g') (ground_of T g) y.fits) }
 run (suc n) Γ w (at _ (InrE _ T e)) _ _ (is_inr {A = A} p k g g') σ γ s f h =
     let y = run n Γ w e A _ p σ γ h.0 f h.1 in
-    record { value = InrV y.value; does = (y.value, y.does, refl); fits = rw h.2 (inr_fits _ _ A T h.0 y.value (ground_of A g') (ground_of T g) y.fits) }
+    record { value = InrV y.value; does = (y.value, y.does, refl); fits = rw h.2 (inr_fits _ _ _ A T h.0 y.value (ground_of A g') (ground_of T g) y.fits) }
 run (suc n) Γ w (at _ (CaseE e x a y b)) C _ (is_case {A = A} {B = B} p q r g) σ γ s f h =
     let u = run n Γ w e (SumT A B) _ p σ γ h.0 f h.3 in
     let t = sum_parts A B (written w p) in
@@ -281,8 +281,8 @@ run (suc n) Γ w (at _ (UnionE a b)) _ _ (is_union {A = A} p q) σ γ s f h =
     let x = bag_run (run n Γ w a (BagT A) _ p σ γ h.0 f h.2) in let y = bag_run (run n Γ w b (BagT A) _ q σ γ h.1 f h.3) in
     record { value = BagV (x.0 ++ y.0); does = (x.0, y.0, x.1, y.1, refl); fits = rw h.4 (fits_ground tt (typed_bag (append_all (λ x. Typed A (value_of x)) x.0 y.0 x.2 y.2))) }
 run (suc n) Γ w (at _ (MapE c b)) _ _ (is_map {A = A} {B = B} p g q) σ γ s f h =
-    rw h.6 (map_run _ h.5 (run n) (elements_flat A (written w q)) (results_flat (BangT Inf A) B (written w p) g) (run n Γ w c (ArrowT (BangT Inf A) B) _ p σ γ h.0 f h.2) (run n Γ w b (BagT A) _ q σ γ h.1 f h.3) h.4)
+    rw h.7 (map_run _ h.5 h.6 (run n) (elements_flat A (written w q)) (results_flat (BangT Inf A) B (written w p) g) (run n Γ w c (ArrowT (BangT Inf A) B) _ p σ γ h.0 f h.2) (run n Γ w b (BagT A) _ q σ γ h.1 f h.3) h.4)
 run (suc n) Γ w (at _ (FilterE c b)) _ _ (is_filter {A = A} p q) σ γ s f h =
-    rw h.6 (filter_run _ h.5 (run n) (elements_flat A (written w q)) (run n Γ w c (ArrowT (BangT Inf A) BoolT) _ p σ γ h.0 f h.2) (run n Γ w b (BagT A) _ q σ γ h.1 f h.3) h.4)
+    rw h.7 (filter_run _ h.5 h.6 (run n) (elements_flat A (written w q)) (run n Γ w c (ArrowT (BangT Inf A) BoolT) _ p σ γ h.0 f h.2) (run n Γ w b (BagT A) _ q σ γ h.1 f h.3) h.4)
 run (suc n) Γ w (at _ (SplitE c b)) _ _ (is_split {A = A} p q) σ γ s f h =
-    rw h.6 (split_run _ h.5 (run n) (elements_flat A (written w q)) (run n Γ w c (ArrowT (BangT Inf A) BoolT) _ p σ γ h.0 f h.2) (run n Γ w b (BagT A) _ q σ γ h.1 f h.3) h.4)
+    rw h.7 (split_run _ h.5 h.6 (run n) (elements_flat A (written w q)) (run n Γ w c (ArrowT (BangT Inf A) BoolT) _ p σ γ h.0 f h.2) (run n Γ w b (BagT A) _ q σ γ h.1 f h.3) h.4)

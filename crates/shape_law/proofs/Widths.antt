@@ -1,18 +1,18 @@
 -- No width that a walk meets is over the limit, where its names' widths aren't.
 use Rattle.std.proofs.Common.{arith, refl, subst}
 use Rattle.std.proofs.lemmas.Bool.{leb-true}
-use Rattle.std.specs.Prelude.{Bool, [], bytes_eq, cond, false, max, nat_le, suc, true, zero, ℕ, ◌+◌, ◌*◌, ◌∷◌, ◌≡◌, ◌≤◌}
+use Rattle.std.specs.Prelude.{Bool, [], bytes_eq, cond, false, max, nat_le, suc, true, zero, ℕ, ◌+◌, ◌-◌, ◌*◌, ◌∷◌, ◌≡◌, ◌≤◌}
 use Rattle.fz_ast.specs.Signature.{Signature}
 use Rattle.fz_ast.specs.Terms.{AppE, BangE, CaseE, ClipE, EqE, FilterE, FnE, FstE, FunE, GreatestE, IfE, InlE, InrE, LeE, LeastE, LetBangE, LetE, LetPairE, MapE, MinusE, Name, NumE, PairE, PlusE, SizeE, SndE, SplitE, SumE, Term, TextE, TimesE, UnionE, UnitE, VarE, WithE, at}
 use Rattle.fz_ast.specs.declared.span.Span.{Span}
-use Rattle.shape_law.specs.Shapes.{Also, BangS, FnS, FunS, Nothing, PairS, Shape, Shapes, Wide, bang_shape, first_half, in_bang, pair_shape, second_half, shape_of, side_shape, table_shapes, union_shape, walks_of, width_of, wider}
-use Rattle.shape_law.specs.Walk.{Shaped, Stops, Tally, TooManyWalks, TooWide, Walk, WalkOutcome, after_part, after_parts, bag, enters, next, over, over_bag, turn, turn_limit, union, walk, walk_limit, walk_rules, walked, weighed, width_limit, with_walks, yields}
+use Rattle.shape_law.specs.Shapes.{Also, BangS, FnS, FunS, Nothing, PairS, Shape, Shapes, Wide, bang_shape, first_half, height_of, in_bang, pair_shape, second_half, shape_of, side_shape, table_shapes, union_shape, walks_of, width_of, wider}
+use Rattle.shape_law.specs.Walk.{Shaped, Stops, Tally, TooManyWalks, TooWide, Walk, WalkOutcome, after_part, after_parts, apart, as_before, bag, enters, next, over, over_bag, reach_limit, turn, turn_limit, union, walk, walk_limit, walk_rules, walked, walks_at, weighed, width_limit, yields}
 use Rattle.shape_law.proofs.Kept.{next_is, turn_is}
 
 mutual
   -- no bag in it is wider than the limit
   pub data Narrow : Shape → Type 0 where
-    narrow_ground : {w i : ℕ} → w ≤ width_limit → Narrow (Wide w i)
+    narrow_ground : {w i d : ℕ} → w ≤ width_limit → Narrow (Wide w i d)
     narrow_pair : {a b : Shape} → Narrow a → Narrow b → Narrow (PairS a b)
     narrow_bang : {a : Shape} → Narrow a → Narrow (BangS a)
     narrow_fun : {x : Name} {e : Term} {σ : Shapes} → NarrowNames σ → Narrow (FunS x e σ)
@@ -24,11 +24,11 @@ mutual
 
 -- words of shapes
 
-none : Narrow (Wide 0 0)
+none : Narrow (Wide 0 0 0)
 none = narrow_ground (omega arith)
 
 width_narrow : (s : Shape) → Narrow s → width_of s ≤ width_limit
-width_narrow (Wide w i) (narrow_ground h) = h
+width_narrow (Wide w i d) (narrow_ground h) = h
 width_narrow (PairS a b) h = omega arith
 width_narrow (BangS a) h = omega arith
 width_narrow (FunS x e σ) h = omega arith
@@ -41,39 +41,39 @@ wider_narrow : (p q : Shape) → Narrow p → Narrow q → Narrow (wider p q)
 wider_narrow p q h g = narrow_ground (omega (arith, width_narrow p h, width_narrow q g))
 
 pair_narrow : (p q : Shape) → Narrow p → Narrow q → Narrow (pair_shape p q)
-pair_narrow (Wide a i) (Wide b j) h g = wider_narrow (Wide a i) (Wide b j) h g
-pair_narrow (Wide a i) (PairS c d) h g = narrow_pair h g
-pair_narrow (Wide a i) (BangS c) h g = narrow_pair h g
-pair_narrow (Wide a i) (FunS x e σ) h g = narrow_pair h g
-pair_narrow (Wide a i) (FnS x e σ) h g = narrow_pair h g
+pair_narrow (Wide a i v) (Wide b j w) h g = wider_narrow (Wide a i v) (Wide b j w) h g
+pair_narrow (Wide a i v) (PairS c d) h g = narrow_pair h g
+pair_narrow (Wide a i v) (BangS c) h g = narrow_pair h g
+pair_narrow (Wide a i v) (FunS x e σ) h g = narrow_pair h g
+pair_narrow (Wide a i v) (FnS x e σ) h g = narrow_pair h g
 pair_narrow (PairS a b) q h g = narrow_pair h g
 pair_narrow (BangS a) q h g = narrow_pair h g
 pair_narrow (FunS x e σ) q h g = narrow_pair h g
 pair_narrow (FnS x e σ) q h g = narrow_pair h g
 
 first_narrow : (p : Shape) → Narrow p → Narrow (first_half p)
-first_narrow (Wide w i) h = h
+first_narrow (Wide w i d) h = h
 first_narrow (PairS a b) (narrow_pair h g) = h
 first_narrow (BangS a) h = none
 first_narrow (FunS x e σ) h = none
 first_narrow (FnS x e σ) h = none
 
 second_narrow : (p : Shape) → Narrow p → Narrow (second_half p)
-second_narrow (Wide w i) h = h
+second_narrow (Wide w i d) h = h
 second_narrow (PairS a b) (narrow_pair h g) = g
 second_narrow (BangS a) h = none
 second_narrow (FunS x e σ) h = none
 second_narrow (FnS x e σ) h = none
 
 bang_narrow : (p : Shape) → Narrow p → Narrow (bang_shape p)
-bang_narrow (Wide w i) h = h
+bang_narrow (Wide w i d) h = h
 bang_narrow (PairS a b) h = narrow_bang h
 bang_narrow (BangS a) h = narrow_bang h
 bang_narrow (FunS x e σ) h = narrow_bang h
 bang_narrow (FnS x e σ) h = narrow_bang h
 
 held_narrow : (p : Shape) → Narrow p → Narrow (in_bang p)
-held_narrow (Wide w i) h = h
+held_narrow (Wide w i d) h = h
 held_narrow (BangS a) (narrow_bang h) = h
 held_narrow (PairS a b) h = none
 held_narrow (FunS x e σ) h = none
@@ -121,8 +121,16 @@ united u p q s k k' l h = go (nat_le (width_of p + width_of q) width_limit) refl
     go true e h = weighs u (union_shape p q) s k k' (narrow_ground (leb-true (width_of p + width_of q) width_limit e)) l h
     go false e h = cc
 
-bagged : (u : Span) (q s : Shape) (before : ℕ) (k k' : Tally) → Narrow q → k.width ≤ width_limit → bag u q before k ≡ Shaped s k' → Stays s k'
-bagged u q s before k k' n l h = weighs u (Wide (width_of q) (width_of q * k.walks + walks_of q)) s (with_walks before k) k' (narrow_ground (width_narrow q n)) l h
+bagged : (d : ℕ) (u : Span) (q s : Shape) (before k k' : Tally) → Narrow q → k.width ≤ width_limit → bag d u q before k ≡ Shaped s k' → Stays s k'
+bagged d u q s before k k' n l h =
+    weighs u (Wide (width_of q) (width_of q * k.walks + walks_of q) (max (height_of q) (k.reach - d))) s (as_before before k) k' (narrow_ground (width_narrow q n)) l h
+
+measured : (d : ℕ) (u : Span) (p s : Shape) (k k' : Tally) → k.width ≤ width_limit → walks_at d u p k ≡ Shaped s k' → Stays s k'
+measured d u p s k k' l h = go (nat_le (d + height_of p) reach_limit) h
+  where
+    go : (b : Bool) → cond b (yields (Wide 0 0 0) (walked d p k)) (TooManyWalks u) ≡ Shaped s k' → Stays s k'
+    go true h = yielded (Wide 0 0 0) s (walked d p k) k' none l h
+    go false h = cc
 
 module _ (W : Walk) (narrow : NarrowWalk W) where
   -- what follows a part whose shape stays within the limit
@@ -158,62 +166,61 @@ module _ (W : Walk) (narrow : NarrowWalk W) where
   entered : (c u s : Shape) (k k' : Tally) → Narrow c → Narrow u → k.width ≤ width_limit → enters W c u k ≡ Shaped s k' → Stays s k'
   entered (FunS x e σ) u s k k' (narrow_fun c) n l h = narrow (Also x u σ) e s k k' (narrow_also n c) l h
   entered (FnS x e σ) u s k k' (narrow_fn c) n l h = narrow (Also x (in_bang u) σ) e s k k' (narrow_also (held_narrow u n) c) l h
-  entered (Wide w i) u s k k' c n l h = yielded (Wide 0 0) s k k' none l h
-  entered (PairS a b) u s k k' c n l h = yielded (Wide 0 0) s k k' none l h
-  entered (BangS a) u s k k' c n l h = yielded (Wide 0 0) s k k' none l h
+  entered (Wide w i d) u s k k' c n l h = yielded (Wide 0 0 0) s k k' none l h
+  entered (PairS a b) u s k k' c n l h = yielded (Wide 0 0 0) s k k' none l h
+  entered (BangS a) u s k k' c n l h = yielded (Wide 0 0 0) s k k' none l h
 
-  counted : (σ : Shapes) (e : Term) (s : Shape) (k k' : Tally) → NarrowNames σ → k.width ≤ width_limit
-      → after_part W σ e k (λ p k. yields (Wide 0 0) (walked p k)) ≡ Shaped s k' → Stays s k'
-  counted σ e s k k' n l h = part σ e (λ p k. yields (Wide 0 0) (walked p k)) s k k' n l (λ p j x y. yielded (Wide 0 0) s (walked p j) k' none y) h
+  counted : (d : ℕ) (u : Span) (σ : Shapes) (e : Term) (s : Shape) (k k' : Tally) → NarrowNames σ → k.width ≤ width_limit → after_part W σ e k (walks_at d u) ≡ Shaped s k' → Stays s k'
+  counted d u σ e s k k' n l h = part σ e (walks_at d u) s k k' n l (λ p j x y. measured d u p s j k' y) h
 
-  over_stays : (u : Span) (σ : Shapes) (f b : Term) (s : Shape) (k k' : Tally) → NarrowNames σ → k.width ≤ width_limit → over_bag W u σ f b k ≡ Shaped s k' → Stays s k'
-  over_stays u σ f b s k k' n l h = parts σ σ f b (over W u) s k k' n n l inside h
+  over_stays : (d : ℕ) (u : Span) (σ : Shapes) (f b : Term) (s : Shape) (k k' : Tally) → NarrowNames σ → k.width ≤ width_limit → over_bag d W u σ f b k ≡ Shaped s k' → Stays s k'
+  over_stays d u σ f b s k k' n l h = parts σ σ f b (over d W u) s k k' n n l inside h
     where
-      inside : (c q : Shape) (j : Tally) → Narrow c → Narrow q → j.width ≤ width_limit → over W u c q j ≡ Shaped s k' → Stays s k'
+      inside : (c q : Shape) (j : Tally) → Narrow c → Narrow q → j.width ≤ width_limit → over d W u c q j ≡ Shaped s k' → Stays s k'
       inside c q j x y z h =
-          let i = next_is (enters W c (Wide 0 0) (with_walks 0 j)) (λ r. bag u q j.walks) s k' h in
-          bagged u q s j.walks i.1 k' y (entered c (Wide 0 0) i.0 (with_walks 0 j) i.1 x none z i.2).1 i.3
+          let i = next_is (enters W c (Wide 0 0 0) (apart d j)) (λ r. bag d u q j) s k' h in
+          bagged d u q s j i.1 k' y (entered c (Wide 0 0 0) i.0 (apart d j) i.1 x none z i.2).1 i.3
 
-  narrow_rules : (σ : Shapes) (t : Term) (s : Shape) (k k' : Tally) → NarrowNames σ → k.width ≤ width_limit → walk_rules W σ t k ≡ Shaped s k' → Stays s k'
-  narrow_rules σ (at _ (VarE x)) s k k' n l h = yielded (shape_of σ x) s k k' (name_narrow σ x n) l h
-  narrow_rules σ (at _ (NumE z)) s k k' n l h = yielded (Wide 0 0) s k k' none l h
-  narrow_rules σ (at _ (TextE t)) s k k' n l h = yielded (Wide 0 0) s k k' none l h
-  narrow_rules σ (at _ UnitE) s k k' n l h = yielded (Wide 0 0) s k k' none l h
-  narrow_rules σ (at _ (PairE a b)) s k k' n l h = pair σ a b pair_shape s k k' n l pair_narrow h
-  narrow_rules σ (at _ (WithE a b)) s k k' n l h = pair σ a b pair_shape s k k' n l pair_narrow h
-  narrow_rules σ (at _ (FstE e)) s k k' n l h = alone σ e first_half s k k' n l first_narrow h
-  narrow_rules σ (at _ (SndE e)) s k k' n l h = alone σ e second_half s k k' n l second_narrow h
-  narrow_rules σ (at _ (LetPairE x y e b)) s k k' n l h =
+  narrow_rules : (d : ℕ) (σ : Shapes) (t : Term) (s : Shape) (k k' : Tally) → NarrowNames σ → k.width ≤ width_limit → walk_rules d W σ t k ≡ Shaped s k' → Stays s k'
+  narrow_rules d σ (at _ (VarE x)) s k k' n l h = yielded (shape_of σ x) s k k' (name_narrow σ x n) l h
+  narrow_rules d σ (at _ (NumE z)) s k k' n l h = yielded (Wide 0 0 0) s k k' none l h
+  narrow_rules d σ (at _ (TextE t)) s k k' n l h = yielded (Wide 0 0 0) s k k' none l h
+  narrow_rules d σ (at _ UnitE) s k k' n l h = yielded (Wide 0 0 0) s k k' none l h
+  narrow_rules d σ (at _ (PairE a b)) s k k' n l h = pair σ a b pair_shape s k k' n l pair_narrow h
+  narrow_rules d σ (at _ (WithE a b)) s k k' n l h = pair σ a b pair_shape s k k' n l pair_narrow h
+  narrow_rules d σ (at _ (FstE e)) s k k' n l h = alone σ e first_half s k k' n l first_narrow h
+  narrow_rules d σ (at _ (SndE e)) s k k' n l h = alone σ e second_half s k k' n l second_narrow h
+  narrow_rules d σ (at _ (LetPairE x y e b)) s k k' n l h =
       bound σ e b (λ p. Also y (second_half p) (Also x (first_half p) σ)) s k k' n l (λ p m. narrow_also (second_narrow p m) (narrow_also (first_narrow p m) n)) h
-  narrow_rules σ (at _ (InlE _ T e)) s k k' n l h = alone σ e side_shape s k k' n l side_narrow h
-  narrow_rules σ (at _ (InrE _ T e)) s k k' n l h = alone σ e side_shape s k k' n l side_narrow h
-  narrow_rules σ (at _ (CaseE e x a y b)) s k k' n l h =
+  narrow_rules d σ (at _ (InlE _ T e)) s k k' n l h = alone σ e side_shape s k k' n l side_narrow h
+  narrow_rules d σ (at _ (InrE _ T e)) s k k' n l h = alone σ e side_shape s k k' n l side_narrow h
+  narrow_rules d σ (at _ (CaseE e x a y b)) s k k' n l h =
       part σ e (λ c k. next (W (Also x (side_shape c) σ) a k) (λ p k. next (W (Also y (side_shape c) σ) b k) (λ q. yields (wider p q)))) s k k' n l
       (λ c j m i. branches (Also x (side_shape c) σ) (Also y (side_shape c) σ) a b s j k' (narrow_also (side_narrow c m) n) (narrow_also (side_narrow c m) n) i) h
-  narrow_rules σ (at _ (IfE e a b)) s k k' n l h =
+  narrow_rules d σ (at _ (IfE e a b)) s k k' n l h =
       part σ e (λ c k. next (W σ a k) (λ p k. next (W σ b k) (λ q. yields (wider p q)))) s k k' n l (λ c j m i. branches σ σ a b s j k' n n i) h
-  narrow_rules σ (at _ (FunE x _ T e)) s k k' n l h = yielded (FunS x e σ) s k k' (narrow_fun n) l h
-  narrow_rules σ (at _ (FnE x _ T e)) s k k' n l h = yielded (FnS x e σ) s k k' (narrow_fn n) l h
-  narrow_rules σ (at _ (AppE f a)) s k k' n l h = parts σ σ f a (enters W) s k k' n n l (λ c u j. entered c u s j k') h
-  narrow_rules σ (at _ (BangE r e)) s k k' n l h = alone σ e bang_shape s k k' n l bang_narrow h
-  narrow_rules σ (at _ (LetBangE x e b)) s k k' n l h = bound σ e b (λ p. Also x (in_bang p) σ) s k k' n l (λ p m. narrow_also (held_narrow p m) n) h
-  narrow_rules σ (at _ (LetE x e b)) s k k' n l h = bound σ e b (λ p. Also x p σ) s k k' n l (λ p m. narrow_also m n) h
-  narrow_rules σ (at _ (PlusE a b)) s k k' n l h = pair σ a b (λ p q. Wide 0 0) s k k' n l (λ p q x y. none) h
-  narrow_rules σ (at _ (MinusE a b)) s k k' n l h = pair σ a b (λ p q. Wide 0 0) s k k' n l (λ p q x y. none) h
-  narrow_rules σ (at _ (TimesE m e)) s k k' n l h = alone σ e (λ p. Wide 0 0) s k k' n l (λ p x. none) h
-  narrow_rules σ (at _ (LeE a b)) s k k' n l h = pair σ a b (λ p q. Wide 0 0) s k k' n l (λ p q x y. none) h
-  narrow_rules σ (at _ (EqE a b)) s k k' n l h = pair σ a b (λ p q. Wide 0 0) s k k' n l (λ p q x y. none) h
-  narrow_rules σ (at _ (ClipE lo hi e)) s k k' n l h = alone σ e (λ p. Wide 0 0) s k k' n l (λ p x. none) h
-  narrow_rules σ (at _ (LeastE e)) s k k' n l h = alone σ e (λ p. Wide 0 0) s k k' n l (λ p x. none) h
-  narrow_rules σ (at _ (GreatestE e)) s k k' n l h = alone σ e (λ p. Wide 0 0) s k k' n l (λ p x. none) h
-  narrow_rules σ (at _ (SizeE e)) s k k' n l h = counted σ e s k k' n l h
-  narrow_rules σ (at _ (SumE lo hi e)) s k k' n l h = counted σ e s k k' n l h
-  narrow_rules σ (at u (UnionE a b)) s k k' n l h = parts σ σ a b (union u) s k k' n n l (λ p q j x y. united u p q s j k') h
-  narrow_rules σ (at u (MapE f b)) s k k' n l h = over_stays u σ f b s k k' n l h
-  narrow_rules σ (at u (FilterE f b)) s k k' n l h = over_stays u σ f b s k k' n l h
-  narrow_rules σ (at u (SplitE f b)) s k k' n l h = over_stays u σ f b s k k' n l h
+  narrow_rules d σ (at _ (FunE x _ T e)) s k k' n l h = yielded (FunS x e σ) s k k' (narrow_fun n) l h
+  narrow_rules d σ (at _ (FnE x _ T e)) s k k' n l h = yielded (FnS x e σ) s k k' (narrow_fn n) l h
+  narrow_rules d σ (at _ (AppE f a)) s k k' n l h = parts σ σ f a (enters W) s k k' n n l (λ c u j. entered c u s j k') h
+  narrow_rules d σ (at _ (BangE r e)) s k k' n l h = alone σ e bang_shape s k k' n l bang_narrow h
+  narrow_rules d σ (at _ (LetBangE x e b)) s k k' n l h = bound σ e b (λ p. Also x (in_bang p) σ) s k k' n l (λ p m. narrow_also (held_narrow p m) n) h
+  narrow_rules d σ (at _ (LetE x e b)) s k k' n l h = bound σ e b (λ p. Also x p σ) s k k' n l (λ p m. narrow_also m n) h
+  narrow_rules d σ (at _ (PlusE a b)) s k k' n l h = pair σ a b (λ p q. Wide 0 0 0) s k k' n l (λ p q x y. none) h
+  narrow_rules d σ (at _ (MinusE a b)) s k k' n l h = pair σ a b (λ p q. Wide 0 0 0) s k k' n l (λ p q x y. none) h
+  narrow_rules d σ (at _ (TimesE m e)) s k k' n l h = alone σ e (λ p. Wide 0 0 0) s k k' n l (λ p x. none) h
+  narrow_rules d σ (at _ (LeE a b)) s k k' n l h = pair σ a b (λ p q. Wide 0 0 0) s k k' n l (λ p q x y. none) h
+  narrow_rules d σ (at _ (EqE a b)) s k k' n l h = pair σ a b (λ p q. Wide 0 0 0) s k k' n l (λ p q x y. none) h
+  narrow_rules d σ (at _ (ClipE lo hi e)) s k k' n l h = alone σ e (λ p. Wide 0 0 0) s k k' n l (λ p x. none) h
+  narrow_rules d σ (at _ (LeastE e)) s k k' n l h = alone σ e (λ p. Wide 0 0 0) s k k' n l (λ p x. none) h
+  narrow_rules d σ (at _ (GreatestE e)) s k k' n l h = alone σ e (λ p. Wide 0 0 0) s k k' n l (λ p x. none) h
+  narrow_rules d σ (at u (SizeE e)) s k k' n l h = counted d u σ e s k k' n l h
+  narrow_rules d σ (at u (SumE lo hi e)) s k k' n l h = counted d u σ e s k k' n l h
+  narrow_rules d σ (at u (UnionE a b)) s k k' n l h = parts σ σ a b (union u) s k k' n n l (λ p q j x y. united u p q s j k') h
+  narrow_rules d σ (at u (MapE f b)) s k k' n l h = over_stays d u σ f b s k k' n l h
+  narrow_rules d σ (at u (FilterE f b)) s k k' n l h = over_stays d u σ f b s k k' n l h
+  narrow_rules d σ (at u (SplitE f b)) s k k' n l h = over_stays d u σ f b s k k' n l h
 
 pub narrow_walk : (left here : ℕ) → NarrowWalk (walk left here)
 narrow_walk zero here σ t s k k' n l h = cc
 narrow_walk (suc left) here σ t s k k' n l h =
-    narrow_rules (walk left (suc here)) (narrow_walk left (suc here)) σ t s (turn here k) k' n l (turn_is (nat_le turn_limit k.turns) _ _ s k' h).1
+    narrow_rules (walk left (suc here)) (narrow_walk left (suc here)) (suc here) σ t s (turn here k) k' n l (turn_is (nat_le turn_limit k.turns) _ _ s k' h).1

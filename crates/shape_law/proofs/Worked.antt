@@ -5,33 +5,33 @@ use Rattle.shape_law.specs.Shapes.{Wide}
 use Rattle.shape_law.specs.Walk.{TooWide, depth_limit}
 use Rattle.shape_law.specs.Worked.{PassesLimit, Plans, WalksTooMuch, doubled, nested, united}
 
-pub counted_plan : Plans counted 2 2 1 1
+pub counted_plan : Plans counted 2 2 1 1 2
 unfolding depth_limit
-counted_plan = (Wide 0 0, refl)
+counted_plan = (Wide 0 0 0, refl)
 
-pub filtered_plan : Plans filtered_and_mapped 12 5 1 1
+pub filtered_plan : Plans filtered_and_mapped 12 5 1 1 4
 unfolding depth_limit
-filtered_plan = (Wide 0 0, refl)
+filtered_plan = (Wide 0 0 0, refl)
 
-pub six_plan : Plans (doubled 6) 26 8 64 1
+pub six_plan : Plans (doubled 6) 26 8 64 1 8
 unfolding depth_limit
-six_plan = (Wide 0 0, refl)
+six_plan = (Wide 0 0 0, refl)
 
 pub seven_plan : PassesLimit (doubled 7) (TooWide (span 0 1) 128)
 unfolding depth_limit
 seven_plan = refl
 
-pub six_nested_plan : Plans (nested 6) 38 9 1 64
+pub six_nested_plan : Plans (nested 6) 38 9 1 64 14
 unfolding depth_limit
-six_nested_plan = (Wide 0 0, refl)
+six_nested_plan = (Wide 0 0 0, refl)
 
 pub seven_nested_plan : WalksTooMuch (nested 7) 0 1
 unfolding depth_limit
 seven_nested_plan = refl
 
-pub three_united_plan : Plans (united 3) 32 8 2 41
+pub three_united_plan : Plans (united 3) 32 8 2 41 10
 unfolding depth_limit
-three_united_plan = (Wide 0 0, refl)
+three_united_plan = (Wide 0 0 0, refl)
 
 pub four_united_plan : WalksTooMuch (united 4) 0 2
 unfolding depth_limit

@@ -10,7 +10,7 @@ use Rattle.metric_law.specs.Means.{HasNumber}
 use Rattle.metric_values.specs.Tables.{Dataset, IsDataset, rows_of}
 use Rattle.shape_law.specs.Shapes.{Shape, Shapes, table_shapes}
 use Rattle.shape_law.specs.ShapeIn.{ShapeIn}
-use Rattle.shape_law.specs.Walk.{Shaped, Tally, depth_limit, shape, start, turn_limit, walk, width_limit}
+use Rattle.shape_law.specs.Walk.{Shaped, Tally, depth_limit, reach_limit, shape, start, turn_limit, walk, width_limit}
 
 -- where an accepted program has a shape by a walk of some height, it has a number on each dataset by a derivation no higher
 abbrev pub Planned : Type 0
@@ -25,14 +25,15 @@ WalksHaveHeights =
     → ShapeIn k.depth σ t s × (k.depth ≤ left) × (k.turns ≤ turn_limit)
 
 -- no limit is passed
-pub record IsWithinLimits (depth turns width : ℕ) : Type 0 where
+pub record IsWithinLimits (depth turns width reach : ℕ) : Type 0 where
   pub deep : depth ≤ depth_limit
   pub long : turns ≤ turn_limit
   pub wide : width ≤ width_limit
+  pub shallow : reach ≤ reach_limit
 
 -- a program's run without data that stops nowhere is within the limits; no types are needed
 abbrev pub PlansAreWithinLimits : Type 0
-PlansAreWithinLimits = (ts : Signature) (t : Term) (s : Shape) (k : Tally) → shape ts t ≡ Shaped s k → IsWithinLimits k.depth k.turns k.width
+PlansAreWithinLimits = (ts : Signature) (t : Term) (s : Shape) (k : Tally) → shape ts t ≡ Shaped s k → IsWithinLimits k.depth k.turns k.width k.reach
 
 -- an accepted program with a shape has a number on each dataset by a derivation no higher than the depth that is told
 abbrev pub ShapedProgramsRun : Type 0

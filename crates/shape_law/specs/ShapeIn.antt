@@ -14,11 +14,11 @@ Shaping = Shapes → Term → Shape → Type 0
 abbrev pub Enters : Shaping → Shape → Shape → Shape → Type 0
 Enters R (FunS x e σ) u r = R (Also x u σ) e r
 Enters R (FnS x e σ) u r = R (Also x (in_bang u) σ) e r
-Enters R c u r = r ≡ Wide 0 0
+Enters R c u r = r ≡ Wide 0 0 0
 
 -- a bag primitive enters its function once, whatever the bag
 abbrev pub Visits : Shaping → Shape → Type 0
-Visits R c = (r : Shape) × Enters R c (Wide 0 0) r
+Visits R c = (r : Shape) × Enters R c (Wide 0 0 0) r
 
 -- a part alone, and two parts
 abbrev pub One : Shaping → Shapes → Term → (Shape → Shape) → Shape → Type 0
@@ -27,16 +27,16 @@ One R σ e f r = (p : Shape) × R σ e p × (r ≡ f p)
 abbrev pub Two : Shaping → Shapes → Term → Term → (Shape → Shape → Shape) → Shape → Type 0
 Two R σ a b f r = (p q : Shape) × R σ a p × R σ b q × (r ≡ f p q)
 
--- a function, a bag and the function's body; the whole is as wide as the bag, and how many walks it takes for a row isn't said
+-- a function, a bag and the function's body; the whole is as wide as the bag, and how many walks it takes for a row, and how deep, isn't said
 abbrev pub OverBag : Shaping → Shapes → Term → Term → Shape → Type 0
-OverBag R σ f b r = (c q : Shape) × R σ f c × R σ b q × Visits R c × (i : ℕ) × (r ≡ Wide (width_of q) i)
+OverBag R σ f b r = (c q : Shape) × R σ f c × R σ b q × Visits R c × (i h : ℕ) × (r ≡ Wide (width_of q) i h)
 
 -- one rule per form of term, over the shapes of its parts
 abbrev pub ShapeRules : Shaping → Shaping
 ShapeRules R σ (at s (VarE x)) r = r ≡ shape_of σ x
-ShapeRules R σ (at s (NumE z)) r = r ≡ Wide 0 0
-ShapeRules R σ (at s (TextE t)) r = r ≡ Wide 0 0
-ShapeRules R σ (at s UnitE) r = r ≡ Wide 0 0
+ShapeRules R σ (at s (NumE z)) r = r ≡ Wide 0 0 0
+ShapeRules R σ (at s (TextE t)) r = r ≡ Wide 0 0 0
+ShapeRules R σ (at s UnitE) r = r ≡ Wide 0 0 0
 ShapeRules R σ (at s (PairE a b)) r = Two R σ a b pair_shape r
 ShapeRules R σ (at s (WithE a b)) r = Two R σ a b pair_shape r
 ShapeRules R σ (at s (FstE e)) r = One R σ e first_half r
@@ -54,16 +54,16 @@ ShapeRules R σ (at s (AppE f a)) r = (c u : Shape) × R σ f c × R σ a u × E
 ShapeRules R σ (at s (BangE k e)) r = One R σ e bang_shape r
 ShapeRules R σ (at s (LetBangE x e b)) r = (p : Shape) × R σ e p × R (Also x (in_bang p) σ) b r
 ShapeRules R σ (at s (LetE x e b)) r = (p : Shape) × R σ e p × R (Also x p σ) b r
-ShapeRules R σ (at s (PlusE a b)) r = Two R σ a b (λ p q. Wide 0 0) r
-ShapeRules R σ (at s (MinusE a b)) r = Two R σ a b (λ p q. Wide 0 0) r
-ShapeRules R σ (at s (TimesE k e)) r = One R σ e (λ p. Wide 0 0) r
-ShapeRules R σ (at s (LeE a b)) r = Two R σ a b (λ p q. Wide 0 0) r
-ShapeRules R σ (at s (EqE a b)) r = Two R σ a b (λ p q. Wide 0 0) r
-ShapeRules R σ (at s (ClipE lo hi e)) r = One R σ e (λ p. Wide 0 0) r
-ShapeRules R σ (at s (LeastE e)) r = One R σ e (λ p. Wide 0 0) r
-ShapeRules R σ (at s (GreatestE e)) r = One R σ e (λ p. Wide 0 0) r
-ShapeRules R σ (at s (SizeE e)) r = One R σ e (λ p. Wide 0 0) r
-ShapeRules R σ (at s (SumE lo hi e)) r = One R σ e (λ p. Wide 0 0) r
+ShapeRules R σ (at s (PlusE a b)) r = Two R σ a b (λ p q. Wide 0 0 0) r
+ShapeRules R σ (at s (MinusE a b)) r = Two R σ a b (λ p q. Wide 0 0 0) r
+ShapeRules R σ (at s (TimesE k e)) r = One R σ e (λ p. Wide 0 0 0) r
+ShapeRules R σ (at s (LeE a b)) r = Two R σ a b (λ p q. Wide 0 0 0) r
+ShapeRules R σ (at s (EqE a b)) r = Two R σ a b (λ p q. Wide 0 0 0) r
+ShapeRules R σ (at s (ClipE lo hi e)) r = One R σ e (λ p. Wide 0 0 0) r
+ShapeRules R σ (at s (LeastE e)) r = One R σ e (λ p. Wide 0 0 0) r
+ShapeRules R σ (at s (GreatestE e)) r = One R σ e (λ p. Wide 0 0 0) r
+ShapeRules R σ (at s (SizeE e)) r = One R σ e (λ p. Wide 0 0 0) r
+ShapeRules R σ (at s (SumE lo hi e)) r = One R σ e (λ p. Wide 0 0 0) r
 ShapeRules R σ (at s (UnionE a b)) r = Two R σ a b union_shape r
 ShapeRules R σ (at s (MapE f b)) r = OverBag R σ f b r
 ShapeRules R σ (at s (FilterE f b)) r = OverBag R σ f b r

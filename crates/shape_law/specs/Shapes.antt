@@ -5,8 +5,9 @@ use Rattle.fz_ast.specs.Terms.{Name, Term}
 
 mutual
   pub data Shape : Type 0 where
-    -- of a ground value: each bag in it is at most w tables wide, and its functions take at most i walks of bags where each table has one row
-    Wide : (w i : ℕ) → Shape
+    -- of a ground value: each bag in it is at most w tables wide, and its functions take at most i walks of bags where each table has one row, and are
+    -- evaluated at most h deep, the walks in them too
+    Wide : (w i h : ℕ) → Shape
     PairS : (a b : Shape) → Shape
     BangS : (a : Shape) → Shape
     -- `fun (x : T) => e` with the shapes of its names
@@ -19,60 +20,64 @@ mutual
     Nothing : Shapes
     Also : (x : Name) (s : Shape) (σ : Shapes) → Shapes
 
--- Where a shape isn't of the form that an accepted term's has, these give `Wide 0 0`. It never comes to that.
+-- Where a shape isn't of the form that an accepted term's has, these give `Wide 0 0 0`. It never comes to that.
 
 -- the shape of the innermost x
 abbrev pub shape_of : Shapes → Name → Shape
-shape_of Nothing x = Wide 0 0
+shape_of Nothing x = Wide 0 0 0
 shape_of (Also y s σ) x = cond (bytes_eq y x) s (shape_of σ x)
 
 abbrev pub width_of : Shape → ℕ
-width_of (Wide w i) = w
+width_of (Wide w i h) = w
 width_of s = 0
 
 abbrev pub walks_of : Shape → ℕ
-walks_of (Wide w i) = i
+walks_of (Wide w i h) = i
 walks_of s = 0
 
--- the greater width, and the greater number of walks
+abbrev pub height_of : Shape → ℕ
+height_of (Wide w i h) = h
+height_of s = 0
+
+-- the greater width, the greater number of walks, and the greater height
 abbrev pub wider : Shape → Shape → Shape
-wider a b = Wide (max (width_of a) (width_of b)) (max (walks_of a) (walks_of b))
+wider a b = Wide (max (width_of a) (width_of b)) (max (walks_of a) (walks_of b)) (max (height_of a) (height_of b))
 
--- a sum is as wide as its side, and takes its walks
+-- a sum is as wide as its side, and takes its walks as deep
 abbrev pub side_shape : Shape → Shape
-side_shape a = Wide (width_of a) (walks_of a)
+side_shape a = Wide (width_of a) (walks_of a) (height_of a)
 
--- a union has the rows of both: their widths add up, and what their functions walk
+-- a union has the rows of both: their widths add up, and what their functions walk, as deep as the deeper of both
 abbrev pub union_shape : Shape → Shape → Shape
-union_shape a b = Wide (width_of a + width_of b) (walks_of a + walks_of b)
+union_shape a b = Wide (width_of a + width_of b) (walks_of a + walks_of b) (max (height_of a) (height_of b))
 
 -- a pair of ground values is ground
 abbrev pub pair_shape : Shape → Shape → Shape
-pair_shape (Wide a i) (Wide b j) = Wide (max a b) (max i j)
+pair_shape (Wide a i h) (Wide b j g) = Wide (max a b) (max i j) (max h g)
 pair_shape a b = PairS a b
 
 abbrev pub first_half : Shape → Shape
-first_half (Wide w i) = Wide w i
+first_half (Wide w i h) = Wide w i h
 first_half (PairS a b) = a
-first_half s = Wide 0 0
+first_half s = Wide 0 0 0
 
 abbrev pub second_half : Shape → Shape
-second_half (Wide w i) = Wide w i
+second_half (Wide w i h) = Wide w i h
 second_half (PairS a b) = b
-second_half s = Wide 0 0
+second_half s = Wide 0 0 0
 
 -- a bang of a ground value is ground
 abbrev pub bang_shape : Shape → Shape
-bang_shape (Wide w i) = Wide w i
+bang_shape (Wide w i h) = Wide w i h
 bang_shape s = BangS s
 
 -- what a bang holds
 abbrev pub in_bang : Shape → Shape
-in_bang (Wide w i) = Wide w i
+in_bang (Wide w i h) = Wide w i h
 in_bang (BangS s) = s
-in_bang s = Wide 0 0
+in_bang s = Wide 0 0 0
 
 -- each table is as wide as itself, and has no functions
 abbrev pub table_shapes : Signature → Shapes
 table_shapes [] = Nothing
-table_shapes (t ∷ ts) = Also t.name (Wide 1 0) (table_shapes ts)
+table_shapes (t ∷ ts) = Also t.name (Wide 1 0 0) (table_shapes ts)

@@ -7,9 +7,9 @@ use Rattle.shape_law.specs.Shapes.{Shape}
 use Rattle.shape_law.specs.Walk.{ShapeFault, Shaped, Stops, TooManyWalks, shape}
 
 -- the program has this plan
-abbrev pub Plans : Term → (turns depth width walks : ℕ) → Type 0
-Plans t turns depth width walks =
-    (r : Shape) × (shape worked_tables t ≡ Shaped r (record { turns = turns; depth = depth; width = width; walks = walks }))
+abbrev pub Plans : Term → (turns depth width walks reach : ℕ) → Type 0
+Plans t turns depth width walks reach =
+    (r : Shape) × (shape worked_tables t ≡ Shaped r (record { turns = turns; depth = depth; width = width; walks = walks; reach = reach }))
 
 -- its run without data passes this limit first
 abbrev pub PassesLimit : Term → ShapeFault → Type 0

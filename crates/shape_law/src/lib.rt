@@ -23,12 +23,12 @@ pub fn walks_are_high_enough()
 /// six maps, each of which sums the bag before for each row, and seven, whose walks are too many; and three that sum a union of the
 /// bag before with itself, and four, of which the last union takes too many.
 pub fn worked_plans()
-    ensures counted { Plans counted 2 2 1 1 }
-    ensures filtered_and_mapped { Plans filtered_and_mapped 12 5 1 1 }
-    ensures doubled_six_times { Plans (doubled 6) 26 8 64 1 }
+    ensures counted { Plans counted 2 2 1 1 2 }
+    ensures filtered_and_mapped { Plans filtered_and_mapped 12 5 1 1 4 }
+    ensures doubled_six_times { Plans (doubled 6) 26 8 64 1 8 }
     ensures too_wide { PassesLimit (doubled 7) (TooWide (span 0 1) 128) }
-    ensures nested_six_times { Plans (nested 6) 38 9 1 64 }
+    ensures nested_six_times { Plans (nested 6) 38 9 1 64 14 }
     ensures too_many_walks { WalksTooMuch (nested 7) 0 1 }
-    ensures united_three_times { Plans (united 3) 32 8 2 41 }
+    ensures united_three_times { Plans (united 3) 32 8 2 41 10 }
     ensures too_many_in_a_union { WalksTooMuch (united 4) 0 2 }
 {}

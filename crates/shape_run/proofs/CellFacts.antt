@@ -9,7 +9,7 @@ use Rattle.fz_ast.specs.Names.{name_of}
 use Rattle.fz_ast.specs.Terms.{Term}
 use Rattle.fz_ast.specs.TermNodes.{term_at}
 use Rattle.fz_ast.specs.declared.name.Name.{Name}
-use Rattle.shape_law.specs.Shapes.{Also, BangS, FnS, FunS, PairS, Shape, Shapes, Wide, bang_shape, first_half, in_bang, pair_shape, second_half, shape_of, walks_of, wider, width_of}
+use Rattle.shape_law.specs.Shapes.{Also, BangS, FnS, FunS, PairS, Shape, Shapes, Wide, bang_shape, first_half, height_of, in_bang, pair_shape, second_half, shape_of, walks_of, wider, width_of}
 use Rattle.shape_run.specs.Cells.{Adds, Grown, IsScope, IsShape, is_bang, is_fn, is_fun, is_ground, is_pair, more_names, no_names, is_wide}
 use Rattle.shape_run.specs.declared.store.Cell.{Cell}
 use Rattle.shape_run.specs.declared.store.Cell.TheVariants.{Bang, Fn, Frame, Fun, Ground, Pair}
@@ -49,7 +49,7 @@ scope_kept N cs ds k σ g h = rw g.1 (scope_more N cs g.0 h)
 -- a cell that is read
 
 abbrev pub Reads : List Term → List Cell → Cell → Shape → Type 0
-Reads N cs (Ground w j v) s = s ≡ Wide w j
+Reads N cs (Ground w j v) s = s ≡ Wide w j v
 Reads N cs (Pair a b) s = (p q : Shape) × IsShape N cs a p × IsShape N cs b q × (s ≡ PairS p q)
 Reads N cs (Bang a) s = (p : Shape) × IsShape N cs a p × (s ≡ BangS p)
 Reads N cs (Fun x e r) s = (σ : Shapes) × IsScope N cs r σ × (e < length N) × (s ≡ FunS (name_of x) (term_at N e) σ)
@@ -57,7 +57,7 @@ Reads N cs (Fn x e r) s = (σ : Shapes) × IsScope N cs r σ × (e < length N) �
 Reads N cs (Frame x s r) t = ⊥
 
 pub read : (N : List Term) (cs : List Cell) (k : ℕ) (s : Shape) (c : Cell) → slice_get cs k ≡ Some c → IsShape N cs k s → Reads N cs c s
-read N cs k _ c h (is_ground {w = w} {i = j} {h = v} g) = let i : Ground w j v ≡ c = cc (h, g) in subst (λ c. Reads N cs c (Wide w j)) i refl
+read N cs k _ c h (is_ground {w = w} {i = j} {h = v} g) = let i : Ground w j v ≡ c = cc (h, g) in subst (λ c. Reads N cs c (Wide w j v)) i refl
 read N cs k _ c h (is_pair {a = m} {b = n} {p = p} {q = q} g a b) = let i : Pair m n ≡ c = cc (h, g) in subst (λ c. Reads N cs c (PairS p q)) i (p, q, a, b, refl)
 read N cs k _ c h (is_bang {a = m} {p = p} g a) = let i : Bang m ≡ c = cc (h, g) in subst (λ c. Reads N cs c (BangS p)) i (p, a, refl)
 read N cs k _ c h (is_fun {e = e} {r = r} {x = x} {σ = σ} g l t) = let i : Fun x e r ≡ c = cc (h, g) in subst (λ c. Reads N cs c (FunS (name_of x) (term_at N e) σ)) i (σ, t, l, refl)
@@ -81,7 +81,7 @@ on_ok (Ok a) h k = k a h
 on_ok (Err e) h k = tt
 
 pub ground_added : (cs ds : List Cell) (w j v : ℕ) (r : Result ℕ NoMemory) (P : List Term → Shape → Type 0) → IfOk r (λ n. (slice_get ds n ≡ Some (Ground w j v)) × (n ≡ length cs) × (n < 4294967295))
-    → ((N : List Term) (p : Shape) → P N p → p ≡ Wide w j) → Adds ds r P
+    → ((N : List Term) (p : Shape) → P N p → p ≡ Wide w j v) → Adds ds r P
 ground_added cs ds w j v r P h k = on_ok r h (λ n g N p a. rw (k N p a) (is_ground g.0))
 
 pub fun_added : (cs ds : List Cell) (x : Name) (e s : ℕ) (r : Result ℕ NoMemory) → IfOk r (λ n. (slice_get ds n ≡ Some (Fun x e s)) × (n ≡ length cs) × (n < 4294967295)) → Grown cs ds
@@ -105,22 +105,22 @@ bound cs ds n x s r h l g N p σ a b =
 -- pairs and their halves
 
 pair_wide : (p q : Shape) → (is_wide p && is_wide q) ≡ true → pair_shape p q ≡ wider p q
-pair_wide (Wide v i) (Wide w j) h = refl
-pair_wide (Wide v i) (PairS a b) h = cc
-pair_wide (Wide v i) (BangS a) h = cc
-pair_wide (Wide v i) (FunS x e σ) h = cc
-pair_wide (Wide v i) (FnS x e σ) h = cc
+pair_wide (Wide v i g) (Wide w j d) h = refl
+pair_wide (Wide v i g) (PairS a b) h = cc
+pair_wide (Wide v i g) (BangS a) h = cc
+pair_wide (Wide v i g) (FunS x e σ) h = cc
+pair_wide (Wide v i g) (FnS x e σ) h = cc
 pair_wide (PairS a b) q h = cc
 pair_wide (BangS a) q h = cc
 pair_wide (FunS x e σ) q h = cc
 pair_wide (FnS x e σ) q h = cc
 
 pair_apart : (p q : Shape) → (is_wide p && is_wide q) ≡ false → pair_shape p q ≡ PairS p q
-pair_apart (Wide v i) (Wide w j) h = cc
-pair_apart (Wide v i) (PairS a b) h = refl
-pair_apart (Wide v i) (BangS a) h = refl
-pair_apart (Wide v i) (FunS x e σ) h = refl
-pair_apart (Wide v i) (FnS x e σ) h = refl
+pair_apart (Wide v i g) (Wide w j d) h = cc
+pair_apart (Wide v i g) (PairS a b) h = refl
+pair_apart (Wide v i g) (BangS a) h = refl
+pair_apart (Wide v i g) (FunS x e σ) h = refl
+pair_apart (Wide v i g) (FnS x e σ) h = refl
 pair_apart (PairS a b) q h = refl
 pair_apart (BangS a) q h = refl
 pair_apart (FunS x e σ) q h = refl
@@ -132,16 +132,10 @@ pub pair_added : (cs ds : List Cell) (a b : ℕ) (r : Result ℕ NoMemory) → (
 pair_added cs ds a b r n i g =
     on_ok r i (λ m j N s t. rw (t.4, pair_apart t.0 t.1 (n N t.0 t.1 t.2 t.3)) (is_pair j.0 (shape_kept N cs ds a t.0 g t.2) (shape_kept N cs ds b t.1 g t.3)))
 
-pub pair_ground : (cs ds : List Cell) (a b v w m i j n : ℕ) (r : Result ℕ NoMemory)
-    → ((N : List Term) (p q : Shape) → IsShape N cs a p → IsShape N cs b q → (is_wide p && is_wide q) ≡ true)
-    → ((N : List Term) (p : Shape) → IsShape N cs a p → v ≡ width_of p) → ((N : List Term) (q : Shape) → IsShape N cs b q → w ≡ width_of q) → m ≡ max v w
-    → ((N : List Term) (p : Shape) → IsShape N cs a p → i ≡ walks_of p) → ((N : List Term) (q : Shape) → IsShape N cs b q → j ≡ walks_of q) → n ≡ max i j
-    → Adds ds r (λ N p. p ≡ Wide m n) → Adds ds r (λ N s. (p q : Shape) × IsShape N cs a p × IsShape N cs b q × (s ≡ pair_shape p q))
-pair_ground cs ds a b v w m i j n r g h k e h' k' e' added =
-    on_ok r added (λ l f N s t. f N s (t.4 ∙ pair_wide t.0 t.1 (g N t.0 t.1 t.2 t.3) ∙ both N t.0 t.1 t.2 t.3))
-  where
-    both : (N : List Term) (p q : Shape) → IsShape N cs a p → IsShape N cs b q → wider p q ≡ Wide m n
-    both N p q x y = rw (e, e', h N p x, k N q y, h' N p x, k' N q y) refl
+pub pair_ground : (cs ds : List Cell) (a b w i d : ℕ) (r : Result ℕ NoMemory) → ((N : List Term) (p q : Shape) → IsShape N cs a p → IsShape N cs b q → (is_wide p && is_wide q) ≡ true)
+    → ((N : List Term) (p q : Shape) → IsShape N cs a p → IsShape N cs b q → wider p q ≡ Wide w i d)
+    → Adds ds r (λ N p. p ≡ Wide w i d) → Adds ds r (λ N s. (p q : Shape) × IsShape N cs a p × IsShape N cs b q × (s ≡ pair_shape p q))
+pair_ground cs ds a b w i d r g both added = on_ok r added (λ l f N s t. f N s (t.4 ∙ pair_wide t.0 t.1 (g N t.0 t.1 t.2 t.3) ∙ both N t.0 t.1 t.2 t.3))
 
 -- neither a ground value's shape nor a pair's
 abbrev pub NotHalved : Cell → Type 0
@@ -149,10 +143,10 @@ NotHalved (Ground w j v) = ⊥
 NotHalved (Pair a b) = ⊥
 NotHalved c = ⊤
 
-pub unhalved : (cs : List Cell) (k : ℕ) (c : Cell) → slice_get cs k ≡ Some c → NotHalved c → (N : List Term) (r : Shape) → (p : Shape) × IsShape N cs k p × (r ≡ first_half p) → r ≡ Wide 0 0
+pub unhalved : (cs : List Cell) (k : ℕ) (c : Cell) → slice_get cs k ≡ Some c → NotHalved c → (N : List Term) (r : Shape) → (p : Shape) × IsShape N cs k p × (r ≡ first_half p) → r ≡ Wide 0 0 0
 unhalved cs k c h n N r t = go c n (read N cs k t.0 c h t.1)
   where
-    go : (c : Cell) → NotHalved c → Reads N cs c t.0 → r ≡ Wide 0 0
+    go : (c : Cell) → NotHalved c → Reads N cs c t.0 → r ≡ Wide 0 0 0
     go (Ground w j v) n i = absurd n
     go (Pair a b) n i = absurd n
     go (Bang a) n i = rw (t.2, i.2) refl
@@ -160,10 +154,10 @@ unhalved cs k c h n N r t = go c n (read N cs k t.0 c h t.1)
     go (Fn x e s) n i = rw (t.2, i.3) refl
     go (Frame x s q) n i = absurd i
 
-pub unhalved2 : (cs : List Cell) (k : ℕ) (c : Cell) → slice_get cs k ≡ Some c → NotHalved c → (N : List Term) (r : Shape) → (p : Shape) × IsShape N cs k p × (r ≡ second_half p) → r ≡ Wide 0 0
+pub unhalved2 : (cs : List Cell) (k : ℕ) (c : Cell) → slice_get cs k ≡ Some c → NotHalved c → (N : List Term) (r : Shape) → (p : Shape) × IsShape N cs k p × (r ≡ second_half p) → r ≡ Wide 0 0 0
 unhalved2 cs k c h n N r t = go c n (read N cs k t.0 c h t.1)
   where
-    go : (c : Cell) → NotHalved c → Reads N cs c t.0 → r ≡ Wide 0 0
+    go : (c : Cell) → NotHalved c → Reads N cs c t.0 → r ≡ Wide 0 0 0
     go (Ground w j v) n i = absurd n
     go (Pair a b) n i = absurd n
     go (Bang a) n i = rw (t.2, i.2) refl
@@ -189,7 +183,7 @@ scope_read N cs _ _ c z h (more_names {k = k} {s = s} {r = r} {x = x} {p = p} {�
     let h' : slice_get cs k ≡ Some c = subst (λ j. slice_get cs j ≡ Some c) e h in
     (x, s, r, p, σ, cc (h', g), omega (arith, l), a, b, refl)
 
-pub no_name : (N : List Term) (cs : List Cell) (k : ℕ) (σ : Shapes) (x : List ℕ) → k ≡ 0 → IsScope N cs k σ → shape_of σ x ≡ Wide 0 0
+pub no_name : (N : List Term) (cs : List Cell) (k : ℕ) (σ : Shapes) (x : List ℕ) → k ≡ 0 → IsScope N cs k σ → shape_of σ x ≡ Wide 0 0 0
 no_name N cs _ _ x e no_names = refl
 no_name N cs _ _ x e (more_names g l a b) = absurd (omega (arith, e))
 
@@ -238,10 +232,10 @@ not_holding (Fun x e s) h k = tt
 not_holding (Fn x e s) h k = tt
 not_holding (Frame x s r) h k = tt
 
-pub unheld : (cs : List Cell) (k : ℕ) (c : Cell) → slice_get cs k ≡ Some c → NotHolding c → (N : List Term) (r : Shape) → (p : Shape) × IsShape N cs k p × (r ≡ in_bang p) → r ≡ Wide 0 0
+pub unheld : (cs : List Cell) (k : ℕ) (c : Cell) → slice_get cs k ≡ Some c → NotHolding c → (N : List Term) (r : Shape) → (p : Shape) × IsShape N cs k p × (r ≡ in_bang p) → r ≡ Wide 0 0 0
 unheld cs k c h n N r t = go c n (read N cs k t.0 c h t.1)
   where
-    go : (c : Cell) → NotHolding c → Reads N cs c t.0 → r ≡ Wide 0 0
+    go : (c : Cell) → NotHolding c → Reads N cs c t.0 → r ≡ Wide 0 0 0
     go (Ground w j v) n i = absurd n
     go (Pair a b) n i = rw (t.2, i.4) refl
     go (Bang a) n i = absurd n
@@ -256,14 +250,14 @@ pub grown_on : (cs ds es : List Cell) → Grown cs ds → Grown ds es → Grown 
 grown_on cs ds es g h = (g.0 ++ h.0, rw (h.1, g.1) (append_assoc cs g.0 h.0))
 
 bang_kept : (p : Shape) → is_wide p ≡ true → bang_shape p ≡ p
-bang_kept (Wide w i) h = refl
+bang_kept (Wide w i d) h = refl
 bang_kept (PairS a b) h = cc
 bang_kept (BangS a) h = cc
 bang_kept (FunS x e σ) h = cc
 bang_kept (FnS x e σ) h = cc
 
 bang_made : (p : Shape) → is_wide p ≡ false → bang_shape p ≡ BangS p
-bang_made (Wide w i) h = cc
+bang_made (Wide w i d) h = cc
 bang_made (PairS a b) h = refl
 bang_made (BangS a) h = refl
 bang_made (FunS x e σ) h = refl

@@ -10,7 +10,7 @@ use Rattle.shape_law.specs.Shapes.{Also, Nothing, Wide, table_shapes}
 pub no_tables : (ts : Signature) (n : ℕ) → n ≡ length ts → table_shapes (drop n ts) ≡ Nothing
 no_tables ts n h = rw (h, drop-length ts) refl
 
-pub one_table : (ts : Signature) (i : ℕ) (t : TableType) → slice_get ts i ≡ Some t → table_shapes (drop i ts) ≡ Also t.name (Wide 1 0) (table_shapes (drop (i + 1) ts))
+pub one_table : (ts : Signature) (i : ℕ) (t : TableType) → slice_get ts i ≡ Some t → table_shapes (drop i ts) ≡ Also t.name (Wide 1 0 0) (table_shapes (drop (i + 1) ts))
 one_table [] i t h = cc
 one_table (u ∷ ts) zero t h = let e : u ≡ t = cc h in rw e refl
 one_table (u ∷ ts) (suc i) t h =

@@ -12,8 +12,7 @@ use Rattle.shape_run.specs.declared.store.Cell.TheVariants.{Ground, Pair, Bang, 
 mutual
   -- cell k stands for this shape; bodies are terms of N
   pub data IsShape (N : List Term) (cs : List Cell) : ℕ → Shape → Type 0 where
-    -- the cell says, too, how deep the functions of its bags are evaluated, of which the definition says nothing
-    is_ground : {k w i h : ℕ} → slice_get cs k ≡ Some (Ground w i h) → IsShape N cs k (Wide w i)
+    is_ground : {k w i h : ℕ} → slice_get cs k ≡ Some (Ground w i h) → IsShape N cs k (Wide w i h)
     is_pair : {k a b : ℕ} {p q : Shape} → slice_get cs k ≡ Some (Pair a b) → IsShape N cs a p → IsShape N cs b q → IsShape N cs k (PairS p q)
     is_bang : {k a : ℕ} {p : Shape} → slice_get cs k ≡ Some (Bang a) → IsShape N cs a p → IsShape N cs k (BangS p)
     is_fun : {k e r : ℕ} {x : Name} {σ : Shapes} → slice_get cs k ≡ Some (Fun x e r) → e < length N → IsScope N cs r σ
@@ -46,5 +45,5 @@ Adds cs r P = IfOk r (λ n. (N : List Term) (p : Shape) → P N p → IsShape N 
 
 -- of a ground value
 abbrev pub is_wide : Shape → Bool
-is_wide (Wide w i) = true
+is_wide (Wide w i h) = true
 is_wide s = false

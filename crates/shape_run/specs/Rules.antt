@@ -14,23 +14,23 @@ use Rattle.fz_ast.specs.declared.term.Ranged.TheVariants.{Sum}
 use Rattle.fz_ast.specs.declared.term.Unary.{Unary}
 use Rattle.fz_ast.specs.declared.term.Unary.TheVariants.{Fst, Greatest, Least, Size, Snd}
 use Rattle.shape_law.specs.Shapes.{Also, FnS, FunS, Shape, Shapes, Wide, bang_shape, first_half, pair_shape, second_half, shape_of, side_shape, wider}
-use Rattle.shape_law.specs.Walk.{WalkOutcome, Tally, Walk, enters, yields, next, over, union, walked}
+use Rattle.shape_law.specs.Walk.{WalkOutcome, Tally, Walk, enters, yields, next, over, union, walks_at}
 use Rattle.shape_run.specs.Cells.{IsScope, IsShape}
 use Rattle.shape_run.specs.declared.store.Cell.{Cell}
 
--- what the word or sign at s makes of the shapes of its two parts
-abbrev pub combined : Walk → Span → Binary → Shape → Shape → Tally → WalkOutcome
-combined W s Pair p q = yields (pair_shape p q)
-combined W s With p q = yields (pair_shape p q)
-combined W s App p q = enters W p q
-combined W s Plus p q = yields (Wide 0 0)
-combined W s Minus p q = yields (Wide 0 0)
-combined W s AtMost p q = yields (Wide 0 0)
-combined W s Equal p q = yields (Wide 0 0)
-combined W s Union p q = union s p q
-combined W s Map p q = over W s p q
-combined W s Filter p q = over W s p q
-combined W s Split p q = over W s p q
+-- what the word or sign at s makes of the shapes of its two parts, at depth d
+abbrev pub combined : (d : ℕ) → Walk → Span → Binary → Shape → Shape → Tally → WalkOutcome
+combined d W s Pair p q = yields (pair_shape p q)
+combined d W s With p q = yields (pair_shape p q)
+combined d W s App p q = enters W p q
+combined d W s Plus p q = yields (Wide 0 0 0)
+combined d W s Minus p q = yields (Wide 0 0 0)
+combined d W s AtMost p q = yields (Wide 0 0 0)
+combined d W s Equal p q = yields (Wide 0 0 0)
+combined d W s Union p q = union s p q
+combined d W s Map p q = over d W s p q
+combined d W s Filter p q = over d W s p q
+combined d W s Split p q = over d W s p q
 
 -- a name as wide as a condition
 abbrev pub beside : List ℕ → Shape → Shapes → Shapes
@@ -56,7 +56,7 @@ function_shape Fn x e σ = FnS x e σ
 abbrev pub leaf_shape : List Term → Shapes → Form → Shape
 leaf_shape N σ (Var x) = shape_of σ (name_of x)
 leaf_shape N σ (Lambda o x u t e) = function_shape o (name_of x) (term_at N e) σ
-leaf_shape N σ f = Wide 0 0
+leaf_shape N σ f = Wide 0 0 0
 
 -- a function's body is one of so many terms
 abbrev pub HasBody : ℕ → Form → Type 0
@@ -79,23 +79,19 @@ part_in f = None
 abbrev pub unary_shape : Unary → Shape → Shape
 unary_shape Fst p = first_half p
 unary_shape Snd p = second_half p
-unary_shape Least p = Wide 0 0
-unary_shape Greatest p = Wide 0 0
-unary_shape Size p = Wide 0 0
+unary_shape Least p = Wide 0 0 0
+unary_shape Greatest p = Wide 0 0 0
+unary_shape Size p = Wide 0 0 0
 
 -- what it makes of the part's shape
 abbrev pub part_shape : Form → Shape → Shape
 part_shape (Op o e) p = unary_shape o p
 part_shape (Inject o u t e) p = side_shape p
 part_shape (Banged r e) p = bang_shape p
-part_shape f p = Wide 0 0
+part_shape f p = Wide 0 0 0
 
--- a bag's size and its sum are walks
-abbrev pub part_tally : Form → Shape → Tally → Tally
-part_tally (Op Size e) p k = walked p k
-part_tally (Bounded Sum lo hi e) p k = walked p k
-part_tally f p k = k
-
--- what a form of one part gives
-abbrev pub part_gives : Form → Shape → Tally → WalkOutcome
-part_gives f p k = yields (part_shape f p) (part_tally f p k)
+-- what a form of one part gives at s, its part at depth d: a bag's size and its sum are walks
+abbrev pub part_gives : (d : ℕ) → Span → Form → Shape → Tally → WalkOutcome
+part_gives d s (Op Size e) p k = walks_at d s p k
+part_gives d s (Bounded Sum lo hi e) p k = walks_at d s p k
+part_gives d s f p k = yields (part_shape f p) k

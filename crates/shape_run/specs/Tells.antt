@@ -11,9 +11,9 @@ use Rattle.shape_run.specs.declared.plan.ShapeFault.{ShapeFault}
 use Rattle.shape_run.specs.declared.plan.ShapeFault.TheVariants.{NoMemory, TooDeep as Deep, TooLong as Long, TooWide as Broad}
 
 abbrev pub tally_of : Plan → Tally
-tally_of plan = record { turns = plan.turns; depth = plan.depth; width = plan.width; walks = plan.walks }
+tally_of plan = record { turns = plan.turns; depth = plan.depth; width = plan.width; walks = plan.walks; reach = plan.reach }
 
--- the outcome is just this limit, with its span and width; want of memory may come at any time, and is all that is said of too many walks
+-- the outcome is just this limit, with its span and width; want of memory may come at any time, and is all that is said of too many walks, or too deep ones
 abbrev pub StopsAt : ShapeFault → WalkOutcome → Type 0
 StopsAt (Deep s) o = o ≡ Stops (TooDeep s)
 StopsAt (Long s) o = o ≡ Stops (TooLong s)

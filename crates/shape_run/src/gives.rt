@@ -4,7 +4,7 @@ ghost use Rattle.fz_ast.specs.Names.{name_of};
 ghost use Rattle.fz_ast.specs.TermNodes.{term_at};
 ghost use Rattle.fz_ast.specs.Terms.{Term, at};
 ghost use Rattle.shape_law.specs.Shapes.{Shape, Shapes, bang_shape, first_half, pair_shape, second_half, shape_of, side_shape, wider};
-ghost use Rattle.shape_law.specs.Walk.{bag, yields, turn, turn_limit, union, walked};
+ghost use Rattle.shape_law.specs.Walk.{bag, yields, turn, turn_limit, union, walks_at};
 ghost use Rattle.shape_run.specs.Cells.{Grown, HasScope, HasShape, HaveShapes, IsScope, IsShape};
 ghost use Rattle.shape_run.specs.Rules.{HasBody, HasLeaf, function_shape, leaf_shape, part_gives, part_in};
 ghost use Rattle.shape_run.specs.Tells.{Tells, TellsAnywhere, tally_of};
@@ -37,7 +37,7 @@ pub fn give_ground(
     walks: u8,
     height: u32,
 ) -> Result<u32, ShapeFault>
-    ensures is { (N : List Term) → Tells N store.new.cells.items count.new result (yields (Rattle.shape_law.specs.Shapes.Wide width walks) (tally_of count.old)) }
+    ensures is { (N : List Term) → Tells N store.new.cells.items count.new result (yields (Rattle.shape_law.specs.Shapes.Wide width walks height) (tally_of count.old)) }
     ensures grown { Grown store.old.cells.items store.new.cells.items }
 {
     let Ok(k) = store.ground(width, walks, height) else {
@@ -205,7 +205,7 @@ pub fn part_of(form: &Form) -> Option<u32>
 fn give_walk(store: &mut Store, count: &mut Plan, a: u32, here: u32) -> Result<u32, ShapeFault>
     requires { HasShape store.old.cells.items a }
     ensures is { (N : List Term) (p : Shape) → IsShape N store.old.cells.items a p
-        → Tells N store.new.cells.items count.new result (yields (Rattle.shape_law.specs.Shapes.Wide 0 0) (walked p (tally_of count.old))) }
+        → TellsAnywhere N store.new.cells.items count.new result (λ s. walks_at here s p (tally_of count.old)) }
     ensures grown { Grown store.old.cells.items store.new.cells.items }
 {
     let inside = store.walks(a);
@@ -236,7 +236,7 @@ pub fn give_bag(
 ) -> Result<u32, ShapeFault>
     requires { HasShape store.old.cells.items b }
     ensures is { (N : List Term) (q : Shape) → IsShape N store.old.cells.items b q
-        → TellsAnywhere N store.new.cells.items count.new result (λ s. bag s q before.walks (tally_of count.old)) }
+        → TellsAnywhere N store.new.cells.items count.new result (λ s. bag here s q (tally_of before) (tally_of count.old)) }
     ensures grown { Grown store.old.cells.items store.new.cells.items }
 {
     let width = store.width(b);
@@ -265,7 +265,7 @@ pub fn give_part(
 ) -> Result<u32, ShapeFault>
     requires { HasShape store.old.cells.items a }
     ensures is { (N : List Term) (p : Shape) → IsShape N store.old.cells.items a p
-        → Tells N store.new.cells.items count.new result (part_gives form.now p (tally_of count.old)) }
+        → TellsAnywhere N store.new.cells.items count.new result (λ s. part_gives here s form.now p (tally_of count.old)) }
     ensures grown { Grown store.old.cells.items store.new.cells.items }
 {
     match form {

@@ -9,7 +9,7 @@ pub struct Plan {
     pub turns: u32,
     pub width: u32,
     pub walks: u32,
-    /// How deep the evaluation goes where bags are walked within walks: at least `depth`, which the definition says nothing of.
+    /// How deep terms are evaluated within one another, those of the functions that a walk calls at the walk.
     pub reach: u32,
 }
 

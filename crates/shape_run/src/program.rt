@@ -30,7 +30,7 @@ fn limit() -> u32
 
 // The names of the tables, each as wide as `table` says.
 fn bind_tables(store: &mut Store, sig: &Sig, table: u32) -> Result<u32, NoMemory>
-    requires { (N : List Term) → IsShape N store.old.cells.items table (Rattle.shape_law.specs.Shapes.Wide 1 0) }
+    requires { (N : List Term) → IsShape N store.old.cells.items table (Rattle.shape_law.specs.Shapes.Wide 1 0 0) }
     ensures { IfOk result (λ n. (N : List Term) → IsScope N store.new.cells.items n (table_shapes sig.now)) }
 {
     let mut scope = 0;
@@ -55,7 +55,7 @@ fn bind_tables(store: &mut Store, sig: &Sig, table: u32) -> Result<u32, NoMemory
 pub fn shape(alloc: Global, sig: &Sig, term: &Term) -> Result<Plan, ShapeFault>
     ensures planned { IfOk result (IsPlanOf sig.now term.now) }
     ensures stopped { IfErr result (IsStopOf sig.now term.now) }
-    ensures limits { IfOk result (λ plan. IsWithinLimits plan.depth plan.turns plan.width) }
+    ensures limits { IfOk result (λ plan. IsWithinLimits plan.depth plan.turns plan.width plan.reach) }
     ensures runs { (D : Sensitivities) (r : Distance) → IsSignature sig.now → TermLimits (term.now) → sensitivity_of sig.now term.now ≡ Accepted D r
         → IfOk result (λ plan. (X : Dataset) → IsDataset sig.now X → HasNumber plan.depth (rows_of sig.now X) term.now) }
 {

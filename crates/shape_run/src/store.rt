@@ -3,7 +3,7 @@ ghost use Rattle.std.specs.Prelude.{◌≡◌, ◌+◌, ◌<◌, ◌≤◌, ◌+
 ghost use Rattle.fz_ast.specs.Names.{name_of};
 ghost use Rattle.fz_ast.specs.Terms.{Name, Term};
 ghost use Rattle.fz_ast.specs.TermNodes.{term_at};
-ghost use Rattle.shape_law.specs.Shapes.{Also, Shape, Shapes, bang_shape, first_half, in_bang, pair_shape, second_half, shape_of, walks_of, width_of};
+ghost use Rattle.shape_law.specs.Shapes.{Also, Shape, Shapes, bang_shape, first_half, height_of, in_bang, pair_shape, second_half, shape_of, walks_of, width_of};
 ghost use Rattle.shape_run.specs.Cells.{Adds, Grown, HasScope, HasShape, HaveShapes, IsScope, IsShape, is_wide};
 ghost use Rattle.shape_run.specs.Rules.{beside, function_shape};
 
@@ -64,7 +64,7 @@ impl Store {
 
     /// The shape of a ground value.
     pub fn ground(&mut self, width: u8, walks: u8, height: u32) -> Result<u32, NoMemory>
-        ensures is { Adds self.new.cells.items result (λ N p. p ≡ Rattle.shape_law.specs.Shapes.Wide width walks) }
+        ensures is { Adds self.new.cells.items result (λ N p. p ≡ Rattle.shape_law.specs.Shapes.Wide width walks height) }
         ensures grown { Grown self.old.cells.items self.new.cells.items }
     {
         self.push(Cell::Ground(width, walks, height))
@@ -121,9 +121,10 @@ impl Store {
         }
     }
 
-    /// How deep the functions of a ground value's bags are evaluated, with the walks that they take. Nothing is proved of it.
+    /// How deep the functions of a ground value's bags are evaluated, with the walks that they take.
     pub fn height(&self, k: u32) -> u32
         requires { HasShape self.now.cells.items k }
+        ensures { (N : List Term) (p : Shape) → IsShape N self.now.cells.items k p → result ≡ height_of p }
     {
         match self.cell(k) {
             Cell::Ground(_, _, n) => n,
@@ -250,7 +251,7 @@ impl Store {
     pub fn find(&self, scope: u32, name: &Name) -> Option<u32>
         requires { HasScope self.now.cells.items scope }
         ensures { (N : List Term) (σ : Shapes) → IsScope N self.now.cells.items scope σ
-            → MatchOption result (shape_of σ (name_of name.now) ≡ Rattle.shape_law.specs.Shapes.Wide 0 0)
+            → MatchOption result (shape_of σ (name_of name.now) ≡ Rattle.shape_law.specs.Shapes.Wide 0 0 0)
             (λ n. IsShape N self.now.cells.items n (shape_of σ (name_of name.now))) }
     {
         if scope == 0 {

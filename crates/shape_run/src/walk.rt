@@ -219,7 +219,7 @@ fn combine(
     requires second { StandsForShape nodes.now.terms store.old.cells.items b }
     requires room { here + left < 4294967295 }
     ensures is { (p q : Shape) → IsShape nodes.now.terms store.old.cells.items a p → IsShape nodes.now.terms store.old.cells.items b q
-        → Tells nodes.now.terms store.new.cells.items count.new result (combined (walk left here) span form p q (tally_of count.old)) }
+        → Tells nodes.now.terms store.new.cells.items count.new result (combined here (walk left here) span form p q (tally_of count.old)) }
     ensures grown { Grown store.old.cells.items store.new.cells.items }
 {
     match form {
@@ -250,7 +250,7 @@ fn over(
     requires bag { StandsForShape nodes.now.terms store.old.cells.items b }
     requires room { here + left < 4294967295 }
     ensures is { (p q : Shape) → IsShape nodes.now.terms store.old.cells.items c p → IsShape nodes.now.terms store.old.cells.items b q
-        → TellsAnywhere nodes.now.terms store.new.cells.items count.new result (λ s. over (walk left here) s p q (tally_of count.old)) }
+        → TellsAnywhere nodes.now.terms store.new.cells.items count.new result (λ s. over here (walk left here) s p q (tally_of count.old)) }
     ensures grown { Grown store.old.cells.items store.new.cells.items }
 {
     let Ok(element) = store.ground(0, 0, 0) else {
@@ -278,7 +278,7 @@ fn visit_parts(
     requires scope { Scopes nodes.now.terms store.old.cells.items scope }
     requires room { here + left < 4294967295 }
     ensures is { (σ : Shapes) → IsScope nodes.now.terms store.old.cells.items scope σ
-        → Tells nodes.now.terms store.new.cells.items count.new result (walk_rules (walk left here) σ (term_at nodes.now.terms i) (tally_of count.old)) }
+        → Tells nodes.now.terms store.new.cells.items count.new result (walk_rules here (walk left here) σ (term_at nodes.now.terms i) (tally_of count.old)) }
     ensures grown { Grown store.old.cells.items store.new.cells.items }
 {
     let node = nodes.node(i);

@@ -1,14 +1,21 @@
-use Rattle.std.proofs.Common.{◌+◌, ◌≡◌, ap, arith}
-use Rattle.shape_law.specs.Shapes.{Wide, walks_of}
-use Rattle.shape_law.specs.Walk.{with_walks, yields}
+use Rattle.std.proofs.Common.{◌+◌, ◌≡◌, ◌∙◌, ap, arith, refl}
+use Rattle.std.proofs.lemmas.Bool.{le-leb}
+use Rattle.std.specs.Prelude.{max, nat_le, true}
+use Rattle.shape_law.specs.Shapes.{height_of, walks_of}
+use Rattle.shape_law.specs.Walk.{reach_limit, walks_at}
 use Rattle.shape_run.proofs.Steps.{to}
 use Rattle.shape_run.specs.Tells.{Tells, tally_of}
 use Rattle.shape_run.proofs.gives.give_walk.Goals as goal
 
 pub returns-clause-is : goal.returns-clause-is
-returns-clause-is c = λ N p h.
-    let k = tally_of c.args.count.now in
+returns-clause-is c = λ N p h s.
     let inside = c.walks-inside.ensures N p h in
+    let high = c.height.ensures N p h in
     let counted = c.in-Some.ensures {u = tt} in
-    let e : k.walks + walks_of p + 1 ≡ c.in-Some.walks = omega (arith, inside, counted.1) in
-    to (Tells N c.give_ground.new.store.cells.items c.give_ground.new.count c.give_ground.result) _ _ (ap (λ i. yields (Wide 0 0) (with_walks i k)) e) (c.give_ground.ensures.is N)
+    let low = c.if-reach-gt-REACH.false in
+    let sum = c.saturating_add-reach.ensures in
+    let w : c.in-Some.walks ≡ c.args.count.now.walks + walks_of p + 1 = omega (arith, inside, counted.1) in
+    let r : c.saturating_add-reach.result ≡ c.args.here + height_of p = omega (arith, high, low, sum) in
+    let m : c.max-count.result ≡ max c.args.count.now.reach (c.args.here + height_of p) = c.max-count.ensures ∙ ap (λ n. max c.args.count.now.reach n) r in
+    let b : nat_le (c.args.here + height_of p) reach_limit ≡ true = le-leb (c.args.here + height_of p) reach_limit (omega (arith, r, low)) in
+    to (Tells N c.give_ground.new.store.cells.items c.give_ground.new.count c.give_ground.result) (walks_at c.args.here s p (tally_of c.args.count.now)) _ (rw (b, w, m) refl) (c.give_ground.ensures.is N)

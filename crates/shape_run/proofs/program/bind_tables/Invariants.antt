@@ -7,7 +7,7 @@ use Rattle.shape_run.proofs.program.bind_tables.Given as goal
 abbrev pub invariant-loop-i : goal.invariant-loop-i
 invariant-loop-i l = record {
   below : l.i ≤ length l.sig;
-  table : (N : List Term) → IsShape N l.store.cells.items l.table (Wide 1 0);
+  table : (N : List Term) → IsShape N l.store.cells.items l.table (Wide 1 0 0);
   scope : (N : List Term) → IsScope N l.store.cells.items l.scope (table_shapes (drop l.i l.sig));
 }
 

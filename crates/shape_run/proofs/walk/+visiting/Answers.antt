@@ -148,8 +148,8 @@ pub visit_parts-returns-in_err-second-in-Binary-clause-is :
 visit_parts-returns-in_err-second-in-Binary-clause-is t c = λ σ h.
     let a = c.in_ok-first-in-Binary.ensures.is σ h in
     let b = c.in_err-second-in-Binary.ensures.is σ (scope_kept c.args.nodes.now.terms c.args.store.now.cells.items c.visit-in-Binary.new.store.cells.items c.args.scope σ c.visit-in-Binary.ensures.grown h) in
-    let told : StopsAt c.in_err-second-in-Binary.field-0.0 (walk_rules (walk c.args.left c.args.here) σ (term_at c.args.nodes.now.terms c.args.i) (tally_of c.args.count.now)) =
-    second_stops (walk c.args.left c.args.here) σ c.node-node.result.now.span c.in-Binary.form (term_at c.args.nodes.now.terms c.in-Binary.a) (term_at c.args.nodes.now.terms c.in-Binary.b) (term_at c.args.nodes.now.terms c.args.i) (tally_of c.args.count.now) (tally_of c.visit-in-Binary.new.count) a.0 c.in_err-second-in-Binary.field-0.0 (node_binary (type_at c.args.nodes.now.types) c.args.nodes.now.terms (term_at c.args.nodes.now.terms c.args.i) c.node-node.result.now.span c.node-node.result.now.form c.in-Binary.form c.in-Binary.a c.in-Binary.b c.node-node.ensures.form c.in-Binary.is) a.2 b in
+    let told : StopsAt c.in_err-second-in-Binary.field-0.0 (walk_rules c.args.here (walk c.args.left c.args.here) σ (term_at c.args.nodes.now.terms c.args.i) (tally_of c.args.count.now)) =
+    second_stops c.args.here (walk c.args.left c.args.here) σ c.node-node.result.now.span c.in-Binary.form (term_at c.args.nodes.now.terms c.in-Binary.a) (term_at c.args.nodes.now.terms c.in-Binary.b) (term_at c.args.nodes.now.terms c.args.i) (tally_of c.args.count.now) (tally_of c.visit-in-Binary.new.count) a.0 c.in_err-second-in-Binary.field-0.0 (node_binary (type_at c.args.nodes.now.types) c.args.nodes.now.terms (term_at c.args.nodes.now.terms c.args.i) c.node-node.result.now.span c.node-node.result.now.form c.in-Binary.form c.in-Binary.a c.in-Binary.b c.node-node.ensures.form c.in-Binary.is) a.2 b in
     let e = err_from_is_err_and c.from_residual-in_err-second-in-Binary.result c.from_residual-in_err-second-in-Binary.ensures.1 in rw (e.1, e.2) told
 
 pub visit_parts-returns-in_err-second-in-Binary-clause-grown :
@@ -187,7 +187,7 @@ visit_parts-returns-in_ok-second-in-Binary-clause-is t c = λ σ h.
     let a = c.in_ok-first-in-Binary.ensures.is σ h in
     let b = c.in_ok-second-in-Binary.ensures.is σ (scope_kept c.args.nodes.now.terms c.args.store.now.cells.items c.visit-in-Binary.new.store.cells.items c.args.scope σ c.visit-in-Binary.ensures.grown h) in
     to (Tells c.args.nodes.now.terms c.combine.new.store.cells.items c.combine.new.count c.combine.result) _ _
-    (binary_then (walk c.args.left c.args.here) σ c.node-node.result.now.span c.in-Binary.form (term_at c.args.nodes.now.terms c.in-Binary.a) (term_at c.args.nodes.now.terms c.in-Binary.b) (term_at c.args.nodes.now.terms c.args.i) (tally_of c.args.count.now) (tally_of c.visit-in-Binary.new.count) (tally_of c.visit-in-Binary-2.new.count) a.0 b.0 (node_binary (type_at c.args.nodes.now.types) c.args.nodes.now.terms (term_at c.args.nodes.now.terms c.args.i) c.node-node.result.now.span c.node-node.result.now.form c.in-Binary.form c.in-Binary.a c.in-Binary.b c.node-node.ensures.form c.in-Binary.is) a.2 b.2)
+    (binary_then c.args.here (walk c.args.left c.args.here) σ c.node-node.result.now.span c.in-Binary.form (term_at c.args.nodes.now.terms c.in-Binary.a) (term_at c.args.nodes.now.terms c.in-Binary.b) (term_at c.args.nodes.now.terms c.args.i) (tally_of c.args.count.now) (tally_of c.visit-in-Binary.new.count) (tally_of c.visit-in-Binary-2.new.count) a.0 b.0 (node_binary (type_at c.args.nodes.now.types) c.args.nodes.now.terms (term_at c.args.nodes.now.terms c.args.i) c.node-node.result.now.span c.node-node.result.now.form c.in-Binary.form c.in-Binary.a c.in-Binary.b c.node-node.ensures.form c.in-Binary.is) a.2 b.2)
     (c.combine.ensures.is a.0 b.0 (shape_kept c.args.nodes.now.terms c.visit-in-Binary.new.store.cells.items c.visit-in-Binary-2.new.store.cells.items c.in_ok-first-in-Binary.first a.0 c.visit-in-Binary-2.ensures.grown a.1) b.1)
 
 pub visit_parts-returns-in_ok-second-in-Binary-clause-grown :
@@ -199,7 +199,7 @@ pub visit_parts-returns-in_ok-shape-in-Let-clause-is :
 visit_parts-returns-in_ok-shape-in-Let-clause-is t c = λ σ h.
     let a = c.in_ok-shape-in-Let.ensures.is σ h in
     to (Tells c.args.nodes.now.terms c.visit_under.new.store.cells.items c.visit_under.new.count c.visit_under.result) _ _
-    (let_then (walk c.args.left c.args.here) σ c.node-node.result.now.span (name_of c.in-Let.name) (term_at c.args.nodes.now.terms c.in-Let.e) (term_at c.args.nodes.now.terms c.in-Let.b) (term_at c.args.nodes.now.terms c.args.i) (tally_of c.args.count.now) (tally_of c.visit-in-Let.new.count) a.0
+    (let_then c.args.here (walk c.args.left c.args.here) σ c.node-node.result.now.span (name_of c.in-Let.name) (term_at c.args.nodes.now.terms c.in-Let.e) (term_at c.args.nodes.now.terms c.in-Let.b) (term_at c.args.nodes.now.terms c.args.i) (tally_of c.args.count.now) (tally_of c.visit-in-Let.new.count) a.0
     (node_let (type_at c.args.nodes.now.types) c.args.nodes.now.terms (term_at c.args.nodes.now.terms c.args.i) c.node-node.result.now.span c.node-node.result.now.form c.in-Let.name c.in-Let.e c.in-Let.b c.node-node.ensures.form c.in-Let.is) a.2)
     (c.visit_under.ensures.is σ a.0 (scope_kept c.args.nodes.now.terms c.args.store.now.cells.items c.visit-in-Let.new.store.cells.items c.args.scope σ c.visit-in-Let.ensures.grown h) a.1)
 
@@ -247,11 +247,11 @@ over-give_bag-requires t c =
 pub over-enter-requires : goal.over-enter-requires
 over-enter-requires t c =
     let f = c.requires.function in
-    (search rules, ((f.0, shape_kept c.args.nodes.now.terms c.args.store.now.cells.items c.ground.new.self.cells.items c.args.c f.0 c.ground.ensures.grown f.1), ((Wide 0 0, c.in-Ok.ensures.is c.args.nodes.now.terms (Wide 0 0) refl), c.requires.room)))
+    (search rules, ((f.0, shape_kept c.args.nodes.now.terms c.args.store.now.cells.items c.ground.new.self.cells.items c.args.c f.0 c.ground.ensures.grown f.1), ((Wide 0 0 0, c.in-Ok.ensures.is c.args.nodes.now.terms (Wide 0 0 0) refl), c.requires.room)))
 
 pub over-returns-in_err-enter-clause-is : goal.over-returns-in_err-enter-clause-is
 over-returns-in_err-enter-clause-is t c = λ p q h k s.
-    let told : StopsAt c.in_err-enter.field-0.0 (over (walk c.args.left c.args.here) s p q (tally_of c.args.count.now)) = over_stops (walk c.args.left c.args.here) s p q (tally_of c.args.count.now) c.in_err-enter.field-0.0 (c.in_err-enter.ensures.is p (Wide 0 0) (shape_kept c.args.nodes.now.terms c.args.store.now.cells.items c.ground.new.self.cells.items c.args.c p c.ground.ensures.grown h) (c.in-Ok.ensures.is c.args.nodes.now.terms (Wide 0 0) refl)) in
+    let told : StopsAt c.in_err-enter.field-0.0 (over c.args.here (walk c.args.left c.args.here) s p q (tally_of c.args.count.now)) = over_stops c.args.here (walk c.args.left c.args.here) s p q (tally_of c.args.count.now) c.in_err-enter.field-0.0 (c.in_err-enter.ensures.is p (Wide 0 0 0) (shape_kept c.args.nodes.now.terms c.args.store.now.cells.items c.ground.new.self.cells.items c.args.c p c.ground.ensures.grown h) (c.in-Ok.ensures.is c.args.nodes.now.terms (Wide 0 0 0) refl)) in
     let e = err_from_is_err_and c.from_residual.result c.from_residual.ensures.1 in rw (e.1, e.2) told
 
 pub over-returns-in_err-enter-clause-grown : goal.over-returns-in_err-enter-clause-grown
@@ -259,9 +259,9 @@ over-returns-in_err-enter-clause-grown t c = grown_on c.args.store.now.cells.ite
 
 pub over-returns-clause-is : goal.over-returns-clause-is
 over-returns-clause-is t c = λ p q h k s.
-    let a = c.in_ok-enter.ensures.is p (Wide 0 0) (shape_kept c.args.nodes.now.terms c.args.store.now.cells.items c.ground.new.self.cells.items c.args.c p c.ground.ensures.grown h) (c.in-Ok.ensures.is c.args.nodes.now.terms (Wide 0 0) refl) in
+    let a = c.in_ok-enter.ensures.is p (Wide 0 0 0) (shape_kept c.args.nodes.now.terms c.args.store.now.cells.items c.ground.new.self.cells.items c.args.c p c.ground.ensures.grown h) (c.in-Ok.ensures.is c.args.nodes.now.terms (Wide 0 0 0) refl) in
     to (Tells c.args.nodes.now.terms c.give_bag.new.store.cells.items c.give_bag.new.count c.give_bag.result) _ _
-    (over_then (walk c.args.left c.args.here) s p q a.0 (tally_of c.args.count.now) (tally_of c.enter.new.count) a.2)
+    (over_then c.args.here (walk c.args.left c.args.here) s p q a.0 (tally_of c.args.count.now) (tally_of c.enter.new.count) a.2)
     (c.give_bag.ensures.is c.args.nodes.now.terms q (shape_kept c.args.nodes.now.terms c.args.store.now.cells.items c.enter.new.store.cells.items c.args.b q (grown_on c.args.store.now.cells.items c.ground.new.self.cells.items c.enter.new.store.cells.items c.ground.ensures.grown c.enter.ensures.grown) k) s)
 
 pub over-returns-clause-grown : goal.over-returns-clause-grown
@@ -273,8 +273,8 @@ visit_parts-visit-requires t c =
 
 pub visit_parts-returns-in_err-a-clause-is : goal.visit_parts-returns-in_err-a-clause-is
 visit_parts-returns-in_err-a-clause-is t c = λ σ h.
-    let told : StopsAt c.in_err-a.field-0.0 (walk_rules (walk c.args.left c.args.here) σ (term_at c.args.nodes.now.terms c.args.i) (tally_of c.args.count.now)) =
-    part_stops (walk c.args.left c.args.here) σ (type_at c.args.nodes.now.types) c.args.nodes.now.terms (term_at c.args.nodes.now.terms c.args.i) c.node-node.result.now.span c.node-node.result.now.form c.in-Some.e (tally_of c.args.count.now) c.in_err-a.field-0.0 c.node-node.ensures.form (sym c.part_of.ensures ∙ c.in-Some.is) (c.in_err-a.ensures.is σ h) in
+    let told : StopsAt c.in_err-a.field-0.0 (walk_rules c.args.here (walk c.args.left c.args.here) σ (term_at c.args.nodes.now.terms c.args.i) (tally_of c.args.count.now)) =
+    part_stops c.args.here (walk c.args.left c.args.here) σ (type_at c.args.nodes.now.types) c.args.nodes.now.terms (term_at c.args.nodes.now.terms c.args.i) c.node-node.result.now.span c.node-node.result.now.form c.in-Some.e (tally_of c.args.count.now) c.in_err-a.field-0.0 c.node-node.ensures.form (sym c.part_of.ensures ∙ c.in-Some.is) (c.in_err-a.ensures.is σ h) in
     let e = err_from_is_err_and c.from_residual.result c.from_residual.ensures.1 in rw (e.1, e.2) told
 
 pub visit_parts-give_part-requires : goal.visit_parts-give_part-requires
@@ -284,8 +284,8 @@ pub visit_parts-returns-in-Some-clause-is : goal.visit_parts-returns-in-Some-cla
 visit_parts-returns-in-Some-clause-is t c = λ σ h.
     let a = c.in_ok-a.ensures.is σ h in
     to (Tells c.args.nodes.now.terms c.give_part.new.store.cells.items c.give_part.new.count c.give_part.result) _ _
-    (part_then (walk c.args.left c.args.here) σ (type_at c.args.nodes.now.types) c.args.nodes.now.terms (term_at c.args.nodes.now.terms c.args.i) c.node-node.result.now.span c.node-node.result.now.form c.in-Some.e (tally_of c.args.count.now) (tally_of c.visit.new.count) a.0 c.node-node.ensures.form (sym c.part_of.ensures ∙ c.in-Some.is) a.2)
-    (c.give_part.ensures.is c.args.nodes.now.terms a.0 a.1)
+    (part_then c.args.here (walk c.args.left c.args.here) σ (type_at c.args.nodes.now.types) c.args.nodes.now.terms (term_at c.args.nodes.now.terms c.args.i) c.node-node.result.now.span c.node-node.result.now.form c.in-Some.e (tally_of c.args.count.now) (tally_of c.visit.new.count) a.0 c.node-node.ensures.form (sym c.part_of.ensures ∙ c.in-Some.is) a.2)
+    (c.give_part.ensures.is c.args.nodes.now.terms a.0 a.1 c.node-node.result.now.span)
 
 pub visit_parts-returns-in-Some-clause-grown : goal.visit_parts-returns-in-Some-clause-grown
 visit_parts-returns-in-Some-clause-grown t c = grown_on c.args.store.now.cells.items c.visit.new.store.cells.items c.give_part.new.store.cells.items c.visit.ensures.grown c.give_part.ensures.grown
@@ -327,7 +327,7 @@ pub visit_parts-returns-in_ok-bang-in-LetBang-clause-is : goal.visit_parts-retur
 visit_parts-returns-in_ok-bang-in-LetBang-clause-is t c = λ σ h.
     let a = c.in_ok-bang-in-LetBang.ensures.is σ h in
     to (Tells c.args.nodes.now.terms c.visit_held.new.store.cells.items c.visit_held.new.count c.visit_held.result) _ _
-    (let_bang_then (walk c.args.left c.args.here) σ c.node-node.result.now.span (name_of c.in-LetBang.name) (term_at c.args.nodes.now.terms c.in-LetBang.e) (term_at c.args.nodes.now.terms c.in-LetBang.b) (term_at c.args.nodes.now.terms c.args.i) (tally_of c.args.count.now) (tally_of c.visit-in-LetBang.new.count) a.0
+    (let_bang_then c.args.here (walk c.args.left c.args.here) σ c.node-node.result.now.span (name_of c.in-LetBang.name) (term_at c.args.nodes.now.terms c.in-LetBang.e) (term_at c.args.nodes.now.terms c.in-LetBang.b) (term_at c.args.nodes.now.terms c.args.i) (tally_of c.args.count.now) (tally_of c.visit-in-LetBang.new.count) a.0
     (node_let_bang (type_at c.args.nodes.now.types) c.args.nodes.now.terms (term_at c.args.nodes.now.terms c.args.i) c.node-node.result.now.span c.node-node.result.now.form c.in-LetBang.name c.in-LetBang.e c.in-LetBang.b c.node-node.ensures.form c.in-LetBang.is) a.2)
     (c.visit_held.ensures.is σ a.0 (scope_kept c.args.nodes.now.terms c.args.store.now.cells.items c.visit-in-LetBang.new.store.cells.items c.args.scope σ c.visit-in-LetBang.ensures.grown h) a.1)
 
@@ -449,7 +449,7 @@ pub visit_parts-returns-in_ok-pair-in-LetPair-clause-is : goal.visit_parts-retur
 visit_parts-returns-in_ok-pair-in-LetPair-clause-is t c = λ σ h.
     let a = c.in_ok-pair-in-LetPair.ensures.is σ h in
     to (Tells c.args.nodes.now.terms c.visit_halves.new.store.cells.items c.visit_halves.new.count c.visit_halves.result) _ _
-    (let_pair_then (walk c.args.left c.args.here) σ c.node-node.result.now.span (name_of c.in-LetPair.x) (name_of c.in-LetPair.y) (term_at c.args.nodes.now.terms c.in-LetPair.e) (term_at c.args.nodes.now.terms c.in-LetPair.b) (term_at c.args.nodes.now.terms c.args.i) (tally_of c.args.count.now) (tally_of c.visit-in-LetPair.new.count) a.0
+    (let_pair_then c.args.here (walk c.args.left c.args.here) σ c.node-node.result.now.span (name_of c.in-LetPair.x) (name_of c.in-LetPair.y) (term_at c.args.nodes.now.terms c.in-LetPair.e) (term_at c.args.nodes.now.terms c.in-LetPair.b) (term_at c.args.nodes.now.terms c.args.i) (tally_of c.args.count.now) (tally_of c.visit-in-LetPair.new.count) a.0
     (node_let_pair (type_at c.args.nodes.now.types) c.args.nodes.now.terms (term_at c.args.nodes.now.terms c.args.i) c.node-node.result.now.span c.node-node.result.now.form c.in-LetPair.x c.in-LetPair.y c.in-LetPair.e c.in-LetPair.b c.node-node.ensures.form c.in-LetPair.is) a.2)
     (c.visit_halves.ensures.is σ a.0 (scope_kept c.args.nodes.now.terms c.args.store.now.cells.items c.visit-in-LetPair.new.store.cells.items c.args.scope σ c.visit-in-LetPair.ensures.grown h) a.1)
 
@@ -476,7 +476,7 @@ pub visit_parts-returns-in_ok-visit-in-If-clause-is : goal.visit_parts-returns-i
 visit_parts-returns-in_ok-visit-in-If-clause-is t c = λ σ h.
     let a = c.in_ok-visit-in-If.ensures.is σ h in
     to (Tells c.args.nodes.now.terms c.visit_both.new.store.cells.items c.visit_both.new.count c.visit_both.result) _ _
-    (if_then (walk c.args.left c.args.here) σ c.node-node.result.now.span (term_at c.args.nodes.now.terms c.in-If.e) (term_at c.args.nodes.now.terms c.in-If.a) (term_at c.args.nodes.now.terms c.in-If.b) (term_at c.args.nodes.now.terms c.args.i) (tally_of c.args.count.now) (tally_of c.visit-in-If.new.count) a.0
+    (if_then c.args.here (walk c.args.left c.args.here) σ c.node-node.result.now.span (term_at c.args.nodes.now.terms c.in-If.e) (term_at c.args.nodes.now.terms c.in-If.a) (term_at c.args.nodes.now.terms c.in-If.b) (term_at c.args.nodes.now.terms c.args.i) (tally_of c.args.count.now) (tally_of c.visit-in-If.new.count) a.0
     (node_if (type_at c.args.nodes.now.types) c.args.nodes.now.terms (term_at c.args.nodes.now.terms c.args.i) c.node-node.result.now.span c.node-node.result.now.form c.in-If.e c.in-If.a c.in-If.b c.node-node.ensures.form c.in-If.is) a.2)
     (c.visit_both.ensures.is σ σ (scope_kept c.args.nodes.now.terms c.args.store.now.cells.items c.visit-in-If.new.store.cells.items c.args.scope σ c.visit-in-If.ensures.grown h) (scope_kept c.args.nodes.now.terms c.args.store.now.cells.items c.visit-in-If.new.store.cells.items c.args.scope σ c.visit-in-If.ensures.grown h))
 
@@ -503,7 +503,7 @@ pub visit_parts-returns-in_ok-side-in-Case-clause-is : goal.visit_parts-returns-
 visit_parts-returns-in_ok-side-in-Case-clause-is t c = λ σ h.
     let a = c.in_ok-side-in-Case.ensures.is σ h in
     to (Tells c.args.nodes.now.terms c.visit_sides.new.store.cells.items c.visit_sides.new.count c.visit_sides.result) _ _
-    (case_then (walk c.args.left c.args.here) σ c.node-node.result.now.span (name_of c.in-Case.x) (name_of c.in-Case.y) (term_at c.args.nodes.now.terms c.in-Case.e) (term_at c.args.nodes.now.terms c.in-Case.a) (term_at c.args.nodes.now.terms c.in-Case.b) (term_at c.args.nodes.now.terms c.args.i) (tally_of c.args.count.now) (tally_of c.visit-in-Case.new.count) a.0
+    (case_then c.args.here (walk c.args.left c.args.here) σ c.node-node.result.now.span (name_of c.in-Case.x) (name_of c.in-Case.y) (term_at c.args.nodes.now.terms c.in-Case.e) (term_at c.args.nodes.now.terms c.in-Case.a) (term_at c.args.nodes.now.terms c.in-Case.b) (term_at c.args.nodes.now.terms c.args.i) (tally_of c.args.count.now) (tally_of c.visit-in-Case.new.count) a.0
     (node_case (type_at c.args.nodes.now.types) c.args.nodes.now.terms (term_at c.args.nodes.now.terms c.args.i) c.node-node.result.now.span c.node-node.result.now.form c.in-Case.e c.in-Case.x c.in-Case.a c.in-Case.y c.in-Case.b c.node-node.ensures.form c.in-Case.is) a.2)
     (c.visit_sides.ensures.is σ a.0 (scope_kept c.args.nodes.now.terms c.args.store.now.cells.items c.visit-in-Case.new.store.cells.items c.args.scope σ c.visit-in-Case.ensures.grown h) a.1)
 
@@ -530,7 +530,7 @@ visit_parts-returns-in_default-form t c =
     let k = leaf_known (length c.args.nodes.now.types) c.args.i (length c.args.nodes.now.terms) c.node-node.result.now.form c.node-node.ensures.known c.requires.known in
     record {
       is = λ σ h. to (Tells c.args.nodes.now.terms c.give_leaf.new.store.cells.items c.give_leaf.new.count c.give_leaf.result) _ _
-          (leaf_then (walk c.args.left c.args.here) σ (type_at c.args.nodes.now.types) c.args.nodes.now.terms (term_at c.args.nodes.now.terms c.args.i) c.node-node.result.now.span c.node-node.result.now.form (tally_of c.args.count.now) c.node-node.ensures.form l)
+          (leaf_then c.args.here (walk c.args.left c.args.here) σ (type_at c.args.nodes.now.types) c.args.nodes.now.terms (term_at c.args.nodes.now.terms c.args.i) c.node-node.result.now.span c.node-node.result.now.form (tally_of c.args.count.now) c.node-node.ensures.form l)
           (c.give_leaf.ensures.is c.args.nodes.now.terms σ h k);
       grown = c.give_leaf.ensures.grown;
     }
