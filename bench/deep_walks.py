@@ -1,66 +1,126 @@
 #!/usr/bin/env python3
-"""A program that is accepted and walks bags 64 deep within one another, each time through a function of 120 levels, over one row: an ask of it must be
-answered on a stack of 64 MiB, which docs/operators-guide.md tells operators to give. What happens on other stacks is said beside it.
+"""Walks of bags within one another, as deep as they are evaluated at most: each such program must be answered on a stack of 1 MiB, and with one level
+more in each function be told `no 90`, whatever the stack.
 
 usage: bench/deep_walks.py    (PROGRAM=FILE tries another build)
-It ends with status 1 where the program isn't accepted, or an answer doesn't come.
+For 1 to 63 maps, each of whose functions sums the bag before, by functions whose bodies are made deep by each of six forms. It says how small a stack was
+enough for the dearest, and ends with status 1 where one isn't answered on 1 MiB, or isn't refused.
 """
 import json
 import os
 import resource
+import shutil
 import subprocess
 import sys
 import tempfile
 
 TOP = os.path.dirname(os.path.dirname(os.path.abspath(__file__)))
 PROGRAM = os.path.abspath(os.environ.get("PROGRAM", f"{TOP}/out/hitchseason"))
-WANTED = 64
+STACK = 1024
+# Each puts n forms around a number.
+FORMS = {
+    "+": lambda n, e: e + " + 0" * n,
+    "let": lambda n, e: "let c = 0 in " * n + e,
+    "if": lambda n, e: "if 0 <= 1 then " * n + e + " else 0" * n,
+    "application": lambda n, e: "(fn (c : num) => " * n + e + ") (![inf] 0)" * n,
+    "case": lambda n, e: "case true of inl c => " * n + e + " | inr c => 0" * n,
+    "fst": lambda n, e: "fst <" * n + e + ", 0>" * n,
+}
+MAPS = (1, 4, 8, 16, 32, 63)
 
 
-def deep():
-    """63 maps, each of whose functions sums the bag before under two functions of 45 sums each."""
-    zeros = " + 0" * 45
-    lets = [
-        f"let s = fn (b : bag num) => sum[0,1] b{zeros} in",
-        f"let t = fn (b : bag num) => s (![inf] b){zeros} in",
-        "let f = fn (b : bag num) => map (fn (x : num) => t (![inf] b)) people in",
-    ]
-    before = "f"
-    for name in ("g1", "g2", "g3", "g4", "g5"):
-        lets.append(f"let {name} = fn (b : bag num) => {before} (![inf] ({before} (![inf] b))) in")
-        before = name
-    lets.append("let a = g5 (![inf] people) in")
-    lets += [f"let a = {name} (![inf] a) in" for name in ("g4", "g3", "g2", "g1", "f")]
+def program(maps, body):
+    """So many maps of the table, each of which sums the one before in this body: by functions that are applied twice, so that `let`s don't nest."""
+    lets = [f"let f1 = fn (b : bag num) => map (fn (x : num) => {body}) people in"]
+    counts = [1]
+    while 2 * counts[-1] <= maps:
+        n = counts[-1]
+        lets.append(f"let f{2 * n} = fn (b : bag num) => f{n} (![inf] (f{n} (![inf] b))) in")
+        counts.append(2 * n)
+    bag = "people"
+    for n in reversed(counts):
+        while maps >= n:
+            lets.append(f"let a = f{n} (![inf] {bag}) in")
+            bag, maps = "a", maps - n
     return " ".join(lets) + " 0 * sum[0,1] a"
 
 
-def ran(folder, words, mebibytes, script=""):
-    def limit():
-        hard = resource.getrlimit(resource.RLIMIT_STACK)[1]
-        resource.setrlimit(resource.RLIMIT_STACK, (mebibytes * 2**20, hard))
+class Tries:
+    def __init__(self, folder):
+        self.folder = folder
+        table = {"name": "people", "file": "people.csv", "columns": [{"name": "age", "type": "num"}]}
+        owner = {"name": "census", "budget": 10**6, "capacity": 100, "tables": [table], "partitions": []}
+        self.write("cat.json", json.dumps({"analysts": ["ann"], "owners": [owner]}))
+        self.write("people.csv", "age\n30\n")
+        self.write("key", "k" * 32)
 
-    return subprocess.run([PROGRAM, *words], cwd=folder, input=script, capture_output=True, text=True, preexec_fn=limit, check=False)
+    def write(self, name, text):
+        with open(f"{self.folder}/{name}", "w", encoding="utf-8") as file:
+            file.write(text)
+
+    def ran(self, words, kibibytes=STACK, script=""):
+        def limit():
+            resource.setrlimit(resource.RLIMIT_STACK, (kibibytes * 1024, resource.getrlimit(resource.RLIMIT_STACK)[1]))
+
+        return subprocess.run([PROGRAM, *words], cwd=self.folder, input=script, capture_output=True, text=True, preexec_fn=limit, check=False)
+
+    def checked(self, query):
+        self.write("query", query)
+        return self.ran(["check", "cat.json", "census", "query"], 65536).stdout.strip()
+
+    def asked(self, query, kibibytes=STACK):
+        """The reply, or how the run ended without one."""
+        shutil.rmtree(f"{self.folder}/journals", ignore_errors=True)
+        if self.ran(["init", "cat.json", "key"]).returncode:
+            sys.exit("bench/deep_walks.py: no journal could be made")
+        run = self.ran(["run", "cat.json", "key"], kibibytes, f"hello ann\nask census 1 {query}\n")
+        return run.stdout.split("\n")[1] if run.returncode == 0 else f"an end by status {run.returncode}"
+
+    def deepest(self, maps, form):
+        """The deepest body with which so many maps are accepted, and what is said of one level more."""
+        least, most = 0, 128
+        while most - least > 1:
+            middle = (least + most) // 2
+            if self.checked(program(maps, form(middle, "sum[0,1] b"))).startswith("ok"):
+                least = middle
+            else:
+                most = middle
+        return least, self.checked(program(maps, form(most, "sum[0,1] b")))
+
+    def least_stack(self, query):
+        least, most = 32, STACK
+        while most - least > 8:
+            middle = (least + most) // 2
+            if self.asked(query, middle).startswith("answer "):
+                most = middle
+            else:
+                least = middle
+        return most
 
 
 def main():
+    failed, refused, dearest = 0, 0, (0, "")
     with tempfile.TemporaryDirectory() as folder:
-        table = {"name": "people", "file": "people.csv", "columns": [{"name": "age", "type": "num"}]}
-        owner = {"name": "census", "budget": 10**6, "capacity": 100, "tables": [table], "partitions": []}
-        for name, data in (
-            ("cat.json", json.dumps({"analysts": ["ann"], "owners": [owner]})), ("people.csv", "age\n30\n"), ("key", "k" * 32), ("query", deep()),
-        ):  # fmt: skip
-            with open(f"{folder}/{name}", "w", encoding="utf-8") as file:
-                file.write(data)
-        checked = ran(folder, ["check", "cat.json", "census", "query"], WANTED)
-        if checked.stdout != "ok 0\n":
-            sys.exit(f"bench/deep_walks.py: check says {checked.stdout!r}, and `ok 0` is due")
-        ran(folder, ["init", "cat.json", "key"], WANTED)
-        told = {}
-        for mebibytes in (WANTED, 16, 8):
-            reply = ran(folder, ["run", "cat.json", "key"], mebibytes, f"hello ann\nask census 1 {deep()}\n")
-            told[mebibytes] = reply.stdout.split("\n")[1] if reply.returncode == 0 else f"an end by status {reply.returncode}"
-        print("; ".join(f"{mebibytes} MiB of stack: {end}" for mebibytes, end in told.items()))
-        return 0 if told[WANTED].startswith("answer ") else 1
+        tries = Tries(folder)
+        for maps in MAPS:
+            for name, form in FORMS.items():
+                levels, beyond = tries.deepest(maps, form)
+                query = program(maps, form(levels, "sum[0,1] b"))
+                reply = tries.asked(query)
+                if not reply.startswith("answer "):
+                    print(f"{maps} maps, {levels} times {name}: {reply} on {STACK} KiB, and an answer is due")
+                    failed = 1
+                    continue
+                dearest = max(dearest, (tries.least_stack(query), f"{maps} maps, {levels} times {name}"))
+                if beyond != "memory":
+                    continue
+                refused += 1
+                reply = tries.asked(program(maps, form(levels + 1, "sum[0,1] b")))
+                if reply != "no 90":
+                    print(f"{maps} maps, {levels + 1} times {name}: {reply}, and `no 90` is due")
+                    failed = 1
+    print(f"{len(MAPS) * len(FORMS)} programs; the dearest takes {dearest[0]} KiB of stack ({dearest[1]}); {refused} are told `no 90` with a level more")
+    return failed or refused < 20
 
 
 if __name__ == "__main__":

@@ -8,8 +8,8 @@
 It shares nothing with the server but the rules, and stands on programs.py, which reads and checks.
 
 A value is an int (a number), bytes (a text), () (unit), a tuple of two (a pair of either kind), an Injection, a Bang, a list
-(a bag, in the order of its elements), or a Closure. A shape is a Ground, the greatest width of a ground value's bags and the walks that
-their functions take for a row, a tuple of two, a Bang or a Closure. Both are shared wherever a name is used twice, so they stay as small as the run is long.
+(a bag, in the order of its elements), or a Closure. A shape is a Ground, the greatest width of a ground value's bags, the walks that
+their functions take for a row and how deep they are evaluated, a tuple of two, a Bang or a Closure. Both are shared wherever a name is used twice, so they stay as small as the run is long.
 """
 from programs import PEOPLE, Node, Refused, checked, sensitivity_text
 
@@ -18,6 +18,7 @@ DEPTH_LIMIT = 128
 TURN_LIMIT = 20_000
 WIDTH_LIMIT = 64
 WALK_LIMIT = 64
+REACH_LIMIT = 400
 
 
 class Closure:
@@ -50,19 +51,19 @@ class Injection:
 
 
 class Ground(int):
-    """How many tables wide a ground value's bags are, and how many walks of bags their functions take where each table has one row."""
+    """How many tables wide a ground value's bags are, how many walks of bags their functions take where each table has one row, and how deep they are
+    evaluated, the walks in them too."""
 
-    def __new__(cls, width, walks=0):
+    def __new__(cls, width, walks=0, height=0):
         made = super().__new__(cls, width)
-        made.walks = walks
+        made.walks, made.height = walks, height
         return made
-
 
 
 
 class Plan:
     def __init__(self):
-        self.turns = self.depth = self.width = self.walks = 0
+        self.turns = self.depth = self.width = self.walks = self.reach = 0
 
     def visit(self, node, scope, depth):
         """The shape of a term that is visited at this depth."""
@@ -71,7 +72,7 @@ class Plan:
         if self.turns == TURN_LIMIT:
             raise Refused(f"36 {node.span()}")
         self.turns += 1
-        self.depth = max(self.depth, depth)
+        self.depth, self.reach = max(self.depth, depth), max(self.reach, depth)
         shape = getattr(self, SHAPES.get(node.form, "number"))(node, scope, depth + 1, *node.parts)
         self.width = max(self.width, width_of(shape))
         return shape
@@ -87,9 +88,16 @@ class Plan:
         return Ground(0)
 
     def tally(self, node, scope, depth, *parts):
-        """A bag's size or sum: a walk, with those inside it."""
-        self.walks += 1 + self.visit(parts[-1], scope, depth).walks
+        """A bag's size or sum."""
+        self.walk(self.visit(parts[-1], scope, depth), depth)
         return Ground(0)
+
+    def walk(self, bag, depth):
+        """A walk, with those inside it, whose functions are evaluated from this depth on."""
+        if depth + bag.height > REACH_LIMIT:
+            raise Refused("90")
+        self.walks += 1 + bag.walks
+        self.reach = max(self.reach, depth + bag.height)
 
     def pair(self, node, scope, depth, a, b):
         left, right = self.visit(a, scope, depth), self.visit(b, scope, depth)
@@ -97,7 +105,7 @@ class Plan:
         return self.widest(left, right) if both_ground else (left, right)
 
     def widest(self, left, right):
-        return Ground(max(left, right), max(left.walks, right.walks))
+        return Ground(max(left, right), max(left.walks, right.walks), max(left.height, right.height))
 
     def half(self, node, scope, depth, e):
         return halves(self.visit(e, scope, depth))[0 if node.form == "fst" else 1]
@@ -149,17 +157,18 @@ class Plan:
             raise Refused(f"37 {node.span()} {left + right}")
         if left.walks + right.walks >= WALK_LIMIT:
             raise Refused("90")
-        return Ground(left + right, left.walks + right.walks)
+        return Ground(left + right, left.walks + right.walks, max(left.height, right.height))
 
     def over_bag(self, node, scope, depth, f, b):
         function = self.visit(f, scope, depth)
         bag = self.visit(b, scope, depth)
-        before, self.walks = self.walks, 0
+        before = self.walks, self.reach
+        self.walks, self.reach = 0, depth
         behind = self.behind(node, bag, lambda: self.visit(*function.entered(Ground(0)), depth))
-        inside, self.walks = bag.walks + bag * self.walks, before
-        if inside >= WALK_LIMIT:
+        behind.walks, behind.height = bag.walks + bag * self.walks, max(bag.height, self.reach - depth)
+        self.walks, self.reach = before
+        if behind.walks >= WALK_LIMIT:
             raise Refused("90")
-        behind.walks = inside
         return behind
 
     def behind(self, node, bag, enter):

@@ -64,7 +64,7 @@ class Walks(Plan):
 
     def tally(self, node, scope, depth, *parts):
         bag = self.visit(parts[-1], scope, depth)
-        self.walks += 1 + bag.walks
+        self.walk(bag, depth)
         for flow in flows_of(bag):
             if node.form == "sum" or flow.lessened:
                 self.rows += self.limit * (1 + flow.rows)

@@ -81,7 +81,7 @@ fn plans_and_limits(rt: HostRuntime) -> Result<(), Fail> {
     Ok(())
 }
 
-/// How many walks of bags a program takes where each table has one row, or that those of one bag are too many, which is told as want of memory.
+/// How many walks of bags a program takes where each table has one row, or that those of one bag are too many or too deep, which is told as want of memory.
 #[derive(Clone, Copy, PartialEq, Eq)]
 enum WalkVerdict {
     Takes(u32),
@@ -128,6 +128,18 @@ const DEEP: Piece = (
 
 const ONE_DEEPER: &str = "let a = map (fn (x : num) => x + sum[0,1] a) people in ";
 
+// A map whose function sums another bag, and as many sums more as come; and the eighth of such maps, each over the one before.
+const SUMS: Piece = (
+    "let f = fn (b : bag num) => map (fn (x : num) => sum[0,1] b",
+    1,
+);
+
+const TWICE_AND_AGAIN: Piece = (
+    ") people in let g = fn (b : bag num) => f (![inf] (f (![inf] b))) in let h = fn (b : bag num) => g (![inf] (g (![inf] b))) in \
+    let k = fn (b : bag num) => h (![inf] (h (![inf] b))) in let a = k (![inf] people) in ",
+    1,
+);
+
 // A function that takes two walks, and as many more as come.
 const MANY: Piece = (
     "size (map (fn (x : num) => let y = size people + size people in ",
@@ -135,7 +147,7 @@ const MANY: Piece = (
 );
 
 #[rattlefmt::skip]
-static WALKS: [(&[Piece], WalkVerdict); 21] = [
+static WALKS: [(&[Piece], WalkVerdict); 23] = [
     (&[("size people", 1)], WalkVerdict::Takes(1)),
     (&[("size people + sum[0,9] people", 1)], WalkVerdict::Takes(2)),
     (&[("if size people <= 3 then 0 else size people", 1)], WalkVerdict::Takes(2)),
@@ -157,6 +169,9 @@ static WALKS: [(&[Piece], WalkVerdict); 21] = [
     // nothing but walks within one another, 64 deep and 65 deep
     (&[WITHIN, ("let f = fn (b : bag num) => f (![inf] (f (![inf] b))) in ", 4), DEEP, (ONE_DEEPER, 15), ("sum[0,1] a", 1)], WalkVerdict::Takes(64)),
     (&[WITHIN, ("let f = fn (b : bag num) => f (![inf] (f (![inf] b))) in ", 4), DEEP, (ONE_DEEPER, 16), ("sum[0,1] a", 1)], WalkVerdict::NoMemory),
+    // eight maps, each of which sums the one before under 47 sums and under 48: evaluated within 400 levels, and deeper
+    (&[SUMS, (" + 0", 47), TWICE_AND_AGAIN, ("0 * sum[0,1] a", 1)], WalkVerdict::Takes(9)),
+    (&[SUMS, (" + 0", 48), TWICE_AND_AGAIN, ("0 * sum[0,1] a", 1)], WalkVerdict::NoMemory),
     // each `let` doubles them: six of them take 64
     (&[WALKED, ("let a = map (fn (x : num) => x + sum[0,1] a) a in ", 5), ("size a", 1)], WalkVerdict::Takes(64)),
     (&[WALKED, ("let a = map (fn (x : num) => x + sum[0,1] a) a in ", 6), ("size a", 1)], WalkVerdict::NoMemory),
