@@ -3,7 +3,7 @@ mod ExamplesOfAnswers
 mod ExamplesOfBooks
 mod ExamplesOfParts
 mod ExamplesOfShut
-mod Limits
+pub mod Limits
 pub mod Told
 pub mod Readings
 pub mod Existing

@@ -1,17 +1,23 @@
 -- Programs at each limit of the run without data, and one past it.
-use Rattle.std.proofs.Common.{◌≡◌, ℕ, zero, suc, codes, refl, pos}
+use Rattle.std.proofs.Common.{◌≡◌, ◌∙◌, ℕ, List, zero, suc, codes, refl, sym, ap, pos}
+use Rattle.fz_frac.specs.declared.sens.Sens.{Sens}
 use Rattle.fz_frac.specs.Distance.{Fin}
 use Rattle.fz_frac.specs.Lowest.{gcd, gcd_in, is_out}
+use Rattle.fz_frac.specs.Sens.{distance_of}
 use Rattle.fz_ast.specs.Terms.{AppE, ClipE, FunE, IfE, LeE, LetE, NumE, PairE, PlusE, SizeE, TimesE, UnionE, Name, Term, VarE, at}
 use Rattle.fz_ast.specs.Types.{NumT}
 use Rattle.metric_law.specs.Worked.{worked_tables}
 use Rattle.shape_law.specs.Walk.{depth_limit}
 use Rattle.shape_law.specs.Worked.{nested}
+use Rattle.shape_run.specs.Plans.{IsPlanOf}
 use Rattle.wire_lines.specs.Refusal.{ill_typed, unbounded, no_number, too_deep, too_long, too_wide}
 use Rattle.wire_lines.specs.declared.refusal.TypeFault.TheVariants.{Unbound}
-use Rattle.answer_path.specs.Reading.{read}
+use Rattle.answer_path.specs.declared.program.Accepted.{Accepted}
+use Rattle.answer_path.specs.Reading.{read, IsReading}
 use Rattle.answer_path.specs.Judgement.{TakesTooManyWalks, refused_for, accepted, judgement_of}
+use Rattle.answer_path.specs.Code.{IsAccepted}
 use Rattle.answer_path.proofs.SizePeople.{span}
+use Rattle.answer_path.proofs.Told.{accepted_walks_little}
 
 abbrev name : Name → Term
 name x = at (span 1 2) (VarE x)
@@ -92,11 +98,11 @@ unfolding judgement_of depth_limit gcd gcd_in is_out
 too_wide_is = refl
 
 -- 0 * size of the last of n maps, each of which sums the bag before for each row
-abbrev unweighed : ℕ → Term
+abbrev pub unweighed : ℕ → Term
 unweighed n = at (span 0 9) (TimesE (pos 0) (nested n))
 
 -- seven are accepted by the typing rules, and take too many walks
-seven_walk_too_much : TakesTooManyWalks worked_tables (unweighed 7)
+pub seven_walk_too_much : TakesTooManyWalks worked_tables (unweighed 7)
 unfolding depth_limit gcd gcd_in is_out
 seven_walk_too_much = (_, _, _, refl, refl)
 
@@ -104,9 +110,24 @@ six_do_not : TakesTooManyWalks worked_tables (unweighed 6) → ⊥
 unfolding depth_limit
 six_do_not walks = absurd (cc walks.4)
 
-six_are_accepted : judgement_of worked_tables (read (unweighed 6)) ≡ accepted (unweighed 6) (Fin 0 1)
+-- both are judged as accepted, but a program of six alone is: that of seven has no plan
+pub six_are_judged : judgement_of worked_tables (read (unweighed 6)) ≡ accepted (unweighed 6) (Fin 0 1)
 unfolding judgement_of depth_limit gcd gcd_in is_out
-six_are_accepted = refl
+six_are_judged = refl
+
+seven_are_judged : judgement_of worked_tables (read (unweighed 7)) ≡ accepted (unweighed 7) (Fin 0 1)
+unfolding judgement_of depth_limit gcd gcd_in is_out
+seven_are_judged = refl
+
+pub six_have_a_plan : IsPlanOf worked_tables (unweighed 6) (record { depth = 10; turns = 39; width = 1; walks = 64 })
+unfolding depth_limit
+six_have_a_plan = (_, refl)
+
+six_are_accepted : (program : List ℕ) (sens : Sens) → IsReading program (read (unweighed 6)) → distance_of sens ≡ Fin 0 1 → IsAccepted worked_tables program (record { term = unweighed 6; sens = sens })
+six_are_accepted program sens reads is = record { reads = reads; accepts = six_are_judged ∙ ap (accepted (unweighed 6)) (sym is); planned = (_, six_have_a_plan) }
+
+seven_are_not : (program : List ℕ) (a : Accepted) → IsReading program (read (unweighed 7)) → IsAccepted worked_tables program a → ⊥
+seven_are_not program a reads is = accepted_walks_little worked_tables program a is (unweighed 7, reads, seven_walk_too_much)
 
 -- without the 0 they are refused by the typing rules
 unbounded_walks : TakesTooManyWalks worked_tables (nested 7) → ⊥

@@ -30,11 +30,13 @@ use Rattle.shape_run.specs.declared.plan.Plan.{Plan}
 use Rattle.shape_run.specs.declared.plan.ShapeFault.{ShapeFault}
 use Rattle.shape_run.specs.declared.plan.ShapeFault.TheVariants.{TooDeep, TooLong, TooWide, NoMemory as NoCell}
 use Rattle.shape_run.specs.Plans.{IsPlanOf, IsStopOf}
-use Rattle.wire_lines.specs.Refusal.{Refusal, by_line, by_program, by_money, by_disk, by_number, no_memory}
+use Rattle.wire_lines.specs.Refusal.{ProgramRefusal, Refusal, by_line, by_program, by_money, by_disk, by_number, no_memory}
 use Rattle.answer_path.specs.Reading.{unlexed, stuck, nested, read, IsReading}
-use Rattle.answer_path.specs.Judgement.{TakesTooManyWalks, accepted, judgement_of, judged_by, refused_for, shaped_by, fault_refusal}
+use Rattle.answer_path.specs.Judgement.{HasTooManyWalks, TakesTooManyWalks, accepted, judgement_of, judged_by, refused_for, shaped_by, fault_refusal}
 use Rattle.owner_house.specs.Names.{AreNames}
-use Rattle.answer_path.specs.Code.{IsProgramRefusal, IsTermRefusal, lex_refusal, parse_refusal, limit_refusal, HasTable, TellsFault}
+use Rattle.answer_path.specs.declared.program.Accepted.{Accepted}
+use Rattle.answer_path.specs.declared.program.Judged.{Judged}
+use Rattle.answer_path.specs.Code.{IsAccepted, IsJudged, IsProgramRefusal, IsRefusedFor, IsTermRefusal, lex_refusal, parse_refusal, limit_refusal, HasTable, TellsFault}
 use Rattle.answer_path.proofs.Readings.{one_reading}
 use Rattle.answer_path.proofs.Programs.{same_term}
 
@@ -139,21 +141,30 @@ walks_accepted : (ts : Signature) (e : Term) → TakesTooManyWalks ts e → (r :
 unfolding judgement_of
 walks_accepted ts e (D, r, s, typed, walks) = (lowest r, ap (judged_by ts e) typed ∙ ap (shaped_by e (lowest r)) walks)
 
--- a program that takes too many walks can only be refused for want of memory
-pub walks_refused : (ts : Signature) (w : List ℕ) (e : Term) (refusal : Refusal) → IsReading w (read e) → TakesTooManyWalks ts e → IsProgramRefusal ts w refusal → refusal ≡ no_memory
-walks_refused ts w e (by_program refusal) reads walks (reading, reads', is) =
+-- so it isn't refused for itself
+pub refused_walks_little : (ts : Signature) (w : List ℕ) (refusal : ProgramRefusal) → IsRefusedFor ts w refusal → HasTooManyWalks ts w → ⊥
+refused_walks_little ts w refusal (reading, reads', is) (e, reads, walks) =
     let a = walks_accepted ts e walks in
     let both : accepted e a.0 ≡ refused_for refusal = sym a.1 ∙ ap (judgement_of ts) (one_reading w (read e) reading reads reads') ∙ is in
-    absurd (cc both)
-walks_refused ts w e no_memory reads walks h = refl
-walks_refused ts w e (by_line refusal) reads walks h = absurd h
-walks_refused ts w e (by_money refusal) reads walks h = absurd h
-walks_refused ts w e (by_disk refusal) reads walks h = absurd h
-walks_refused ts w e (by_number refusal) reads walks h = absurd h
+    cc both
+
+-- a program that takes too many walks can only be refused for want of memory
+pub walks_refused : (ts : Signature) (w : List ℕ) (refusal : Refusal) → HasTooManyWalks ts w → IsProgramRefusal ts w refusal → refusal ≡ no_memory
+walks_refused ts w (by_program refusal) walks h = absurd (refused_walks_little ts w refusal h walks)
+walks_refused ts w no_memory walks h = refl
+walks_refused ts w (by_line refusal) walks h = absurd h
+walks_refused ts w (by_money refusal) walks h = absurd h
+walks_refused ts w (by_disk refusal) walks h = absurd h
+walks_refused ts w (by_number refusal) walks h = absurd h
 
 -- and has no plan
-pub walks_unplanned : (ts : Signature) (w : List ℕ) (e d : Term) (plan : Plan) → IsReading w (read e) → IsReading w (read d) → TakesTooManyWalks ts e → IsPlanOf ts d plan → ⊥
-walks_unplanned ts w e d plan reads reads' walks planned =
-    let same = same_term w e d reads reads' in
-    let stops = sym (ap (shape ts) same) ∙ walks.4 in
+pub planned_walks_little : (ts : Signature) (w : List ℕ) (e : Term) (plan : Plan) → IsReading w (read e) → IsPlanOf ts e plan → HasTooManyWalks ts w → ⊥
+planned_walks_little ts w e plan reads planned (d, reads', walks) =
+    let stops = sym (ap (shape ts) (same_term w d e reads' reads)) ∙ walks.4 in
     cc (stops, planned.1)
+
+pub accepted_walks_little : (ts : Signature) (w : List ℕ) (a : Accepted) → IsAccepted ts w a → HasTooManyWalks ts w → ⊥
+accepted_walks_little ts w a h = planned_walks_little ts w a.term h.planned.0 h.reads h.planned.1
+
+pub judged_walks_little : (ts : Signature) (w : List ℕ) (e : Term) (judged : Judged) → IsReading w (read e) → IsJudged ts e judged → HasTooManyWalks ts w → ⊥
+judged_walks_little ts w e judged reads is = planned_walks_little ts w e judged.plan reads is.planned

@@ -20,12 +20,13 @@ use Rattle.part_views.specs.Views.{signature_in, rows_in}
 use Rattle.sensitivity_check.specs.declared.fault.CheckFault.{CheckFault}
 use Rattle.sensitivity_check.specs.declared.fault.CheckFault.TheVariants.{Unbounded, NoMemory as NoPlace}
 use Rattle.sensitivity_check.specs.Answered.{IsChecked, IsCheckFault}
+use Rattle.shape_run.specs.declared.plan.Plan.{Plan}
 use Rattle.shape_run.specs.declared.plan.ShapeFault.{ShapeFault}
 use Rattle.shape_run.specs.declared.plan.ShapeFault.TheVariants.{TooDeep, TooLong, TooWide, NoMemory as NoCell}
 use Rattle.shape_run.specs.Plans.{IsPlanOf}
 use Rattle.wire_lines.specs.Refusal.{ProgramRefusal, no_token, no_term, too_nested, too_deep, too_long, too_wide, Refusal, by_program, no_memory}
 use Rattle.answer_path.specs.Reading.{Reading, read, IsReading}
-use Rattle.answer_path.specs.Judgement.{refused_for, accepted, judgement_of, fault_refusal, TakesTooManyWalks}
+use Rattle.answer_path.specs.Judgement.{refused_for, accepted, judgement_of, fault_refusal, HasTooManyWalks}
 use Rattle.answer_path.specs.Query.{Query}
 use Rattle.answer_path.specs.Demand.{Demand, asks, recalls, balances}
 use Rattle.answer_path.specs.declared.program.Accepted.{Accepted}
@@ -34,9 +35,11 @@ use Rattle.answer_path.specs.declared.query.Query.{Query as QueryAt}
 use Rattle.answer_path.specs.declared.demand.Demand.{Demand as DemandAt}
 use Rattle.answer_path.specs.declared.demand.Demand.TheVariants.{Asks, Recalls, Balances}
 
--- the program is this term, which is accepted with this sensitivity
-abbrev pub IsAccepted : Signature → List ℕ → Accepted → Type 0
-IsAccepted ts program a = IsReading program (read a.term) × (judgement_of ts (read a.term) ≡ accepted a.term (distance_of a.sens))
+-- The program is this term, which is accepted with this sensitivity. Its run without data has a plan: so it doesn't take too many walks.
+pub record IsAccepted (ts : Signature) (program : List ℕ) (a : Accepted) : Type 0 where
+  pub reads : IsReading program (read a.term)
+  pub accepts : judgement_of ts (read a.term) ≡ accepted a.term (distance_of a.sens)
+  pub planned : (plan : Plan) × IsPlanOf ts a.term plan
 
 -- the program is refused for this
 abbrev pub IsRefusedFor : Signature → List ℕ → ProgramRefusal → Type 0
@@ -127,8 +130,7 @@ IsDemandOf entry balances = ⊤
 
 -- what is asked is a program that takes too many walks over the tables of its view
 abbrev pub AsksTooManyWalks : Holding → Demand → Type 0
-AsksTooManyWalks holding (asks query) =
-    (e : Term) × IsReading query.program (read e) × TakesTooManyWalks (signature_in holding.tables holding.partitions query.view) e
+AsksTooManyWalks holding (asks query) = HasTooManyWalks (signature_in holding.tables holding.partitions query.view) query.program
 AsksTooManyWalks holding (recalls analyst number) = ⊥
 AsksTooManyWalks holding balances = ⊥
 

@@ -64,3 +64,7 @@ judgement_of ts (read e) = judged_by ts e (sensitivity_of ts e)
 -- the program's value on some rows of the tables
 unfoldable pub HasValue : Signature → Dataset → List ℕ → ℤ → Type 0
 HasValue ts X program z = (e : Term) × IsReading program (read e) × Means (rows_of ts X) e (NumV z)
+
+-- the program takes too many walks over the tables
+abbrev pub HasTooManyWalks : Signature → List ℕ → Type 0
+HasTooManyWalks ts program = (e : Term) × IsReading program (read e) × TakesTooManyWalks ts e

@@ -1,17 +1,20 @@
 -- worked examples of the definitions, from the written rules, on both sides of each choice and at each limit
-use Rattle.std.proofs.Common.{◌≡◌, ℕ, ◌+◌, ◌<◌, ◌≤◌, Bool, true, false, cond, List, [], ◌∷◌, ◌++◌, length, Option, Some, None, refl, ap, replicate, subst, arith}
+use Rattle.std.proofs.Common.{◌≡◌, ℕ, ◌+◌, ◌<◌, ◌≤◌, Bool, true, false, cond, List, [], ◌∷◌, ◌++◌, ◌∙◌, length, Option, Some, None, refl, sym, ap, replicate, subst, arith}
 use Rattle.std.specs.Prelude.{◌^◌, Result, Ok, Err, codes, pos, negsuc}
 use Rattle.std.proofs.lemmas.Bool.{le-leb, lt-leb}
 use Rattle.std.specs.Fmt.{digits}
 use Rattle.std.specs.Io.KnownBytes.{prepend_known}
-use mathlib.Core.Logic.{inl, inr}
+use mathlib.Core.Logic.{◌⊎◌, inl, inr}
 use Rattle.fz_frac.specs.Distance.{Fin}
 use Rattle.fz_ast.specs.Signature.{Signature}
 use Rattle.metric_values.specs.Tables.{Dataset}
+use Rattle.metric_law.specs.Worked.{worked_tables}
 use Rattle.wire_lines.specs.Refusal.{no_token}
 use Rattle.wire_lines.specs.Reply.{reply_text}
-use Rattle.answer_path.specs.Reading.{IsReading, unlexed}
+use Rattle.answer_path.specs.Reading.{IsReading, read, unlexed}
 use Rattle.answer_path.specs.Judgement.{judgement_of, refused_for}
+use Rattle.answer_path.proofs.Limits.{seven_walk_too_much, six_are_judged, six_have_a_plan, unweighed}
+use Rattle.answer_path.proofs.Told.{planned_walks_little, refused_walks_little}
 use Rattle.query_server.specs.Status.{status_code, refused_text, usage_text}
 use Rattle.command_words.specs.Command.{Command, audit, check, gap, init, run}
 use Rattle.query_server.specs.Work.{usage, refused, to_check}
@@ -22,10 +25,11 @@ use Rattle.catalog_loading.specs.Loaded.{Loading, key_read, owners_in}
 use Rattle.query_server.specs.Shelves.{Shelf, EachDisk, IsOnlySynced}
 use Rattle.query_server.specs.Run.{script_limit, IsAnswerDue, IsScriptDue}
 use Rattle.session_core.specs.Transcript.{Journals}
-use Rattle.query_server.specs.Check.{accepted_text}
+use Rattle.query_server.specs.Check.{IsProgramDue, accepted_text, status_by, text_by}
 use Rattle.query_server.specs.Gap.{IsGapBy, IsGapDue, gap_text}
 use Rattle.query_server.specs.Due.{AreRead, IfFinished, IsFaultyWordsEnd, IsBeginning, IsForProgram, IsWrittenAt, command_kind}
 use Rattle.query_server.specs.Taken.{IsTaken}
+use Rattle.query_server.specs.declared.end.Status.{Status}
 use Rattle.query_server.specs.declared.end.Status.TheVariants.{Done, ProgramRefused, Usage, Refused, JournalRefused, Fault, DiskFault, NoMemory, ScriptTooLong}
 
 -- ---- statuses and lines
@@ -44,6 +48,10 @@ nameless_line = refl
 whole_line : accepted_text (Fin 2 1) ≡ codes "ok 2\n"
 unfolding digits
 whole_line = refl
+
+zero_line : codes "ok 0\n" ≡ accepted_text (Fin 0 1)
+unfolding digits
+zero_line = refl
 
 fraction_line : accepted_text (Fin 3 2) ≡ codes "ok 3/2\n"
 unfolding digits
@@ -209,10 +217,26 @@ faulty_words_need_a_failure text (inr (inr (is, prefix, failed))) = absurd faile
 -- a program that begins no token is refused, whatever the datasets are, and nothing else is due
 no_token_refused : (X Y : Dataset) (program : List ℕ) → IsReading program (unlexed 0) → IsGapDue [] X Y program ProgramRefused (codes "no 20 0\n")
 unfolding judgement_of reply_text digits
-no_token_refused X Y program reads = record { reading = unlexed 0; reads = reads; due = (refl, refl) }
+no_token_refused X Y program reads =
+    record { reading = unlexed 0; reads = reads; due = (refl, refl); walks = refused_walks_little [] program (no_token 0) (unlexed 0, reads, refl) }
 
 no_token_undone : (X Y : Dataset) (program text : List ℕ) → IsGapBy (refused_for (no_token 0)) [] X Y program Done text → ⊥
 no_token_undone X Y program text (wrong, is) = cc
+
+-- six maps that each sum the bag before for each row are just few enough walks, and to seven nothing is due, though they are judged as accepted
+six_maps_accepted : (program : List ℕ) → IsReading program (read (unweighed 6)) → IsProgramDue worked_tables program Done (codes "ok 0\n")
+six_maps_accepted program reads = record {
+  reading = read (unweighed 6);
+  reads = reads;
+  is_status = sym (ap status_by six_are_judged);
+  is_text = zero_line ∙ sym (ap text_by six_are_judged);
+  walks = planned_walks_little worked_tables program (unweighed 6) _ reads six_have_a_plan;
+}
+
+seven_maps_undue : (X Y : Dataset) (program text : List ℕ) (status : Status) → IsReading program (read (unweighed 7))
+    → IsProgramDue worked_tables program status text ⊎ IsGapDue worked_tables X Y program status text → ⊥
+seven_maps_undue X Y program text status reads (inl due) = due.walks (unweighed 7, reads, seven_walk_too_much)
+seven_maps_undue X Y program text status reads (inr due) = due.walks (unweighed 7, reads, seven_walk_too_much)
 
 -- of two files that are due both are read, or one where something failed, and never the second first
 module _ (a b c : List ℕ) where

@@ -1,21 +1,40 @@
--- what is said of a program that is refused
+-- what is said of a program that is refused, and of one that is accepted
 use Rattle.std.proofs.Common.{◌≡◌, ℕ, List, refl, sym, ◌∙◌, ap, subst}
 use Rattle.std.specs.Prelude.{ℤ}
 use Rattle.fz_ast.specs.Signature.{Signature}
 use Rattle.fz_ast.specs.Terms.{Term}
 use Rattle.fz_frac.specs.Distance.{Distance}
+use Rattle.fz_frac.specs.Sens.{distance_of}
 use Rattle.metric_law.specs.Means.{Means}
 use Rattle.metric_values.specs.Tables.{Dataset, apart, rows_of}
 use Rattle.metric_values.specs.Values.{NumV}
-use Rattle.wire_lines.specs.Refusal.{ProgramRefusal, by_program}
+use Rattle.wire_lines.specs.Refusal.{ProgramRefusal, Refusal, by_disk, by_line, by_money, by_number, by_program, no_memory, refusal_at}
+use Rattle.wire_lines.specs.declared.refusal.Refusal.{Refusal as RefusalAt}
+use Rattle.wire_lines.specs.declared.refusal.Refusal.TheVariants.{NoMemory}
 use Rattle.wire_lines.specs.Reply.{refused, reply_text}
-use Rattle.answer_path.specs.Code.{IsRefusedFor}
+use Rattle.answer_path.specs.declared.program.Accepted.{Accepted}
+use Rattle.answer_path.specs.Code.{IsAccepted, IsProgramRefusal, IsRefusedFor}
 use Rattle.answer_path.specs.Reading.{IsReading, read}
-use Rattle.answer_path.specs.Judgement.{HasValue, Judgement, refused_for, accepted, judgement_of}
-use Rattle.query_server.specs.Check.{IsProgramDue, status_by, text_by}
+use Rattle.answer_path.specs.Judgement.{HasTooManyWalks, HasValue, Judgement, refused_for, accepted, judgement_of}
+use Rattle.answer_path.proofs.Told.{accepted_walks_little, refused_walks_little}
+use Rattle.query_server.specs.Check.{IsProgramDue, accepted_text, status_by, text_by}
 use Rattle.query_server.specs.Gap.{IsGapBy, IsGapDue, gap_text}
 use Rattle.query_server.specs.declared.end.Status.{Status}
 use Rattle.query_server.specs.declared.end.Status.TheVariants as code
+
+pub is_memory : (refusal : RefusalAt) → refusal_at refusal ≡ no_memory → refusal ≡ NoMemory
+is_memory NoMemory is = refl
+is_memory refusal is = cc is
+
+-- a program's refusal that isn't want of memory is one of the program
+pub refused_by_program : (tables : Signature) (program : List ℕ) (refusal : Refusal) → (refusal ≡ no_memory → ⊥) → IsProgramRefusal tables program refusal
+    → (its : ProgramRefusal) × (refusal ≡ by_program its) × IsRefusedFor tables program its
+refused_by_program tables program (by_program its) some is = (its, refl, is)
+refused_by_program tables program no_memory some is = absurd (some refl)
+refused_by_program tables program (by_line wrong) some is = absurd is
+refused_by_program tables program (by_money wrong) some is = absurd is
+refused_by_program tables program (by_disk wrong) some is = absurd is
+refused_by_program tables program (by_number wrong) some is = absurd is
 
 pub program_refused : (tables : Signature) (program text : List ℕ) (refusal : ProgramRefusal) → IsRefusedFor tables program refusal → text ≡ reply_text (refused (by_program refusal))
     → IsProgramDue tables program code.ProgramRefused text
@@ -24,24 +43,37 @@ program_refused tables program text refusal (reading, reads, is) same = record {
   reads = reads;
   is_status = sym (ap status_by is);
   is_text = same ∙ sym (ap text_by is);
+  walks = refused_walks_little tables program refusal (reading, reads, is);
 }
 
+-- of one that is accepted
+pub program_accepted : (tables : Signature) (program text : List ℕ) (a : Accepted) → IsAccepted tables program a → text ≡ accepted_text (distance_of a.sens) → IsProgramDue tables program code.Done text
+program_accepted tables program text a is same = record {
+  reading = read a.term;
+  reads = is.reads;
+  is_status = sym (ap status_by is.accepts);
+  is_text = same ∙ sym (ap text_by is.accepts);
+  walks = accepted_walks_little tables program a is;
+}
+
+-- the same of two datasets
 pub gap_refused : (tables : Signature) (X Y : Dataset) (program text : List ℕ) (refusal : ProgramRefusal) → IsRefusedFor tables program refusal → text ≡ reply_text (refused (by_program refusal))
     → IsGapDue tables X Y program code.ProgramRefused text
 gap_refused tables X Y program text refusal (reading, reads, is) same = record {
   reading = reading;
   reads = reads;
   due = subst (λ (j : Judgement). IsGapBy j tables X Y program code.ProgramRefused text) (sym is) (refl, same);
+  walks = refused_walks_little tables program refusal (reading, reads, is);
 }
 
--- of one that is accepted
 pub gap_accepted : (tables : Signature) (X Y : Dataset) (program text : List ℕ) (e : Term) (r : Distance) (y z : ℤ) → IsReading program (read e) → judgement_of tables (read e) ≡ accepted e r
-    → Means (rows_of tables X) e (NumV y) → Means (rows_of tables Y) e (NumV z) → text ≡ gap_text (apart X Y) r y z → IsGapDue tables X Y program code.Done text
+    → (HasTooManyWalks tables program → ⊥) → Means (rows_of tables X) e (NumV y) → Means (rows_of tables Y) e (NumV z) → text ≡ gap_text (apart X Y) r y z → IsGapDue tables X Y program code.Done text
 unfolding HasValue
-gap_accepted tables X Y program text e r y z reads is first second same = record {
+gap_accepted tables X Y program text e r y z reads is walks first second same = record {
   reading = read e;
   reads = reads;
   due = subst (λ (j : Judgement). IsGapBy j tables X Y program code.Done text) (sym is) (y, z, (e, reads, first), (e, reads, second), refl, same);
+  walks = walks;
 }
 
 -- a judgement gives the status

@@ -21,7 +21,7 @@ use Rattle.generated_run.proofs.Scripts.{transcript_of}
 use Rattle.query_server.proofs.Doors.{doors_stay, doors_stay_on}
 use Rattle.query_server.proofs.Contents.{at_held, at_told, for_contents}
 use Rattle.query_server.proofs.Endings.{counted_lawful, house_by, house_served_by, made_lawful, work_by, work_comes}
-use Rattle.query_server.proofs.Outcomes.{Comes, comparison_by, disks_of, grant_of, finished_due, finished_map, left_by_run, name_by, program_by, program_of, run_of, status_written, usage_of, verdict_by}
+use Rattle.query_server.proofs.Outcomes.{Comes, comparison_by, disks_of, grant_of, finished_due, finished_map, left_by_run, name_by, program_by, program_of, run_of, status_written, usage_of, verdict_by, walks_by}
 
 pub lines_exact : LinesAreExact
 lines_exact words before after status text line held files =
@@ -62,8 +62,10 @@ programs_exact words before after status text line held tables program files =
 pub verdicts_exact : VerdictsAreExact
 verdicts_exact words before after status text line held tables program reading files is reads =
     let comes = Comes words before.files.names after.files.names before.bay.shelf after.bay.shelf status text in
-    let some = at_held held before.files.held before.source.left comes files line.1 in
-    verdict_by (work_of words (always held)) before.bay.shelf after.bay.shelf tables program some.0 reading status text is reads some.1.0
+    let some = at_held held before.files.held before.source.left comes files line.1 in (
+      verdict_by (work_of words (always held)) before.bay.shelf after.bay.shelf tables program some.0 reading status text is reads some.1.0,
+      λ walks. walks_by (work_of words (always held)) before.bay.shelf after.bay.shelf tables program some.0 status text is walks some.1.0,
+    )
 
 pub statuses_of_commands : StatusesAreOfCommands
 statuses_of_commands words before after status text (written, (reads, script, told, is, (due, read))) =

@@ -10,7 +10,7 @@ use Rattle.query_server.specs.Grant.{verdict_on, verdict_status}
 use mathlib.Core.Logic.{◌⊎◌, inl, inr}
 use Rattle.word_streams.specs.Draws.{draws_of}
 use Rattle.answer_path.specs.Reading.{Reading, IsReading}
-use Rattle.answer_path.specs.Judgement.{Judgement, refused_for, accepted, judgement_of}
+use Rattle.answer_path.specs.Judgement.{HasTooManyWalks, Judgement, refused_for, accepted, judgement_of}
 use Rattle.answer_path.proofs.Readings.{one_reading}
 use Rattle.metric_values.specs.Tables.{Dataset}
 use Rattle.session_core.specs.Transcript.{Journals}
@@ -185,6 +185,27 @@ pub verdict_by : (ending : Work) (b a : Shelf) (tables : Signature) (program scr
 verdict_by ending b a tables program script reading status text is reads written =
     finished_map status (IsDue ending b a script status text) (status ≡ status_by (judgement_of tables reading)) (verdict_due ending b a tables program script reading status text is reads)
     (finished_due ending b a script status text written)
+
+-- to a program that takes too many walks nothing is due, and no disk is named: so memory ran out, or something failed
+no_verdict_due : (work : Work) (b a : Shelf) (tables : Signature) (program script : List ℕ) (status : Status) (text : List ℕ) → IsForProgram tables program work → HasTooManyWalks tables program
+    → IsDue work b a script status text → ⊥
+no_verdict_due (to_check over other) b a tables program script status text is walks due =
+    due.walks (subst (λ (p : Signature × List ℕ). HasTooManyWalks p.0 p.1) (sym (some_same (over, other) (tables, program) is)) walks)
+no_verdict_due (to_compare over X Y other) b a tables program script status text is walks due =
+    due.walks (subst (λ (p : Signature × List ℕ). HasTooManyWalks p.0 p.1) (sym (some_same (over, other) (tables, program) is)) walks)
+no_verdict_due work b a tables program script status text is walks due = absurd (cc is)
+
+no_disk_named : (work : Work) (b a : Shelf) (tables : Signature) (program text : List ℕ) → IsForProgram tables program work → IsDiskLine work b a text → ⊥
+no_disk_named (to_check over other) b a tables program text is named = named
+no_disk_named (to_compare over X Y other) b a tables program text is named = named
+no_disk_named work b a tables program text is named = absurd (cc is)
+
+pub walks_by : (ending : Work) (b a : Shelf) (tables : Signature) (program script : List ℕ) (status : Status) (text : List ℕ) → IsForProgram tables program ending → HasTooManyWalks tables program
+    → IsWrittenAt ending b a script status text → (status ≡ code.NoMemory) ⊎ (status ≡ code.Fault)
+walks_by ending b a tables program script status text is walks (inl (inl due)) = absurd (no_verdict_due ending b a tables program script status text is walks due)
+walks_by ending b a tables program script status text is walks (inl (inr (inl memory, may))) = inl memory.0
+walks_by ending b a tables program script status text is walks (inl (inr (inr disk, may))) = absurd (no_disk_named ending b a tables program text is disk.1)
+walks_by ending b a tables program script status text is walks (inr (fault, cut)) = inr fault
 
 -- the commands of a status
 pub usage_of : (command : Option Command) (work : Work) → ComesTo command work → IsStatusOf work code.Usage → command ≡ None

@@ -5,7 +5,7 @@ use Rattle.fz_frac.specs.Distance.{Distance}
 use Rattle.wire_lines.specs.Refusal.{by_program}
 use Rattle.wire_lines.specs.Reply.{refused as refused_reply, sensitivity_text, reply_text}
 use Rattle.answer_path.specs.Reading.{Reading, IsReading}
-use Rattle.answer_path.specs.Judgement.{Judgement, refused_for, accepted, judgement_of}
+use Rattle.answer_path.specs.Judgement.{HasTooManyWalks, Judgement, refused_for, accepted, judgement_of}
 use Rattle.outside_bays.specs.Bays.{Same}
 use Rattle.catalog_loading.specs.Steps.{FileStep, ◌>>=◌, done, file_read, from}
 use Rattle.catalog_loading.specs.Loaded.{catalog_read, entry_named, owner_loaded}
@@ -40,12 +40,13 @@ text_by (refused_for refusal) = reply_text (refused_reply (by_program refusal))
 text_by (accepted e r) = accepted_text r
 
 -- What is due to a program over these tables: its bytes have a reading, and by the typing rules and the run without data that
--- comes to this status and this text.
+-- comes to this status and this text. To a program that takes too many walks nothing is due: it ends for want of memory.
 pub record IsProgramDue (tables : Signature) (program : List ℕ) (status : Status) (text : List ℕ) : Type 0 where
   pub reading : Reading
   pub reads : IsReading program reading
   pub is_status : status ≡ status_by (judgement_of tables reading)
   pub is_text : text ≡ text_by (judgement_of tables reading)
+  pub walks : HasTooManyWalks tables program → ⊥
 
 abbrev pub check_duty : (tables : Signature) (program : List ℕ) → Duty
 check_duty tables program = record {

@@ -8,7 +8,7 @@ use Rattle.metric_values.specs.Tables.{Dataset, IsDataset, apart}
 use Rattle.wire_lines.specs.Refusal.{by_program}
 use Rattle.wire_lines.specs.Reply.{refused as refused_reply, sensitivity_text, reply_text}
 use Rattle.answer_path.specs.Reading.{Reading, IsReading}
-use Rattle.answer_path.specs.Judgement.{Judgement, HasValue, refused_for, accepted, judgement_of}
+use Rattle.answer_path.specs.Judgement.{HasTooManyWalks, Judgement, HasValue, refused_for, accepted, judgement_of}
 use Rattle.owner_catalog.specs.Entries.{Catalog, OwnerEntry}
 use Rattle.outside_bays.specs.Bays.{Same}
 use Rattle.catalog_loading.specs.Steps.{FileStep, ◌>>=◌, done, file_read, from}
@@ -73,11 +73,12 @@ IsGapBy (accepted e r) tables X Y program status text =
     × (status ≡ Done) × (text ≡ gap_text (apart X Y) r y z)
 
 -- What is due to a program on two datasets: its bytes have a reading, and by the typing rules, the run without data and its
--- values on both that comes to this status and this text.
+-- values on both that comes to this status and this text. To a program that takes too many walks nothing is due, as in a `check`.
 pub record IsGapDue (tables : Signature) (X Y : Dataset) (program : List ℕ) (status : Status) (text : List ℕ) : Type 0 where
   pub reading : Reading
   pub reads : IsReading program reading
   pub due : IsGapBy (judgement_of tables reading) tables X Y program status text
+  pub walks : HasTooManyWalks tables program → ⊥
 
 abbrev pub gap_duty : (tables : Signature) (X Y : Dataset) (program : List ℕ) → Duty
 gap_duty tables X Y program = record {

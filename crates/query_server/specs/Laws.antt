@@ -13,7 +13,7 @@ use Rattle.owner_house.specs.Owner.{Owner}
 use Rattle.service_workers.specs.Services.{Door}
 use Rattle.answer_path.specs.Query.{Query}
 use Rattle.answer_path.specs.Reading.{Reading, IsReading}
-use Rattle.answer_path.specs.Judgement.{judgement_of}
+use Rattle.answer_path.specs.Judgement.{HasTooManyWalks, judgement_of}
 use Rattle.owner_house.specs.House.{house_of}
 use Rattle.answer_path.specs.Demand.{asks}
 use Rattle.answer_path.specs.Shut.{IsPendingOf}
@@ -39,7 +39,7 @@ use Rattle.query_server.specs.Service.{IsServiceDone, IsServiceLeft}
 use Rattle.query_server.specs.Valid.{IsValidFor, MayEndWell}
 use Rattle.query_server.specs.Found.{AreKept, IsGrantMade, IsKept}
 use Rattle.query_server.specs.declared.end.Status.{Status}
-use Rattle.query_server.specs.declared.end.Status.TheVariants.{DiskFault as DiskFailed, Done, Fault, JournalFull, JournalRefused}
+use Rattle.query_server.specs.declared.end.Status.TheVariants.{DiskFault as DiskFailed, Done, Fault, JournalFull, JournalRefused, NoMemory}
 use Rattle.query_server.specs.declared.end.Status.TheVariants.{ProgramRefused, Refused, ScriptTooLong, TooLarge, Usage}
 
 -- What follows from the clauses of the top call. Where files, source and sink tell what they hold, its clause `line` is exact: what
@@ -66,12 +66,14 @@ ProgramsAreExact = (words : List (List ℕ)) (before after : Outside) (status : 
     × ((X Y : Dataset) → work_of words (always held) ≡ to_compare tables X Y program
     → IsWrittenAt (to_compare tables X Y program) before.bay.shelf after.bay.shelf [] status text)
 
--- and the verdict: status 1 comes exactly where the program is refused, by its reading, and 0 where it is accepted.
+-- and the verdict: status 1 comes exactly where the program is refused, by its reading, and 0 where it is accepted. One that takes
+-- too many walks ends for want of memory, unless a call failed.
 abbrev pub VerdictsAreExact : Type 0
 VerdictsAreExact = (words : List (List ℕ)) (before after : Outside) (status : Status) (text : List ℕ) → IsLine words before after status text
     → (held : Contents) (tables : Signature) (program : List ℕ) (reading : Reading) → before.files.held ≡ Some held
     → IsForProgram tables program (work_of words (always held)) → IsReading program reading
     → IfFinished status (status ≡ status_by (judgement_of tables reading))
+    × (HasTooManyWalks tables program → (status ≡ NoMemory) ⊎ (status ≡ Fault))
 
 -- Usage comes only where the words are no command, status 1 of a check or a gap alone, 8 of a run, 9 and 10 of a grant, and 4 of a command
 -- that takes the owners' disks, whatever files and source tell.

@@ -42,6 +42,7 @@ fn accepted_line(alloc: Global, sens: Sens) -> Result<Vec<u8>, AllocError>
 }
 
 /// What a program comes to over the tables of a dataset.
+#[tactic(auto, using(crate::proofs::Judged::program_accepted))]
 fn judge(alloc: Global, dataset: &Dataset, program: &[u8]) -> Result<End, AllocError>
     requires { AreNames dataset.now.tables }
     ensures { IfOk result (IsVerdictOn dataset.now.tables program.now) }

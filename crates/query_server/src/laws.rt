@@ -22,7 +22,7 @@ pub fn programs_are_exact()
     ensures { ProgramsAreExact }
 {}
 
-/// Status 1 comes exactly where a program is refused, and 0 where it is accepted.
+/// Status 1 comes exactly where a program is refused, and 0 where it is accepted; a program that takes too many walks ends for want of memory.
 pub fn verdicts_are_exact()
     ensures { VerdictsAreExact }
 {}

@@ -22,7 +22,6 @@ fn refusal_line(alloc: Global, refusal: &Refusal<'_>) -> Result<Vec<u8>, AllocEr
 }
 
 /// How a program that is refused ends. Want of memory is no refusal of it.
-#[tactic(auto, using(crate::proofs::Judged::program_refused, crate::proofs::Judged::gap_refused))]
 pub(crate) fn refuse(alloc: Global, refusal: &Refusal<'_>) -> Result<End, AllocError>
     ensures check { (tables : Signature) (program : List ℕ) → IsProgramRefusal tables program (refusal_at refusal.now) →
         IfOk result (IsVerdictOn tables program) }

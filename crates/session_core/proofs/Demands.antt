@@ -20,12 +20,16 @@ use Rattle.fz_ast.specs.Signature.{Signature}
 use Rattle.budget_ledger.specs.declared.failure.Failure.{Failure}
 use Rattle.wire_lines.specs.Reply.{Replied, refused}
 use Rattle.wire_lines.specs.Refusal.{by_program, by_money, no_memory}
-use Rattle.owner_house.specs.Owner.{Owner, signature_of_view, rows_of_view, HasData}
+use Rattle.owner_catalog.specs.Entries.{PartitionEntry}
+use Rattle.part_views.specs.Holding.{Holding}
+use Rattle.part_views.specs.Views.{signature_in}
+use Rattle.owner_house.specs.Owner.{IsOwnerOf, Owner, signature_of_view, rows_of_view, HasData}
 use Rattle.owner_desk.specs.Passes.{Told, closing, records_told}
 use Rattle.answer_path.specs.Query.{Query}
 use Rattle.answer_path.specs.Demand.{Demand, asks, recalls, balances}
 use Rattle.answer_path.specs.Reading.{Reading, IsReading}
-use Rattle.answer_path.specs.Judgement.{Judgement, refused_for, accepted, judgement_of}
+use Rattle.answer_path.specs.Code.{AsksTooManyWalks}
+use Rattle.answer_path.specs.Judgement.{HasTooManyWalks, Judgement, refused_for, accepted, judgement_of}
 use Rattle.answer_path.specs.Program.{IsCharged}
 use Rattle.answer_path.specs.Noise.{noise_at}
 use Rattle.answer_path.specs.Verdict.{Verdict, program_refused, money_refused, granted, money_refusal, ask_for, verdict_by_money, IsVerdictBy, IsVerdict}
@@ -44,10 +48,20 @@ use Rattle.owner_history.proofs.Prefixes.{prefix_self, prefix_by, prefix_trans, 
 use Rattle.owner_history.proofs.Recalls.{recall_borne}
 use Rattle.owner_history.proofs.Steps.{settled_for_on}
 use Rattle.owner_history.proofs.Grants.{accepted_as}
+use Rattle.session_core.specs.Code.{WantsTooManyWalks}
+use Rattle.session_core.specs.Meant.{wants}
 use Rattle.session_core.specs.Exchanges.{Exchange}
 use Rattle.session_core.specs.Served.{MeetsOnSome, ShutsFor, IsBorneOutTo}
 use Rattle.session_core.specs.Transcript.{ClosesBy}
 use Rattle.session_core.specs.Said.{NothingFailed}
+
+-- what is asked over an owner's tables is asked over those that it holds
+pub walks_held : (entry : Entry) (owner : Owner) (holding : Holding) (o : ℕ) (demand : Demand) → IsOwnerOf entry holding owner → WantsTooManyWalks (wants o owner demand) → AsksTooManyWalks holding demand
+walks_held entry owner holding o (asks query) is walks =
+    subst (λ (ts : Signature). HasTooManyWalks (signature_in ts holding.partitions query.view) query.program) is.tables_are
+    (subst (λ (ps : List PartitionEntry). HasTooManyWalks (signature_in owner.tables ps query.view) query.program) is.partitions_are walks)
+walks_held entry owner holding o (recalls analyst number) is walks = absurd walks
+walks_held entry owner holding o balances is walks = absurd walks
 
 -- a prefix that is as long is the whole
 pub prefix_whole : {X : Type 0} (xs ys : List X) → IsPrefix xs ys → length ys ≤ length xs → xs ≡ ys

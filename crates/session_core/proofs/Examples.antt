@@ -41,11 +41,16 @@ use Rattle.answer_path.specs.Program.{IsCharged}
 use Rattle.answer_path.specs.Noise.{noise_at}
 use Rattle.answer_path.specs.Verdict.{program_refused, money_refused, granted, ask_for, IsVerdict}
 use Rattle.answer_path.specs.Answered.{outcome_reply, granted_record, grant_records, HasWorthIn, IsSettledAt, IsAnswered, IsAsked}
+use Rattle.answer_path.specs.Demand.{asks, balances, recalls}
+use Rattle.answer_path.specs.Reading.{IsReading, read}
 use Rattle.answer_path.proofs.Answering.{money_says}
+use Rattle.answer_path.proofs.Limits.{seven_walk_too_much, six_have_a_plan, unweighed}
 use Rattle.answer_path.proofs.SizePeople.{size_people, size_term, size_reads}
+use Rattle.answer_path.proofs.Told.{planned_walks_little}
 use Rattle.owner_history.specs.Granted.{told_settlement}
 use Rattle.owner_house.specs.House.{Register, house_of, owner_at}
-use Rattle.session_core.specs.Meant.{meant_by}
+use Rattle.session_core.specs.Code.{WantsTooManyWalks}
+use Rattle.session_core.specs.Meant.{Meant, meant_by, wants}
 use Rattle.session_core.specs.Turns.{Turn, turns_of}
 use Rattle.session_core.specs.Exchanges.{Exchange, told_of}
 use Rattle.session_core.specs.Transcript.{Journals, LeadExactly, IsScriptRun, IsScriptWritten, IsTranscript}
@@ -408,3 +413,20 @@ not_placed h = let p = h 0 0 refl in wrong p.0 p.1 p.2
         let same : quiet None (codes "hello ann") (greeted (codes "ann")) ≡ x = cc (at) in
         let none : greeted (codes "ann") ≡ refused (by_disk refusal) = ap (λ (y : Exchange). y.reply) same ∙ said in
         cc (none)
+
+-- A program of seven maps that each sum the bag before for each row takes too many walks, of the whole of any rows; one of six doesn't, and
+-- no recall and no balance does.
+abbrev walking : (analyst : ℕ) (program : List ℕ) → Meant
+walking analyst program = wants 0 (the_owner three_rows) (asks (record a_query { analyst = analyst; program = program }))
+
+seven_maps_wanted : (analyst : ℕ) (program : List ℕ) → IsReading program (read (unweighed 7)) → WantsTooManyWalks (walking analyst program)
+unfolding signature_in
+seven_maps_wanted analyst program reads = (unweighed 7, reads, seven_walk_too_much)
+
+six_maps_wanted : (analyst : ℕ) (program : List ℕ) → IsReading program (read (unweighed 6)) → WantsTooManyWalks (walking analyst program) → ⊥
+unfolding signature_in
+six_maps_wanted analyst program reads walks = planned_walks_little (people ∷ []) program (unweighed 6) _ reads six_have_a_plan walks
+
+nothing_walked : (analyst number : ℕ) → WantsTooManyWalks (wants 0 (the_owner three_rows) (recalls analyst number)) ⊎ WantsTooManyWalks (wants 0 (the_owner three_rows) balances) → ⊥
+nothing_walked analyst number (inl walks) = walks
+nothing_walked analyst number (inr walks) = walks

@@ -15,7 +15,7 @@ use Rattle.part_views.specs.Partitions.{HasPart}
 use Rattle.owner_house.specs.Owner.{Owner}
 use Rattle.owner_desk.specs.Passes.{Pass, Told, first_of_run, records_told, closing}
 use Rattle.answer_path.specs.Shut.{shut_of}
-use Rattle.answer_path.specs.Code.{demand_of, IsDemandOf, HasPartFor}
+use Rattle.answer_path.specs.Code.{AsksTooManyWalks, demand_of, IsDemandOf, HasPartFor}
 use Rattle.owner_house.specs.House.{House, owner_at, no_entry}
 use Rattle.session_core.specs.Meant.{Meant, Subject, says, wants, meant_by, next_who}
 use Rattle.session_core.specs.Turns.{Turn, session_turns, blocks_of, is_bye}
@@ -56,6 +56,12 @@ IsMeaningIn house (Says reply who) = IsAnalyst house who
 IsMeaningIn house (Wants owner demand) =
     (owner < length house.owners) × IsDemandOf (owner_at house owner).entry (demand_of demand)
     × HasPartFor (owner_at house owner).partitions (demand_of demand)
+
+-- what is asked of an owner is a program that takes too many walks over the tables of its view
+abbrev pub WantsTooManyWalks : Meant → Type 0
+WantsTooManyWalks (says reply who) = ⊥
+WantsTooManyWalks (wants o owner demand) =
+    AsksTooManyWalks (record { tables = owner.tables; rows = owner.rows; partitions = owner.partitions }) demand
 
 -- no reply is longer
 abbrev pub reply_limit : ℕ

@@ -3,14 +3,16 @@
 ghost use Rattle.std.specs.Prelude.{◌≡◌, ◌+◌, ◌++◌, ◌<◌, ◌≤◌, length};
 ghost use Rattle.std.specs.Prelude.{None, if◌then◌else◌, vec_capacity, List, ℕ};
 ghost use Rattle.wire_lines.specs.Lines.{lines_of};
-ghost use Rattle.wire_lines.specs.Reply.{replied, reply_text};
+ghost use Rattle.wire_lines.specs.Refusal.{no_memory};
+ghost use Rattle.wire_lines.specs.Reply.{refused, replied, reply_text};
 ghost use Rattle.owner_desk.specs.Passes.{Told};
 ghost use Rattle.answer_path.specs.Answered.{IsUnasked};
 ghost use Rattle.owner_house.specs.House.{house_of};
+ghost use Rattle.session_core.specs.Meant.{meant_by};
 ghost use Rattle.session_core.specs.Turns.{is_bye, session_turns};
 ghost use Rattle.session_core.specs.Blocks.{behind_block, first_block};
 ghost use Rattle.session_core.specs.Code.{IsAnalyst, who_behind, is_ended, one_line, room_for_line, room_for_lines, short_reply_limit};
-ghost use Rattle.session_core.specs.Code.{ArePasses, AreServed, HasServed};
+ghost use Rattle.session_core.specs.Code.{ArePasses, AreServed, HasServed, WantsTooManyWalks};
 
 use crate::line::{LineMeaning, read_line};
 use crate::passes::Passes;
@@ -87,6 +89,8 @@ pub fn answer_line<'a, R: Wait, D: Disk, S: Streams, G>(
         passes.old.knows passes.new.knows }
     // A line that is refused before an owner's budget is asked leaves all passes as they were.
     ensures same { IsUnasked (replied result.reply) → passes.new ≡ passes.old }
+    // A program that takes too many walks is told that memory ran out, whatever the rows are: so by `same` nothing is charged for it.
+    ensures walks { WantsTooManyWalks (meant_by (house_of server.now.house.now) who line.now) → replied result.reply ≡ refused no_memory }
     ensures kept { passes.new ≡ record passes.old { knows = passes.new.knows } }
     ensures who { result.who ≡ who_behind (house_of server.now.house.now) who line.now }
     ensures ends { result.ends ≡ is_bye line.now }

@@ -12,7 +12,7 @@ use Rattle.answer_path.specs.Reading.{read, IsReading}
 use Rattle.answer_path.specs.Turn.{IsTurn}
 use Rattle.answer_path.specs.Code.{IsJudged, IsTermRefusal, query_of}
 use Rattle.shape_run.specs.Plans.{IsPlanOf}
-use Rattle.answer_path.proofs.Told.{names_in_view, term_refused, walks_refused, walks_unplanned}
+use Rattle.answer_path.proofs.Told.{names_in_view, planned_walks_little, term_refused, walks_refused}
 use Rattle.answer_path.proofs.Turns.{due_by, of_owner, refused_turn, shuts_by}
 use Rattle.answer_path.proofs.Answering.{owner_with}
 use Rattle.answer_path.proofs.answer.ask.Goals as goal
@@ -50,7 +50,7 @@ returns-in-Err g c =
       shuts = λ owner is other own. shuts_by owner draws query pass pass (refused refusal) (turn owner is) other own;
       due = λ owner is other own. due_by owner draws query pass pass (refused refusal) (turn owner is) other own;
       same = λ unasked. refl;
-      walks = λ (e, reads, walks). ap refused (walks_refused (signature_in dataset.tables dataset.partitions query.view) query.program e refusal reads walks (c.in-Err.ensures.refused (signature_in dataset.tables dataset.partitions query.view)));
+      walks = λ walks. ap refused (walks_refused (signature_in dataset.tables dataset.partitions query.view) query.program refusal walks (c.in-Err.ensures.refused (signature_in dataset.tables dataset.partitions query.view)));
       kept = record { lock = refl; share = refl; opened = refl };
       fits = tt;
     }
@@ -70,13 +70,13 @@ pub returns-in-Ok-judge-clause-same : goal.returns-in-Ok-judge-clause-same
 returns-in-Ok-judge-clause-same g c = λ unasked. absurd (c.answer_judged.ensures.asked unasked)
 
 pub returns-in-Ok-judge-clause-walks : goal.returns-in-Ok-judge-clause-walks
-returns-in-Ok-judge-clause-walks g c = λ (e, reads, walks).
+returns-in-Ok-judge-clause-walks g c = λ walks.
     let query = query_of c.args.query.now in
     let plan = c.in-Ok-judge.judged.plan in
     let term : Term = c.term.result.now in
     let is_read = subst (λ (bytes : List ℕ). IsReading bytes (read term)) c.in-Ok.ensures.program c.term.ensures in
-    absurd (walks_unplanned (signature_in c.args.dataset.now.tables c.args.dataset.now.partitions query.view) query.program e term plan reads is_read walks
-    (subst (λ (ts : Signature). IsPlanOf ts term plan) c.sig.ensures.tables c.in-Ok-judge.ensures.judged.planned))
+    absurd (planned_walks_little (signature_in c.args.dataset.now.tables c.args.dataset.now.partitions query.view) query.program term plan is_read
+    (subst (λ (ts : Signature). IsPlanOf ts term plan) c.sig.ensures.tables c.in-Ok-judge.ensures.judged.planned) walks)
 
 -- its term is refused
 pub returns-in-Err-judge : goal.returns-in-Err-judge
@@ -97,7 +97,7 @@ returns-in-Err-judge g c =
       shuts = λ owner is other own. shuts_by owner draws query pass pass (refused refusal) (turn owner is) other own;
       due = λ owner is other own. due_by owner draws query pass pass (refused refusal) (turn owner is) other own;
       same = λ unasked. refl;
-      walks = λ (e, reads, walks). ap refused (walks_refused (signature_in dataset.tables dataset.partitions query.view) query.program e refusal reads walks why);
+      walks = λ walks. ap refused (walks_refused (signature_in dataset.tables dataset.partitions query.view) query.program refusal walks why);
       kept = record { lock = refl; share = refl; opened = refl };
       fits = tt;
     }

@@ -17,4 +17,6 @@ returns-in_err-sens-clause-refused c =
     (term_refused c.args.sig.now c.args.bytes.now c.in_ok-term.term _ c.in_ok-term.ensures.term c.in_err-sens.ensures.refused)
 
 pub returns-clause-accepted : goal.returns-clause-accepted
-returns-clause-accepted c = (c.in_ok-term.ensures.term, c.in_ok-sens.ensures.judged.accepts)
+returns-clause-accepted c =
+    let judged = c.in_ok-sens.ensures.judged in
+    record { reads = c.in_ok-term.ensures.term; accepts = judged.accepts; planned = (_, judged.planned) }

@@ -7,6 +7,8 @@ use Rattle.metric_values.specs.Tables.{apart, rows_of}
 use Rattle.metric_values.specs.Values.{NumV}
 use Rattle.answer_path.specs.Reading.{read}
 use Rattle.answer_path.specs.Judgement.{accepted, judgement_of}
+use Rattle.answer_path.specs.Code.{IsJudged}
+use Rattle.answer_path.proofs.Told.{judged_walks_little}
 use Rattle.query_server.specs.Gap.{gap_text}
 use Rattle.query_server.proofs.Judged.{gap_accepted}
 use Rattle.query_server.proofs.gap.compare.Goals as goal
@@ -26,6 +28,7 @@ returns c =
     let found = c.in_ok-comparison.comparison in
     gap_accepted tables X Y c.args.program.now _ e r found.first found.second c.in-Ok.ensures.term
     (subst (λ (ts : Signature). judgement_of ts (read e) ≡ accepted e r) c.tables_of.ensures.tables judged.accepts)
+    (judged_walks_little tables c.args.program.now e c.in-Ok-judge.judged c.in-Ok.ensures.term (subst (λ (ts : Signature). IsJudged ts e c.in-Ok-judge.judged) c.tables_of.ensures.tables judged))
     (subst (λ (d : Term). Means (rows_of tables X) d (NumV found.first)) judged.checked.term c.in_ok-comparison.ensures.first)
     (subst (λ (d : Term). Means (rows_of tables Y) d (NumV found.second)) judged.checked.term c.in_ok-comparison.ensures.second)
     (c.in_ok-comparison_lines.ensures ∙ ap (λ distance. gap_text distance (distance_of found.sens) found.first found.second) c.in_ok-comparison.ensures.distance

@@ -8,10 +8,11 @@ use Rattle.owner_desk.specs.Shared.{Shared}
 use Rattle.answer_path.specs.Code.{demand_of, HasPartFor, IsDemandOf}
 use Rattle.session_core.specs.Exchanges.{Exchange}
 use Rattle.session_core.specs.Bundles.{Bundle, bundle_of}
-use Rattle.session_core.specs.Code.{meaning_of, ArePasses, AreServed}
+use Rattle.session_core.specs.Code.{meaning_of, ArePasses, AreServed, WantsTooManyWalks}
 use Rattle.session_core.specs.declared.line.LineMeaning.TheVariants.{Says, Wants}
 use Rattle.owner_house.proofs.Owners.{owner_holds, tables_named}
 use Rattle.session_core.proofs.Bundles.{bundle_set, entry_at, knows_at, pass_within}
+use Rattle.session_core.proofs.Demands.{walks_held}
 use Rattle.session_core.proofs.Serving.{served_plain, served_wants}
 use Rattle.session_core.proofs.Turning.{bye_means, who_asks}
 use Rattle.session_core.proofs.script.answer_line.Goals as goal
@@ -59,6 +60,14 @@ returns-in-Wants-clause-served g c =
           (subst (λ (b : Bundle). AreServed house draws (x ∷ []) known b.knows) (sym (bundle_set items n p is c.meet.new.pass c.meet.ensures.kept)) served),
     )
 
+pub returns-in-Wants-clause-walks : goal.returns-in-Wants-clause-walks
+returns-in-Wants-clause-walks g c = λ walks.
+    let house = house_of c.args.server.now.house.now in
+    let owner = owner_at house c.in-Wants.owner in
+    let of = owner_holds c.args.server.now.house.now c.in-Wants.owner c.dataset.result.now owner.entry c.in-Wants.ensures.proper.0 c.dataset.ensures.holding refl in
+    let asks = sym c.read_line.ensures.meaning ∙ ap (meaning_of house) c.in-Wants.is in
+    c.meet.ensures.walks (walks_held owner.entry owner c.dataset.result.now c.in-Wants.owner (demand_of c.in-Wants.demand) of (subst WantsTooManyWalks asks walks))
+
 pub returns-in-Wants-clause-kept : goal.returns-in-Wants-clause-kept
 returns-in-Wants-clause-kept g c =
     let items = c.passes.inside.each.items in
@@ -83,6 +92,11 @@ returns-in-Says-clause-served g c =
     let x : Exchange = record { turn = record { who = c.args.who; line = c.args.line.now }; reply = replied c.in-Says.reply; told = [] } in
     let says = sym c.read_line.ensures.meaning ∙ ap (meaning_of (house_of c.args.server.now.house.now)) c.in-Says.is in
     ([], served_plain (house_of c.args.server.now.house.now) (g.S.Streams.given c.args.server.now.streams.now) x (replied c.in-Says.reply) c.in-Says.who c.args.passes.now.knows says refl refl)
+
+pub returns-in-Says-clause-walks : goal.returns-in-Says-clause-walks
+returns-in-Says-clause-walks g c = λ walks.
+    let says = sym c.read_line.ensures.meaning ∙ ap (meaning_of (house_of c.args.server.now.house.now)) c.in-Says.is in
+    absurd (subst WantsTooManyWalks says walks)
 
 pub returns-in-Says-clause-who : goal.returns-in-Says-clause-who
 returns-in-Says-clause-who g c =
