@@ -119,7 +119,7 @@ seven_are_judged : judgement_of worked_tables (read (unweighed 7)) ≡ accepted 
 unfolding judgement_of depth_limit gcd gcd_in is_out
 seven_are_judged = refl
 
-pub six_have_a_plan : IsPlanOf worked_tables (unweighed 6) (record { depth = 10; turns = 39; width = 1; walks = 64 })
+pub six_have_a_plan : IsPlanOf worked_tables (unweighed 6) (record { depth = 10; turns = 39; width = 1; walks = 64; reach = 15 })
 unfolding depth_limit
 six_have_a_plan = (_, refl)
 
