@@ -4,12 +4,12 @@ use Rattle.std.proofs.lemmas.List.{append-nil, append_assoc}
 use Rattle.std.proofs.Common.{length-append}
 use Rattle.std.proofs.Math.ListN.{get_or-append}
 use Rattle.std.proofs.lemmas.Option.{get_or_from_slice_get, slice_get-get_or, slice_get_within}
-use Rattle.std.specs.Prelude.{⊤, bytes_eq, true, false, ◌&&◌, IfOk, List, Ok, Err, Result, Some, length, max, slice_get, suc, ℕ, ◌++◌, ◌+◌, ◌-◌, ◌<◌, ◌≡◌, ◌≤◌}
+use Rattle.std.specs.Prelude.{⊤, bytes_eq, true, false, ◌&&◌, IfOk, List, Ok, Err, Result, Some, length, slice_get, suc, ℕ, ◌++◌, ◌+◌, ◌-◌, ◌<◌, ◌≡◌, ◌≤◌}
 use Rattle.fz_ast.specs.Names.{name_of}
 use Rattle.fz_ast.specs.Terms.{Term}
 use Rattle.fz_ast.specs.TermNodes.{term_at}
 use Rattle.fz_ast.specs.declared.name.Name.{Name}
-use Rattle.shape_law.specs.Shapes.{Also, BangS, FnS, FunS, PairS, Shape, Shapes, Wide, bang_shape, first_half, height_of, in_bang, pair_shape, second_half, shape_of, walks_of, wider, width_of}
+use Rattle.shape_law.specs.Shapes.{Also, BangS, FnS, FunS, PairS, Shape, Shapes, Wide, bang_shape, first_half, in_bang, pair_shape, second_half, shape_of, wider}
 use Rattle.shape_run.specs.Cells.{Adds, Grown, IsScope, IsShape, is_bang, is_fn, is_fun, is_ground, is_pair, more_names, no_names, is_wide}
 use Rattle.shape_run.specs.declared.store.Cell.{Cell}
 use Rattle.shape_run.specs.declared.store.Cell.TheVariants.{Bang, Fn, Frame, Fun, Ground, Pair}

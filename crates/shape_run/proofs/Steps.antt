@@ -17,7 +17,7 @@ use Rattle.fz_ast.specs.declared.term.Ranged.TheVariants.{Clip, Sum}
 use Rattle.fz_ast.specs.declared.term.Side.TheVariants.{Inl, Inr}
 use Rattle.fz_ast.specs.declared.term.Unary.{Unary}
 use Rattle.fz_ast.specs.declared.term.Unary.TheVariants.{Fst, Greatest, Least, Size, Snd}
-use Rattle.shape_law.specs.Shapes.{Also, Shape, Shapes, Wide, bang_shape, first_half, in_bang, second_half, side_shape, walks_of, width_of, wider}
+use Rattle.shape_law.specs.Shapes.{Also, Shape, Shapes, Wide, bang_shape, first_half, in_bang, second_half, side_shape, wider}
 use Rattle.shape_law.specs.Walk.{WalkOutcome, Shaped, Stops, Tally, TooLong, Walk, bag, enters, yields, next, after_part, over, turn, turn_limit, after_parts, walk, walk_rules, walks_at, apart}
 use Rattle.shape_run.proofs.CellFacts.{Reads}
 use Rattle.shape_run.specs.Rules.{HasBody, beside, branches, combined, leaf_shape, part_gives, part_in}

@@ -82,8 +82,7 @@ fn visit_halves(
     store: &mut Store,
     count: &mut Plan,
     scope: u32,
-    x: Name,
-    y: Name,
+    names: (Name, Name),
     pair: u32,
     i: u32,
     left: u32,
@@ -95,17 +94,17 @@ fn visit_halves(
     requires room { here + left < 4294967295 }
     ensures is { (σ : Shapes) (p : Shape) → IsScope nodes.now.terms store.old.cells.items scope σ → IsShape nodes.now.terms store.old.cells.items pair p
         → Tells nodes.now.terms store.new.cells.items count.new result
-        (walk left here (Rattle.shape_law.specs.Shapes.Also (name_of y) (second_half p) (Rattle.shape_law.specs.Shapes.Also (name_of x) (first_half p) σ))
+        (walk left here (Rattle.shape_law.specs.Shapes.Also (name_of names.1) (second_half p) (Rattle.shape_law.specs.Shapes.Also (name_of names.0) (first_half p) σ))
         (term_at nodes.now.terms i) (tally_of count.old)) }
     ensures grown { Grown store.old.cells.items store.new.cells.items }
 {
-    let Ok(inner) = store.bind_first(x, pair, scope) else {
+    let Ok(inner) = store.bind_first(names.0, pair, scope) else {
         return Err(ShapeFault::NoMemory);
     };
     let Ok(second) = store.second(pair) else {
         return Err(ShapeFault::NoMemory);
     };
-    visit_under(nodes, store, count, inner, y, second, i, left, here)
+    visit_under(nodes, store, count, inner, names.1, second, i, left, here)
 }
 
 // Two branches, each under its names.
@@ -136,7 +135,7 @@ fn visit_both(
     give_wider(store, count, first, second)
 }
 
-// The branches of a `case`, under names as wide as the condition.
+// The branches of a `case`, each under its name, which is as wide as the condition.
 #[cycle(visiting)]
 fn visit_sides(
     nodes: &Nodes,
@@ -144,30 +143,30 @@ fn visit_sides(
     count: &mut Plan,
     scope: u32,
     side: u32,
-    x: Name,
-    a: u32,
-    y: Name,
-    b: u32,
+    first: (Name, u32),
+    second: (Name, u32),
     left: u32,
     here: u32,
 ) -> Result<u32, ShapeFault>
-    requires first { a < length nodes.now.terms }
-    requires second { b < length nodes.now.terms }
+    requires first { first.1 < length nodes.now.terms }
+    requires second { second.1 < length nodes.now.terms }
     requires scope { Scopes nodes.now.terms store.old.cells.items scope }
     requires side { StandsForShape nodes.now.terms store.old.cells.items side }
     requires room { here + left < 4294967295 }
     ensures is { (σ : Shapes) (p : Shape) → IsScope nodes.now.terms store.old.cells.items scope σ → IsShape nodes.now.terms store.old.cells.items side p
-        → Tells nodes.now.terms store.new.cells.items count.new result (branches (walk left here) (beside (name_of x) p σ) (term_at nodes.now.terms a)
-        (beside (name_of y) p σ) (term_at nodes.now.terms b) (tally_of count.old)) }
+        → Tells nodes.now.terms store.new.cells.items count.new result (branches (walk left here) (beside (name_of first.0) p σ) (term_at nodes.now.terms first.1)
+        (beside (name_of second.0) p σ) (term_at nodes.now.terms second.1) (tally_of count.old)) }
     ensures grown { Grown store.old.cells.items store.new.cells.items }
 {
-    let Ok(under_x) = store.bind_side(x, side, scope) else {
+    let Ok(under_x) = store.bind_side(first.0, side, scope) else {
         return Err(ShapeFault::NoMemory);
     };
-    let Ok(under_y) = store.bind_side(y, side, scope) else {
+    let Ok(under_y) = store.bind_side(second.0, side, scope) else {
         return Err(ShapeFault::NoMemory);
     };
-    visit_both(nodes, store, count, under_x, a, under_y, b, left, here)
+    visit_both(
+        nodes, store, count, under_x, first.1, under_y, second.1, left, here,
+    )
 }
 
 // The body of a function that is entered.
@@ -304,7 +303,7 @@ fn visit_parts(
         }
         Form::LetPair(x, y, e, b) => {
             let pair = visit(nodes, store, count, scope, e, left, here)?;
-            visit_halves(nodes, store, count, scope, x, y, pair, b, left, here)
+            visit_halves(nodes, store, count, scope, (x, y), pair, b, left, here)
         }
         Form::If(e, a, b) => {
             let _ = visit(nodes, store, count, scope, e, left, here)?;
@@ -312,7 +311,7 @@ fn visit_parts(
         }
         Form::Case(e, x, a, y, b) => {
             let side = visit(nodes, store, count, scope, e, left, here)?;
-            visit_sides(nodes, store, count, scope, side, x, a, y, b, left, here)
+            visit_sides(nodes, store, count, scope, side, (x, a), (y, b), left, here)
         }
         _ => give_leaf(store, count, scope, &node.form),
     }

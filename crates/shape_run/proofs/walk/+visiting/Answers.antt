@@ -394,11 +394,11 @@ visit_halves-returns-in_default-second-clause-grown t c = grown_on c.args.store.
 pub visit_halves-visit_under-requires : goal.visit_halves-visit_under-requires
 visit_halves-visit_under-requires t c =
     let s = c.requires.scope in let p = c.requires.pair in
-    (search rules, (c.requires.known, ((Also (name_of c.args.x) (first_half p.0) s.0, (scope_kept c.args.nodes.now.terms c.bind_first.new.self.cells.items c.second.new.self.cells.items c.in-Ok.inner (Also (name_of c.args.x) (first_half p.0) s.0) c.second.ensures.grown (c.in-Ok.ensures.is c.args.nodes.now.terms p.0 s.0 p.1 s.1))), ((second_half p.0, (c.in-Ok-second.ensures.is c.args.nodes.now.terms (second_half p.0) (p.0, (shape_kept c.args.nodes.now.terms c.args.store.now.cells.items c.bind_first.new.self.cells.items c.args.pair p.0 c.bind_first.ensures.grown p.1), refl))), c.requires.room))))
+    (search rules, (c.requires.known, ((Also (name_of c.args.names.0) (first_half p.0) s.0, (scope_kept c.args.nodes.now.terms c.bind_first.new.self.cells.items c.second.new.self.cells.items c.in-Ok.inner (Also (name_of c.args.names.0) (first_half p.0) s.0) c.second.ensures.grown (c.in-Ok.ensures.is c.args.nodes.now.terms p.0 s.0 p.1 s.1))), ((second_half p.0, (c.in-Ok-second.ensures.is c.args.nodes.now.terms (second_half p.0) (p.0, (shape_kept c.args.nodes.now.terms c.args.store.now.cells.items c.bind_first.new.self.cells.items c.args.pair p.0 c.bind_first.ensures.grown p.1), refl))), c.requires.room))))
 
 pub visit_halves-returns-clause-is : goal.visit_halves-returns-clause-is
 visit_halves-returns-clause-is t c = λ σ p h k.
-    c.visit_under.ensures.is (Also (name_of c.args.x) (first_half p) σ) (second_half p) (scope_kept c.args.nodes.now.terms c.bind_first.new.self.cells.items c.second.new.self.cells.items c.in-Ok.inner (Also (name_of c.args.x) (first_half p) σ) c.second.ensures.grown (c.in-Ok.ensures.is c.args.nodes.now.terms p σ k h)) (c.in-Ok-second.ensures.is c.args.nodes.now.terms (second_half p) (p, (shape_kept c.args.nodes.now.terms c.args.store.now.cells.items c.bind_first.new.self.cells.items c.args.pair p c.bind_first.ensures.grown k), refl))
+    c.visit_under.ensures.is (Also (name_of c.args.names.0) (first_half p) σ) (second_half p) (scope_kept c.args.nodes.now.terms c.bind_first.new.self.cells.items c.second.new.self.cells.items c.in-Ok.inner (Also (name_of c.args.names.0) (first_half p) σ) c.second.ensures.grown (c.in-Ok.ensures.is c.args.nodes.now.terms p σ k h)) (c.in-Ok-second.ensures.is c.args.nodes.now.terms (second_half p) (p, (shape_kept c.args.nodes.now.terms c.args.store.now.cells.items c.bind_first.new.self.cells.items c.args.pair p c.bind_first.ensures.grown k), refl))
 
 pub visit_halves-returns-clause-grown : goal.visit_halves-returns-clause-grown
 visit_halves-returns-clause-grown t c = grown_on c.args.store.now.cells.items c.bind_first.new.self.cells.items c.visit_under.new.store.cells.items c.bind_first.ensures.grown (grown_on c.bind_first.new.self.cells.items c.second.new.self.cells.items c.visit_under.new.store.cells.items c.second.ensures.grown c.visit_under.ensures.grown)
@@ -420,11 +420,11 @@ visit_sides-returns-in_default-bind_side-clause-grown t c = grown_on c.args.stor
 pub visit_sides-visit_both-requires : goal.visit_sides-visit_both-requires
 visit_sides-visit_both-requires t c =
     let s = c.requires.scope in let p = c.requires.side in
-    (search rules, (c.requires.first, (c.requires.second, ((beside (name_of c.args.x) p.0 s.0, (scope_kept c.args.nodes.now.terms c.bind_side.new.self.cells.items c.bind_side-2.new.self.cells.items c.in-Ok.under_x (beside (name_of c.args.x) p.0 s.0) c.bind_side-2.ensures.grown (c.in-Ok.ensures.is c.args.nodes.now.terms p.0 s.0 p.1 s.1))), ((beside (name_of c.args.y) p.0 s.0, (c.in-Ok-bind_side.ensures.is c.args.nodes.now.terms p.0 s.0 (shape_kept c.args.nodes.now.terms c.args.store.now.cells.items c.bind_side.new.self.cells.items c.args.side p.0 c.bind_side.ensures.grown p.1) (scope_kept c.args.nodes.now.terms c.args.store.now.cells.items c.bind_side.new.self.cells.items c.args.scope s.0 c.bind_side.ensures.grown s.1))), c.requires.room)))))
+    (search rules, (c.requires.first, (c.requires.second, ((beside (name_of c.args.first.0) p.0 s.0, (scope_kept c.args.nodes.now.terms c.bind_side.new.self.cells.items c.bind_side-2.new.self.cells.items c.in-Ok.under_x (beside (name_of c.args.first.0) p.0 s.0) c.bind_side-2.ensures.grown (c.in-Ok.ensures.is c.args.nodes.now.terms p.0 s.0 p.1 s.1))), ((beside (name_of c.args.second.0) p.0 s.0, (c.in-Ok-bind_side.ensures.is c.args.nodes.now.terms p.0 s.0 (shape_kept c.args.nodes.now.terms c.args.store.now.cells.items c.bind_side.new.self.cells.items c.args.side p.0 c.bind_side.ensures.grown p.1) (scope_kept c.args.nodes.now.terms c.args.store.now.cells.items c.bind_side.new.self.cells.items c.args.scope s.0 c.bind_side.ensures.grown s.1))), c.requires.room)))))
 
 pub visit_sides-returns-clause-is : goal.visit_sides-returns-clause-is
 visit_sides-returns-clause-is t c = λ σ p h k.
-    c.visit_both.ensures.is (beside (name_of c.args.x) p σ) (beside (name_of c.args.y) p σ) (scope_kept c.args.nodes.now.terms c.bind_side.new.self.cells.items c.bind_side-2.new.self.cells.items c.in-Ok.under_x (beside (name_of c.args.x) p σ) c.bind_side-2.ensures.grown (c.in-Ok.ensures.is c.args.nodes.now.terms p σ k h)) (c.in-Ok-bind_side.ensures.is c.args.nodes.now.terms p σ (shape_kept c.args.nodes.now.terms c.args.store.now.cells.items c.bind_side.new.self.cells.items c.args.side p c.bind_side.ensures.grown k) (scope_kept c.args.nodes.now.terms c.args.store.now.cells.items c.bind_side.new.self.cells.items c.args.scope σ c.bind_side.ensures.grown h))
+    c.visit_both.ensures.is (beside (name_of c.args.first.0) p σ) (beside (name_of c.args.second.0) p σ) (scope_kept c.args.nodes.now.terms c.bind_side.new.self.cells.items c.bind_side-2.new.self.cells.items c.in-Ok.under_x (beside (name_of c.args.first.0) p σ) c.bind_side-2.ensures.grown (c.in-Ok.ensures.is c.args.nodes.now.terms p σ k h)) (c.in-Ok-bind_side.ensures.is c.args.nodes.now.terms p σ (shape_kept c.args.nodes.now.terms c.args.store.now.cells.items c.bind_side.new.self.cells.items c.args.side p c.bind_side.ensures.grown k) (scope_kept c.args.nodes.now.terms c.args.store.now.cells.items c.bind_side.new.self.cells.items c.args.scope σ c.bind_side.ensures.grown h))
 
 pub visit_sides-returns-clause-grown : goal.visit_sides-returns-clause-grown
 visit_sides-returns-clause-grown t c = grown_on c.args.store.now.cells.items c.bind_side.new.self.cells.items c.visit_both.new.store.cells.items c.bind_side.ensures.grown (grown_on c.bind_side.new.self.cells.items c.bind_side-2.new.self.cells.items c.visit_both.new.store.cells.items c.bind_side-2.ensures.grown c.visit_both.ensures.grown)
