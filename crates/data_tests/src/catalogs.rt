@@ -13,7 +13,8 @@ const FIRST: &str = "{\"analysts\":[\"ann\"],\"owners\":[";
 
 #[rattlefmt::skip]
 const OWNER: &str =
-    "{\"name\":\"o\",\"budget\":1,\"capacity\":2,\"tables\":[{\"name\":\"t\",\"file\":\"f\",\"columns\":[{\"name\":\"a\",\"type\":\"num\"}]}],\"partitions\":[]}";
+    "{\"name\":\"o\",\"budget\":1,\"capacity\":2,\
+    \"tables\":[{\"name\":\"t\",\"file\":\"f\",\"columns\":[{\"name\":\"a\",\"type\":\"num\"}]}],\"partitions\":[]}";
 
 const SECOND: &str = ",{\"name\":\"p\",\"budget\":1,\"capacity\":2,";
 

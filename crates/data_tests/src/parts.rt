@@ -22,7 +22,9 @@ const CATALOG: &[u8] =
 const PEOPLE: &[u8] = b"town,age\noslo,1\nny,2\nrome,3\noslo,4\nbonn,5\n";
 
 const BEFORE_KEYS: &str =
-    "{\"analysts\":[\"ann\"],\"owners\":[{\"name\":\"census\",\"budget\":1,\"capacity\":2,\"tables\":[{\"name\":\"people\",\"file\":\"p\",\"columns\":[{\"name\":\"town\",\"type\":\"text\"},{\"name\":\"age\",\"type\":\"num\"}]}],\"partitions\":[{\"name\":\"towns\",\"table\":\"people\",\"column\":\"town\",\"keys\":[";
+    "{\"analysts\":[\"ann\"],\"owners\":[{\"name\":\"census\",\"budget\":1,\"capacity\":2,\
+    \"tables\":[{\"name\":\"people\",\"file\":\"p\",\"columns\":[{\"name\":\"town\",\"type\":\"text\"},{\"name\":\"age\",\"type\":\"num\"}]}],\
+    \"partitions\":[{\"name\":\"towns\",\"table\":\"people\",\"column\":\"town\",\"keys\":[";
 
 // A catalog whose one partition has so many keys, `k0`, `k1`, ..
 fn with_keys(alloc: Global, keys: u32) -> Result<String, AllocError> {

@@ -6,7 +6,7 @@ use Rattle.fz_ast.specs.Terms.{AppE, BangE, CaseE, ClipE, EqE, FilterE, FnE, Fst
 use Rattle.fz_ast.specs.declared.span.Span.{Span}
 use Rattle.shape_law.specs.ShapeIn.{Enters, One, OverBag, ShapeIn, ShapeRules, Shaping, Two}
 use Rattle.shape_law.specs.Shapes.{Also, BangS, FnS, FunS, PairS, Shape, Shapes, Wide, bang_shape, first_half, in_bang, height_of, pair_shape, second_half, shape_of, side_shape, union_shape, walks_of, width_of, wider}
-use Rattle.shape_law.specs.Walk.{WalkOutcome, ShapeFault, Shaped, Stops, Tally, TooManyWalks, TooWide, Walk, apart, as_before, bag, enters, yields, next, after_part, over, over_bag, reach_limit, turn, turn_limit, after_parts, union, walk, walk_limit, walk_rules, walked, walks_at, weighed, width_limit}
+use Rattle.shape_law.specs.Walk.{WalkOutcome, ShapeFault, Shaped, Stops, Tally, TooManyWalks, TooWide, Walk, counted_from, as_before, bag, enters, yields, next, after_part, over, over_bag, reach_limit, turn, turn_limit, after_parts, union, walk, walk_limit, walk_rules, walked, walks_at, weighed, width_limit}
 
 -- one tally after another, where no visit is deeper than D
 pub record Later (D : ℕ) (k k' : Tally) : Type 0 where
@@ -150,10 +150,10 @@ module _ (D : ℕ) (W : Walk) (R : ℕ → Shaping) (keeps : Keeps D W R) where
 
       inside : (c q : Shape) (j : Tally) → over d W u c q j ≡ Shaped s k' → Kept D (Over c q) j k'
       inside c q j h =
-          let i = next_is (enters W c (Wide 0 0 0) (apart d j)) (λ r. bag d u q j) s k' h in
-          let x = entered c (Wide 0 0 0) i.0 (apart d j) i.1 i.2 in
+          let i = next_is (enters W c (Wide 0 0 0) (counted_from d j)) (λ r. bag d u q j) s k' h in
+          let x = entered c (Wide 0 0 0) i.0 (counted_from d j) i.1 i.2 in
           let g = bag_is D d u q s j i.1 k' i.3 in
-          record { later = follows (walks_before (apart d j) j refl refl x.later) g.1; holds = λ m n. (i.0, x.holds m (up_to g.1.deeper n), _, _, g.0) }
+          record { later = follows (walks_before (counted_from d j) j refl refl x.later) g.1; holds = λ m n. (i.0, x.holds m (up_to g.1.deeper n), _, _, g.0) }
 
   rules_keep : (d : ℕ) (σ : Shapes) (t : Term) (s : Shape) (k k' : Tally) → walk_rules d W σ t k ≡ Shaped s k' → Kept D (λ m. ShapeRules (R m) σ t s) k k'
   rules_keep d σ (at _ (VarE x)) s k k' h = leaf (shape_of σ x) s k k' h

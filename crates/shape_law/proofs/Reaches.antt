@@ -5,7 +5,7 @@ use Rattle.std.specs.Prelude.{Bool, cond, false, max, nat_le, suc, true, zero, �
 use Rattle.fz_ast.specs.Terms.{AppE, BangE, CaseE, ClipE, EqE, FilterE, FnE, FstE, FunE, GreatestE, IfE, InlE, InrE, LeE, LeastE, LetBangE, LetE, LetPairE, MapE, MinusE, NumE, PairE, PlusE, SizeE, SndE, SplitE, SumE, Term, TextE, TimesE, UnionE, UnitE, VarE, WithE, at}
 use Rattle.fz_ast.specs.declared.span.Span.{Span}
 use Rattle.shape_law.specs.Shapes.{Also, BangS, FnS, FunS, PairS, Shape, Shapes, Wide, bang_shape, first_half, height_of, in_bang, pair_shape, second_half, shape_of, side_shape, union_shape, walks_of, width_of, wider}
-use Rattle.shape_law.specs.Walk.{Shaped, Stops, Tally, TooManyWalks, TooWide, Walk, WalkOutcome, after_part, after_parts, apart, as_before, bag, enters, next, over, over_bag, reach_limit, turn, turn_limit, union, walk, walk_limit, walk_rules, walked, walks_at, weighed, width_limit, yields}
+use Rattle.shape_law.specs.Walk.{Shaped, Stops, Tally, TooManyWalks, TooWide, Walk, WalkOutcome, after_part, after_parts, counted_from, as_before, bag, enters, next, over, over_bag, reach_limit, turn, turn_limit, union, walk, walk_limit, walk_rules, walked, walks_at, weighed, width_limit, yields}
 use Rattle.shape_law.proofs.Kept.{next_is, turn_is}
 
 -- nothing so far is evaluated deeper than the limit
@@ -86,7 +86,7 @@ module _ (W : Walk) (low : LowWalk W) where
     where
       inside : (c q : Shape) (j : Tally) → Low j → over d W u c q j ≡ Shaped s k' → Low k'
       inside c q j z h =
-          let i = next_is (enters W c (Wide 0 0 0) (apart d j)) (λ r. bag d u q j) s k' h in
+          let i = next_is (enters W c (Wide 0 0 0) (counted_from d j)) (λ r. bag d u q j) s k' h in
           bagged d u q s j i.1 k' z i.3
 
   low_rules : (d : ℕ) (σ : Shapes) (t : Term) (s : Shape) (k k' : Tally) → Low k → walk_rules d W σ t k ≡ Shaped s k' → Low k'

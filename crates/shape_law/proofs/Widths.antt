@@ -6,7 +6,7 @@ use Rattle.fz_ast.specs.Signature.{Signature}
 use Rattle.fz_ast.specs.Terms.{AppE, BangE, CaseE, ClipE, EqE, FilterE, FnE, FstE, FunE, GreatestE, IfE, InlE, InrE, LeE, LeastE, LetBangE, LetE, LetPairE, MapE, MinusE, Name, NumE, PairE, PlusE, SizeE, SndE, SplitE, SumE, Term, TextE, TimesE, UnionE, UnitE, VarE, WithE, at}
 use Rattle.fz_ast.specs.declared.span.Span.{Span}
 use Rattle.shape_law.specs.Shapes.{Also, BangS, FnS, FunS, Nothing, PairS, Shape, Shapes, Wide, bang_shape, first_half, height_of, in_bang, pair_shape, second_half, shape_of, side_shape, table_shapes, union_shape, walks_of, width_of, wider}
-use Rattle.shape_law.specs.Walk.{Shaped, Stops, Tally, TooManyWalks, TooWide, Walk, WalkOutcome, after_part, after_parts, apart, as_before, bag, enters, next, over, over_bag, reach_limit, turn, turn_limit, union, walk, walk_limit, walk_rules, walked, walks_at, weighed, width_limit, yields}
+use Rattle.shape_law.specs.Walk.{Shaped, Stops, Tally, TooManyWalks, TooWide, Walk, WalkOutcome, after_part, after_parts, counted_from, as_before, bag, enters, next, over, over_bag, reach_limit, turn, turn_limit, union, walk, walk_limit, walk_rules, walked, walks_at, weighed, width_limit, yields}
 use Rattle.shape_law.proofs.Kept.{next_is, turn_is}
 
 mutual
@@ -178,8 +178,8 @@ module _ (W : Walk) (narrow : NarrowWalk W) where
     where
       inside : (c q : Shape) (j : Tally) → Narrow c → Narrow q → j.width ≤ width_limit → over d W u c q j ≡ Shaped s k' → Stays s k'
       inside c q j x y z h =
-          let i = next_is (enters W c (Wide 0 0 0) (apart d j)) (λ r. bag d u q j) s k' h in
-          bagged d u q s j i.1 k' y (entered c (Wide 0 0 0) i.0 (apart d j) i.1 x none z i.2).1 i.3
+          let i = next_is (enters W c (Wide 0 0 0) (counted_from d j)) (λ r. bag d u q j) s k' h in
+          bagged d u q s j i.1 k' y (entered c (Wide 0 0 0) i.0 (counted_from d j) i.1 x none z i.2).1 i.3
 
   narrow_rules : (d : ℕ) (σ : Shapes) (t : Term) (s : Shape) (k k' : Tally) → NarrowNames σ → k.width ≤ width_limit → walk_rules d W σ t k ≡ Shaped s k' → Stays s k'
   narrow_rules d σ (at _ (VarE x)) s k k' n l h = yielded (shape_of σ x) s k k' (name_narrow σ x n) l h

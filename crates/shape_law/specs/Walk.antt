@@ -81,8 +81,8 @@ abbrev pub walks_at : (d : ℕ) → Span → Shape → Tally → WalkOutcome
 walks_at d s p k = cond (nat_le (d + height_of p) reach_limit) (yields (Wide 0 0 0) (walked d p k)) (TooManyWalks s)
 
 -- no walks yet, and none deeper than d
-abbrev pub apart : (d : ℕ) → Tally → Tally
-apart d k = record k { walks = 0; reach = d }
+abbrev pub counted_from : (d : ℕ) → Tally → Tally
+counted_from d k = record k { walks = 0; reach = d }
 
 -- with the walks that were before
 abbrev pub as_before : Tally → Tally → Tally
@@ -99,7 +99,7 @@ bag d s q before k = weighed s (Wide (width_of q) (width_of q * k.walks + walks_
 
 -- the body of c once at depth d, whose walks are counted apart
 abbrev pub over : (d : ℕ) → Walk → Span → Shape → Shape → Tally → WalkOutcome
-over d W s c q k = next (enters W c (Wide 0 0 0) (apart d k)) (λ r. bag d s q k)
+over d W s c q k = next (enters W c (Wide 0 0 0) (counted_from d k)) (λ r. bag d s q k)
 
 -- the function, the bag, and the function's body once
 abbrev pub over_bag : (d : ℕ) → Walk → Span → Shapes → Term → Term → Tally → WalkOutcome

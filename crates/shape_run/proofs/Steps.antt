@@ -18,7 +18,7 @@ use Rattle.fz_ast.specs.declared.term.Side.TheVariants.{Inl, Inr}
 use Rattle.fz_ast.specs.declared.term.Unary.{Unary}
 use Rattle.fz_ast.specs.declared.term.Unary.TheVariants.{Fst, Greatest, Least, Size, Snd}
 use Rattle.shape_law.specs.Shapes.{Also, Shape, Shapes, Wide, bang_shape, first_half, in_bang, second_half, side_shape, wider}
-use Rattle.shape_law.specs.Walk.{WalkOutcome, Shaped, Stops, Tally, TooLong, Walk, bag, enters, yields, next, after_part, over, turn, turn_limit, after_parts, walk, walk_rules, walks_at, apart}
+use Rattle.shape_law.specs.Walk.{WalkOutcome, Shaped, Stops, Tally, TooLong, Walk, bag, enters, yields, next, after_part, over, turn, turn_limit, after_parts, walk, walk_rules, walks_at, counted_from}
 use Rattle.shape_run.proofs.CellFacts.{Reads}
 use Rattle.shape_run.specs.Rules.{HasBody, beside, branches, combined, leaf_shape, part_gives, part_in}
 use Rattle.shape_run.specs.Tells.{StopsAt}
@@ -171,11 +171,11 @@ part_stops d W σ ty N t s f e k x h i g =
 
 -- a bag primitive
 
-pub over_then : (d : ℕ) (W : Walk) (s : Span) (c q r : Shape) (k j : Tally) → enters W c (Wide 0 0 0) (apart d k) ≡ Shaped r j → over d W s c q k ≡ bag d s q k j
-over_then d W s c q r k j h = next_shaped (enters W c (Wide 0 0 0) (apart d k)) (λ r. bag d s q k) r j h
+pub over_then : (d : ℕ) (W : Walk) (s : Span) (c q r : Shape) (k j : Tally) → enters W c (Wide 0 0 0) (counted_from d k) ≡ Shaped r j → over d W s c q k ≡ bag d s q k j
+over_then d W s c q r k j h = next_shaped (enters W c (Wide 0 0 0) (counted_from d k)) (λ r. bag d s q k) r j h
 
-pub over_stops : (d : ℕ) (W : Walk) (s : Span) (c q : Shape) (k : Tally) (x : ShapeFault) → StopsAt x (enters W c (Wide 0 0 0) (apart d k)) → StopsAt x (over d W s c q k)
-over_stops d W s c q k x h = stopped x (enters W c (Wide 0 0 0) (apart d k)) (λ r. bag d s q k) h
+pub over_stops : (d : ℕ) (W : Walk) (s : Span) (c q : Shape) (k : Tally) (x : ShapeFault) → StopsAt x (enters W c (Wide 0 0 0) (counted_from d k)) → StopsAt x (over d W s c q k)
+over_stops d W s c q k x h = stopped x (enters W c (Wide 0 0 0) (counted_from d k)) (λ r. bag d s q k) h
 
 -- let !x
 

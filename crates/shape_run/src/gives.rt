@@ -37,7 +37,8 @@ pub fn give_ground(
     walks: u8,
     height: u32,
 ) -> Result<u32, ShapeFault>
-    ensures is { (N : List Term) → Tells N store.new.cells.items count.new result (yields (Rattle.shape_law.specs.Shapes.Wide width walks height) (tally_of count.old)) }
+    ensures is { (N : List Term) → Tells N store.new.cells.items count.new result
+        (yields (Rattle.shape_law.specs.Shapes.Wide width walks height) (tally_of count.old)) }
     ensures grown { Grown store.old.cells.items store.new.cells.items }
 {
     let Ok(k) = store.ground(width, walks, height) else {

@@ -3,7 +3,8 @@ ghost use Rattle.std.specs.Prelude.{◌≡◌, ◌+◌, ◌<◌, ◌≤◌, ◌+
 ghost use Rattle.fz_ast.specs.Names.{name_of};
 ghost use Rattle.fz_ast.specs.Terms.{Name, Term};
 ghost use Rattle.fz_ast.specs.TermNodes.{term_at};
-ghost use Rattle.shape_law.specs.Shapes.{Also, Shape, Shapes, bang_shape, first_half, height_of, in_bang, pair_shape, second_half, shape_of, walks_of, width_of};
+ghost use Rattle.shape_law.specs.Shapes.{Also, Shape, Shapes, bang_shape, first_half, in_bang, pair_shape, second_half, shape_of};
+ghost use Rattle.shape_law.specs.Shapes.{height_of, walks_of, width_of};
 ghost use Rattle.shape_run.specs.Cells.{Adds, Grown, HasScope, HasShape, HaveShapes, IsScope, IsShape, is_wide};
 ghost use Rattle.shape_run.specs.Rules.{beside, function_shape};
 

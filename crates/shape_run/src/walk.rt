@@ -94,7 +94,8 @@ fn visit_halves(
     requires room { here + left < 4294967295 }
     ensures is { (σ : Shapes) (p : Shape) → IsScope nodes.now.terms store.old.cells.items scope σ → IsShape nodes.now.terms store.old.cells.items pair p
         → Tells nodes.now.terms store.new.cells.items count.new result
-        (walk left here (Rattle.shape_law.specs.Shapes.Also (name_of names.1) (second_half p) (Rattle.shape_law.specs.Shapes.Also (name_of names.0) (first_half p) σ))
+        (walk left here (Rattle.shape_law.specs.Shapes.Also (name_of names.1) (second_half p)
+        (Rattle.shape_law.specs.Shapes.Also (name_of names.0) (first_half p) σ))
         (term_at nodes.now.terms i) (tally_of count.old)) }
     ensures grown { Grown store.old.cells.items store.new.cells.items }
 {
@@ -154,7 +155,8 @@ fn visit_sides(
     requires side { StandsForShape nodes.now.terms store.old.cells.items side }
     requires room { here + left < 4294967295 }
     ensures is { (σ : Shapes) (p : Shape) → IsScope nodes.now.terms store.old.cells.items scope σ → IsShape nodes.now.terms store.old.cells.items side p
-        → Tells nodes.now.terms store.new.cells.items count.new result (branches (walk left here) (beside (name_of first.0) p σ) (term_at nodes.now.terms first.1)
+        → Tells nodes.now.terms store.new.cells.items count.new result
+        (branches (walk left here) (beside (name_of first.0) p σ) (term_at nodes.now.terms first.1)
         (beside (name_of second.0) p σ) (term_at nodes.now.terms second.1) (tally_of count.old)) }
     ensures grown { Grown store.old.cells.items store.new.cells.items }
 {
