@@ -24,20 +24,20 @@ use Rattle.budget_ledger.specs.declared.book.AppendFault.TheVariants.{Closed, Di
 use Rattle.catalog_loading.specs.Loaded.{KeyedOwner, its_entry, its_header, its_name}
 use Rattle.catalog_loading.specs.declared.stops.Stop.{Stop}
 use Rattle.catalog_loading.specs.declared.stops.Stop.TheVariants.{Disk, Fault, Journal, NoMemory, Refused, Usage}
-use Rattle.query_server.specs.Books.{IsNewBook, IsUnopenedStop, TookDisk, shown_by}
+use Rattle.owner_books.specs.Books.{IsNewBook, IsUnopenedStop, TookDisk, shown_by}
 use Rattle.query_server.specs.Ends.{Ended, IsEndOf, status_at, text_at}
 use Rattle.query_server.specs.Grant.{IsGrantAnswered, IsGrantUnwritten, WentBy, entry_in, header_in, verdict_on, verdict_status, verdict_text}
 use Rattle.query_server.specs.Granted.{IsBookBy, IsGrantEnd, IsUnappendedGrant, book_verdict}
-use Rattle.query_server.specs.Opened.{IsOpened}
+use Rattle.owner_books.specs.Opened.{IsOpened}
 use Rattle.query_server.specs.Run.{WentOn}
-use Rattle.query_server.specs.Shelves.{NoOtherRose, OneDisk, IsOnlySynced, Shelf, SomeRose, bytes_on}
+use Rattle.owner_books.specs.Shelves.{NoOtherRose, OneDisk, IsOnlySynced, Shelf, SomeRose, bytes_on}
 use Rattle.query_server.specs.Work.{to_grant}
 use Rattle.query_server.specs.declared.end.End.{End}
-use Rattle.query_server.proofs.Back.{changed_elsewhere, changed_here}
-use Rattle.query_server.proofs.Disks.{same_still}
+use Rattle.owner_books.proofs.Back.{changed_elsewhere, changed_here}
+use Rattle.owner_books.proofs.Disks.{same_still}
 use Rattle.query_server.proofs.Home.{some_of}
-use Rattle.query_server.proofs.Passes.{book_back, book_synced}
-use Rattle.query_server.proofs.Stops.{book_opened}
+use Rattle.owner_books.proofs.Passes.{book_back, book_synced}
+use Rattle.owner_books.proofs.Stops.{book_opened}
 use Rattle.query_server.proofs.Went.{went_on}
 
 -- A journal that isn't opened ends the grant, with nothing written.
