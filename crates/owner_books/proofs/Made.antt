@@ -8,9 +8,8 @@ use Rattle.budget_journal.specs.declared.making.InitFault.{InitFault}
 use Rattle.budget_journal.specs.declared.making.InitFault.TheVariants.{AlreadyThere, DiskFault}
 use Rattle.catalog_loading.specs.Loaded.{Loading, new_header, owner_name_at, owners_in}
 use Rattle.owner_books.specs.Shelves.{Shelf, EachDisk, IsOnlySynced, NoOtherRose, StandsStill}
-use Rattle.owner_books.specs.Making.{AreMadeBefore, IsMade, MayHaveFailed}
+use Rattle.owner_books.specs.Making.{AreMadeBefore, IsMade, MayHaveFailed, IsMakeStop, IsUnmade, IsUnmadeStop, Turned}
 use Rattle.owner_books.proofs.Disks.{same_still, synced_same}
-use Rattle.owner_books.specs.Making.{IsMakeStop, IsUnmade, IsUnmadeStop, Turned}
 use Rattle.catalog_loading.specs.declared.stops.Stop.{Stop}
 use Rattle.catalog_loading.specs.declared.stops.Stop.TheVariants.{Journal, Disk, NoMemory}
 

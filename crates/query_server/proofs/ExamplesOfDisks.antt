@@ -1,5 +1,5 @@
 -- worked examples of journals on the owners' disks: their lines, which are opened, refused, made and counted
-use Rattle.std.proofs.Common.{◌≡◌, ℕ, zero, suc, ◌+◌, ◌*◌, ◌<◌, ◌≤◌, List, [], ◌∷◌, length, Option, Some, None, replicate, true, false, true≢false, refl, sym, ap, subst, ◌∙◌, arith, lit<}
+use Rattle.std.proofs.Common.{◌≡◌, ℕ, zero, suc, ◌<◌, ◌≤◌, List, [], ◌∷◌, length, Option, Some, None, replicate, true, false, true≢false, refl, sym, ap, subst, ◌∙◌, arith, lit<}
 use Rattle.std.specs.Prelude.{codes, pos, slice_index, IfSome}
 use Rattle.std.specs.Fmt.{digits}
 use mathlib.Core.Logic.{inl, inr}

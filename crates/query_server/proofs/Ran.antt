@@ -23,7 +23,7 @@ use Rattle.session_core.specs.Code.{AreClosed, ArePasses, AreFresh, found_by, pa
 use Rattle.session_core.specs.Worked.{HasWorked, HaveAddedNone}
 use Rattle.session_core.specs.Transcript.{Journals}
 use Rattle.generated_run.proofs.Worked.{script_gathered}
-use Rattle.owner_house.proofs.Owners.{entry_said, in_catalog, owner_there, owners_length}
+use Rattle.owner_house.proofs.Owners.{in_catalog, owner_there, owners_length}
 use Rattle.std.proofs.lemmas.Option.{slice_get_within}
 use Rattle.catalog_loading.specs.Given.{stop_at_fault}
 use Rattle.catalog_loading.specs.Loaded.{IsLoading, KeyedHouse, Loading, header_of, entry_at, in_versions, keyed, owners_in}
@@ -33,7 +33,6 @@ use Rattle.owner_books.specs.Shelves.{Shelf, EachDisk, IsOnlySynced, bytes_on}
 use Rattle.owner_books.specs.Opened.{AreOpened, IsDiskNamed, IsOpened}
 use Rattle.query_server.specs.Duty.{IsRefusalDue}
 use Rattle.owner_catalog.specs.Limits.{owner_limit}
-use Rattle.journal_records.specs.Encoding.{newest_version}
 use Rattle.query_server.specs.Run.{IsScriptAnswered, WentOn}
 use Rattle.owner_books.specs.Books.{ArePassesOn, ArePutBack, GaveBook, IsNewPass, IsOpenStop, shown_by}
 use Rattle.query_server.specs.Ends.{Ended, IsScriptEnd, IsEndOf}

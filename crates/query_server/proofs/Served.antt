@@ -1,6 +1,6 @@
 -- sessions that were held over passes, and what became of the owners' disks
-use Rattle.std.proofs.Common.{◌≡◌, ℕ, ◌<◌, ◌≤◌, List, [], length, Option, Some, refl, sym, ◌∙◌, ap, subst, arith}
-use Rattle.std.specs.Prelude.{Result, Ok, Err, IsErrAnd, Vec}
+use Rattle.std.proofs.Common.{◌≡◌, ℕ, ◌≤◌, List, length, Option, refl, sym, ◌∙◌, ap, subst}
+use Rattle.std.specs.Prelude.{Err, IsErrAnd, Vec}
 use Rattle.std.specs.declared.alloc.Global.{Global}
 use mathlib.Core.Logic.{inl, inr}
 use Rattle.word_streams.specs.Draws.{draws_of}
@@ -28,7 +28,6 @@ use Rattle.owner_books.specs.Books.{ArePassesOn, ArePutBack, IsOpenStop, shown_b
 use Rattle.query_server.specs.Ends.{Ended, IsEndOf, status_at, stop_status, text_at}
 use Rattle.catalog_loading.specs.declared.stops.Stop.{Stop}
 use Rattle.catalog_loading.specs.declared.stops.Stop.TheVariants as stopped
-use Rattle.query_server.specs.declared.end.End.TheVariants.{Done}
 use Rattle.query_server.specs.declared.end.Status.TheVariants as code
 use Rattle.query_server.proofs.Contents.{any_left, at_some}
 use Rattle.owner_books.proofs.Disks.{nothing_same, nothing_written}

@@ -9,7 +9,6 @@ use Rattle.owner_house.specs.House.{House, IsOwnerIn}
 use Rattle.owner_house.specs.Owner.{Owner}
 use Rattle.owner_house.proofs.Owners.{register_owners}
 use Rattle.owner_history.specs.Sound.{IsFound, IsOwed, MayBeFound}
-use Rattle.session_core.specs.Headline.{Programs, AreFound}
 use Rattle.service_workers.specs.Kept.{KeepThePromises}
 use Rattle.service_workers.proofs.Together.{together_keep, together_owed}
 use Rattle.service_workers.specs.Services.{Door}
@@ -18,7 +17,7 @@ use Rattle.service_workers.specs.declared.posting.Service.TheVariants.{Served, D
 use Rattle.command_words.specs.Command.{Command, command_of}
 use Rattle.catalog_loading.specs.Files.{Contents, ReadsToCome}
 use Rattle.catalog_loading.specs.Loaded.{IsLoading, Loading, in_versions}
-use Rattle.query_server.specs.Work.{Work, ended, to_serve}
+use Rattle.query_server.specs.Work.{ended}
 use Rattle.query_server.specs.Due.{ForContents, IsOfDoors, command_steps, work_of}
 use Rattle.owner_books.specs.Shelves.{Shelf}
 use Rattle.owner_books.specs.Opened.{house_in}

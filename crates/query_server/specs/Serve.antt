@@ -3,7 +3,7 @@ use Rattle.std.specs.Prelude.{◌≡◌, ◌⊎◌, true, false, ℕ, List, [], 
 use Rattle.word_streams.specs.Draws.{draws_of}
 use Rattle.budget_ledger.specs.declared.failure.Failure.{Failure}
 use Rattle.owner_desk.specs.Passes.{Pass}
-use Rattle.owner_house.specs.House.{House, house_of}
+use Rattle.owner_house.specs.House.{house_of}
 use Rattle.owner_house.specs.Owner.{Owner}
 use Rattle.session_core.specs.Code.{AreClosed, AreFresh, found_by}
 use Rattle.session_core.specs.Gathered.{AreGathered, AreShut}

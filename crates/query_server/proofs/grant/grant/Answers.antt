@@ -1,12 +1,9 @@
-use Rattle.std.proofs.Common.{◌≡◌, ℕ, List, sym, subst, arith}
+use Rattle.std.proofs.Common.{ℕ, List, sym, subst, arith}
 use mathlib.Core.Logic.{inr}
-use Rattle.std.specs.Prelude.{Some, Err}
-use Rattle.outside_bays.specs.Bays.{Changes}
 use Rattle.journal_records.specs.declared.records.Header.{Header}
 use Rattle.budget_core.specs.Entries.{Entry}
-use Rattle.budget_ledger.specs.Account.{Account}
 use Rattle.catalog_loading.specs.Loaded.{its_entry, its_header, its_name}
-use Rattle.owner_books.specs.Books.{IsNewBook, IsUnopenedStop, TookDisk, shown_by}
+use Rattle.owner_books.specs.Books.{IsNewBook, IsUnopenedStop, TookDisk}
 use Rattle.query_server.specs.Ends.{Ended, IsEndOf}
 use Rattle.query_server.specs.Grant.{entry_in, header_in}
 use Rattle.query_server.specs.Granted.{IsGrantEnd}

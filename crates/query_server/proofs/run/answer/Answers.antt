@@ -1,6 +1,5 @@
-use Rattle.std.proofs.Common.{◌≡◌, ◌∙◌, ◌<◌, ℕ, List, length, refl, sym, ap, subst, arith}
+use Rattle.std.proofs.Common.{◌≡◌, ◌∙◌, length, sym, ap, subst, arith}
 use Rattle.word_streams.specs.Draws.{draws_of}
-use Rattle.owner_desk.specs.Passes.{Pass}
 use Rattle.owner_house.specs.House.{Register, house_of}
 use Rattle.session_core.specs.Bundles.{Bundle, bundle_of}
 use Rattle.session_core.specs.Code.{AreFresh, ArePasses}
