@@ -15,16 +15,16 @@ use Rattle.journal_records.specs.declared.records.Record.{Record}
 use Rattle.budget_core.specs.Entries.{Entry}
 use Rattle.owner_catalog.specs.Entries.{OwnerEntry}
 use Rattle.session_core.specs.Transcript.{Journals}
-use Rattle.query_server.specs.Shelves.{Shelf, EachDisk, IsOnlySynced, NoOtherRose, SomeRose, StandsStill, bytes_on}
-use Rattle.query_server.specs.Opened.{AreOpened, IsOpened}
+use Rattle.owner_books.specs.Shelves.{Shelf, EachDisk, IsOnlySynced, NoOtherRose, SomeRose, StandsStill, bytes_on}
+use Rattle.owner_books.specs.Opened.{AreOpened, IsOpened}
 use Rattle.query_server.specs.Audit.{counted_line, counted_text}
 use Rattle.owner_catalog.specs.Limits.{owner_limit}
 use Rattle.journal_records.specs.Encoding.{newest_version}
 use Rattle.catalog_loading.specs.Loaded.{Loading, entry_at, entry_in, header_in, in_versions, owners_in}
 use Rattle.std.proofs.Math.Seq.{take-length}
-use Rattle.query_server.specs.Books.{LeftDisk}
+use Rattle.owner_books.specs.Books.{LeftDisk}
 use Rattle.catalog_loading.specs.declared.stops.Stop.{Stop}
-use Rattle.query_server.proofs.Disks.{before_last, risen_from}
+use Rattle.owner_books.proofs.Disks.{before_last, risen_from}
 use Rattle.query_server.proofs.Home.{some_of}
 
 -- what is so of a stop is so where it is passed on

@@ -6,7 +6,7 @@ use mathlib.Core.Logic.{◌⊎◌, inl, inr}
 use Rattle.catalog_loading.specs.Files.{Contents}
 use Rattle.command_words.specs.Command.{Command}
 use Rattle.query_server.specs.Work.{Work, ended}
-use Rattle.query_server.specs.Shelves.{Shelf}
+use Rattle.owner_books.specs.Shelves.{Shelf}
 use Rattle.query_server.specs.Due.{ForContents, IsDiskLine, IsOfDisks, command_steps}
 use Rattle.query_server.specs.Ends.{Ended, IsCut, IsEndOf, IsEndingWith, IsStepEnd, status_at, text_at}
 use Rattle.query_server.specs.declared.end.Status.{Status}

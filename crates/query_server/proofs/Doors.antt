@@ -7,7 +7,7 @@ use Rattle.fz_outside.specs.Faults.{HasRisen}
 use Rattle.owner_desk.specs.Passes.{Pass}
 use Rattle.owner_house.specs.House.{House}
 use Rattle.service_workers.specs.Sittings.{Sitting}
-use Rattle.service_workers.specs.Services.{ComesTo, Door, EndsSo, IsService, door_at, door_of}
+use Rattle.service_workers.specs.Services.{Door, EndsSo, IsService, door_at, door_of}
 use Rattle.service_workers.specs.declared.posting.Service.{Service}
 use Rattle.service_workers.specs.declared.posting.Service.TheVariants.{Served, DoorFault, NoMemory}
 use Rattle.query_server.specs.Outside.{DoorsStay, SomeDoorRose}

@@ -6,7 +6,7 @@ use mathlib.Core.Logic.{inl, inr}
 use Rattle.query_server.specs.Work.{Work, ended}
 use Rattle.catalog_loading.specs.Files.{Contents}
 use Rattle.catalog_loading.specs.Steps.{StepOutcome, FileStep}
-use Rattle.query_server.specs.Shelves.{Shelf}
+use Rattle.owner_books.specs.Shelves.{Shelf}
 use Rattle.query_server.specs.Run.{script_limit}
 use Rattle.query_server.specs.Due.{AreRead, ForContents, IsDue, IsLeftToRead}
 use Rattle.query_server.specs.Status.{refused_text}

@@ -18,11 +18,12 @@ use Rattle.answer_path.proofs.Told.{planned_walks_little, refused_walks_little}
 use Rattle.query_server.specs.Status.{status_code, refused_text, usage_text}
 use Rattle.command_words.specs.Command.{Command, audit, check, gap, init, run}
 use Rattle.query_server.specs.Work.{usage, refused, to_check}
-use Rattle.query_server.specs.Outside.{BayStays, FilesStay}
+use Rattle.owner_books.specs.Bays.{BayStays}
+use Rattle.query_server.specs.Outside.{FilesStay}
 use Rattle.catalog_loading.specs.Steps.{◌>>=◌}
 use Rattle.catalog_loading.specs.Files.{always, readable}
 use Rattle.catalog_loading.specs.Loaded.{Loading, key_read, owners_in}
-use Rattle.query_server.specs.Shelves.{Shelf, EachDisk, IsOnlySynced}
+use Rattle.owner_books.specs.Shelves.{Shelf, EachDisk, IsOnlySynced}
 use Rattle.query_server.specs.Run.{script_limit, IsAnswerDue, IsScriptDue}
 use Rattle.session_core.specs.Transcript.{Journals}
 use Rattle.query_server.specs.Check.{IsProgramDue, accepted_text, status_by, text_by}

@@ -1,5 +1,5 @@
 -- worked examples of journals on the owners' disks: their lines, which are opened, refused, made and counted
-use Rattle.std.proofs.Common.{◌≡◌, ℕ, zero, suc, ◌+◌, ◌*◌, ◌<◌, ◌≤◌, List, [], ◌∷◌, length, Option, Some, None, replicate, true, false, true≢false, refl, sym, ap, subst, ◌∙◌, arith, lit<}
+use Rattle.std.proofs.Common.{◌≡◌, ℕ, zero, suc, ◌<◌, ◌≤◌, List, [], ◌∷◌, length, Option, Some, None, replicate, true, false, true≢false, refl, sym, ap, subst, ◌∙◌, arith, lit<}
 use Rattle.std.specs.Prelude.{codes, pos, slice_index, IfSome}
 use Rattle.std.specs.Fmt.{digits}
 use mathlib.Core.Logic.{inl, inr}
@@ -23,21 +23,23 @@ use Rattle.owner_catalog.specs.Catalog.{Catalog, OwnerEntry}
 use Rattle.owner_catalog.specs.Digest.{digest_of}
 use Rattle.session_core.specs.Transcript.{Journals}
 use Rattle.catalog_loading.specs.Loaded.{Loading, entry_at, header_in, header_of, in_versions, new_header, owner_name_at}
-use Rattle.query_server.specs.Shelves.{Shelf, bytes_on, TellBytes, AreAtHome, EachDisk, IsOnlySynced, NoOtherRose}
-use Rattle.query_server.specs.Opened.{AreOpenedBefore, IsUnopened, IsRefusedAt, IsRefusalDue}
-use Rattle.query_server.specs.Init.{AreMadeBefore, IsMade, IsExistingDue, IsMakingNamed, MayBeMadeInPart, MayHaveFailed, made_line}
+use Rattle.owner_books.specs.Shelves.{Shelf, bytes_on, TellBytes, AreAtHome, EachDisk, IsOnlySynced, NoOtherRose}
+use Rattle.owner_books.specs.Opened.{AreOpenedBefore, IsUnopened, IsRefusedAt}
+use Rattle.query_server.specs.Duty.{IsRefusalDue}
+use Rattle.owner_books.specs.Making.{AreMadeBefore, IsMade, IsMakingNamed, MayBeMadeInPart, MayHaveFailed}
+use Rattle.query_server.specs.Init.{IsExistingDue, made_line}
 use Rattle.query_server.specs.Audit.{counted_line, counted_text}
 use Rattle.query_server.specs.Due.{IsDiskLine, IsStopLine}
 use Rattle.query_server.specs.Work.{usage, refused, to_answer, to_make, to_count, to_check, to_compare}
 use Rattle.query_server.specs.Valid.{AreEmpty, HoldJournals, IsValidFor, MayEndWell}
 use Rattle.query_server.specs.Found.{KeepsFound}
-use Rattle.query_server.specs.Status.{journal_text, disk_text}
+use Rattle.owner_books.specs.Refusals.{journal_text, disk_text}
 use Rattle.query_server.specs.declared.end.Status.{Status}
 use Rattle.query_server.specs.declared.end.Status.TheVariants.{Done, ProgramRefused, Refused, JournalRefused, DiskFault, NoMemory, ScriptTooLong}
-use Rattle.query_server.specs.declared.refusals.JournalRefusal.{JournalRefusal}
-use Rattle.query_server.specs.declared.refusals.JournalRefusal.TheVariants.{Uninitialised, Changed, Damaged, Exists}
+use Rattle.owner_books.specs.declared.refusals.JournalRefusal.{JournalRefusal}
+use Rattle.owner_books.specs.declared.refusals.JournalRefusal.TheVariants.{Uninitialised, Changed, Damaged, Exists}
 use Rattle.outside_disks.proofs.Images.{seen-image}
-use Rattle.query_server.proofs.Made.{no_other_made}
+use Rattle.owner_books.proofs.Made.{no_other_made}
 
 -- ---- lines
 

@@ -20,7 +20,7 @@ use Rattle.catalog_loading.specs.Loaded.{KeyedOwner}
 use Rattle.query_server.specs.Audit.{counted_line}
 use Rattle.query_server.specs.Found.{IsGrantMade, MayHaveGained}
 use Rattle.query_server.specs.Grant.{granted_text, verdict_on, verdict_status, verdict_text}
-use Rattle.query_server.specs.Shelves.{Shelf}
+use Rattle.owner_books.specs.Shelves.{Shelf}
 use Rattle.query_server.specs.Status.{status_code}
 use Rattle.query_server.specs.Valid.{MayEndWell}
 use Rattle.query_server.specs.Work.{to_grant}

@@ -1,6 +1,6 @@
 -- worked examples of services and of generated runs
 use Rattle.std.specs.Fmt.{digits}
-use Rattle.std.proofs.Common.{◌≡◌, ℕ, ◌<◌, ◌≤◌, List, [], ◌∷◌, refl, subst, Some, None, arith, codes, pos}
+use Rattle.std.proofs.Common.{◌≡◌, ℕ, ◌<◌, ◌≤◌, [], ◌∷◌, refl, subst, Some, None, arith, codes, pos}
 use Rattle.std.specs.Prelude.{ℤ, negsuc}
 use Rattle.fz_outside.specs.Faults.{HasRisen, last_count}
 use Rattle.command_words.specs.Command.{gen, run, serve}

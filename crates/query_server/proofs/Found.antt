@@ -1,7 +1,6 @@
 -- what an owner keeps where nothing is written to its disk, or a grant alone
-use Rattle.std.proofs.Common.{◌≡◌, ◌∙◌, ℕ, ◌≤◌, ◌<◌, List, Option, Some, None, refl, sym, subst}
+use Rattle.std.proofs.Common.{◌≡◌, ◌∙◌, ℕ, ◌≤◌, List, Option, Some, None, refl, sym, subst}
 use Rattle.std.specs.Prelude.{Result, Ok, Err, IsOk, IfSome, option_and_then, option_map}
-use Rattle.std.proofs.lemmas.Option.{slice_get_within}
 use mathlib.Core.Logic.{◌⊎◌, inl, inr}
 use Rattle.word_streams.specs.Draws.{draws_of}
 use Rattle.outside_disks.specs.Disks.{IsImageOf, Passes, Shown, Trace, WhereTold, after, noted, seen_of}
@@ -21,23 +20,23 @@ use Rattle.budget_core.specs.declared.answers.GrantRefusal.{GrantRefusal}
 use Rattle.budget_core.specs.declared.answers.GrantRefusal.TheVariants.{TooLarge, Full}
 use Rattle.budget_core.proofs.SoundLemmas.{may-raise}
 use Rattle.owner_house.specs.Owner.{HasData, Owner}
-use Rattle.owner_house.proofs.Owners.{entry_said, in_catalog, register_owners}
+use Rattle.owner_house.proofs.Owners.{entry_said, register_owners}
 use Rattle.owner_history.proofs.Sound.{lawful_found, lawful_owed, well_backed, well_found}
 use Rattle.catalog_loading.specs.Loaded.{KeyedOwner, Loading, IsLoading, header_of, in_versions, owners_in}
 use Rattle.query_server.specs.Work.{Work, to_count, to_grant}
-use Rattle.query_server.specs.Shelves.{EachDisk, IsOnlySynced, NothingWritten, OneDisk, Shelf, bytes_on}
-use Rattle.query_server.specs.Opened.{IsOpened}
+use Rattle.owner_books.specs.Shelves.{EachDisk, IsOnlySynced, NothingWritten, OneDisk, Shelf, bytes_on}
+use Rattle.owner_books.specs.Opened.{IsOpened}
 use Rattle.query_server.specs.Grant.{IsGrantAnswered, IsGrantUnwritten, WentBy, entry_in, header_in, verdict_on, verdict_status}
 use Rattle.query_server.specs.Due.{IfFinished, IsStopLine, IsToWrite, IsWrittenAt, MayStop, work_of}
 use Rattle.query_server.specs.Found.{AreKept, IsGrantMade, IsKept, KeepsFound, MayHaveGained}
 use Rattle.query_server.specs.Laws.{AuditsKeepWhatWasFound, GrantsKeepWhatWasFound, RunsKeepWhatWasFound, ServicesKeepWhatWasFound}
 use Rattle.query_server.specs.declared.end.Status.{Status}
 use Rattle.query_server.specs.declared.end.Status.TheVariants as code
-use Rattle.query_server.proofs.Disks.{nothing_written}
+use Rattle.owner_books.proofs.Disks.{nothing_written}
 use Rattle.query_server.proofs.Endings.{counted_lawful, granted_lawful, house_by, house_served_by}
 use Rattle.query_server.proofs.Gained.{gained, may_have_gained}
 use Rattle.query_server.proofs.Owed.{history_within}
-use Rattle.query_server.proofs.Versions.{lawful_in}
+use Rattle.owner_books.proofs.Versions.{lawful_in}
 use Rattle.journal_records.specs.Encoding.{newest_version}
 
 -- ---- the disk

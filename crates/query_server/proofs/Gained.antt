@@ -1,6 +1,5 @@
 -- what an append leaves of an owner's disk, that was made or failed
 use Rattle.std.proofs.Common.{◌≡◌, ℕ, List, [], ◌∷◌, ◌++◌, Option, Some, None, refl, sym, ◌∙◌, ap, subst}
-use Rattle.std.specs.Prelude.{IfSome}
 use mathlib.Core.Logic.{◌⊎◌, inl, inr}
 use mathlib.Core.List.{IsPrefix, append-nil, append_assoc, append_cancel_left}
 use Rattle.outside_disks.specs.Disks.{Shown, Trace, Passes, WhereTold, noted}

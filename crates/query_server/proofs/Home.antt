@@ -9,8 +9,8 @@ use Rattle.command_words.specs.Command.{Command, command_of}
 use Rattle.catalog_loading.specs.Files.{ReadsToCome}
 use Rattle.catalog_loading.specs.Loaded.{Loading, new_header}
 use Rattle.query_server.specs.Work.{Work}
-use Rattle.query_server.specs.Shelves.{Shelf, AreAtHome, EachDisk, OneDisk}
-use Rattle.query_server.specs.Init.{AreMadeBefore, IsMade}
+use Rattle.owner_books.specs.Shelves.{Shelf, AreAtHome, EachDisk, OneDisk}
+use Rattle.owner_books.specs.Making.{AreMadeBefore, IsMade}
 use Rattle.query_server.specs.Due.{IsOfDisks, work_of}
 use Rattle.query_server.specs.Ends.{Ended, IsEndOf}
 use Rattle.query_server.proofs.Endings.{ComesTo, answers, counts, grants, makes, refuses, serves, work_comes}

@@ -1,10 +1,5 @@
 pub mod Prefixes
-pub mod Bundled
-pub mod Back
 pub mod Went
-pub mod Passes
-pub mod Unopened
-pub mod Stops
 pub mod Judged
 pub mod WholeViews
 pub mod Bounded
@@ -15,7 +10,6 @@ pub mod Doors
 pub mod Ends
 pub mod Owed
 pub mod Ran
-pub mod Versions
 pub mod Served
 pub mod Home
 pub mod Made
@@ -35,3 +29,5 @@ pub mod ExamplesOfDisks
 pub mod ExamplesOfService
 pub mod ExamplesOfGrants
 pub mod Granting
+-- passed on to the crates above
+pub use Rattle.owner_books.proofs.Unopened

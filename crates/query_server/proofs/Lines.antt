@@ -7,7 +7,7 @@ use Rattle.command_words.specs.Command.{Command, command_of, run}
 use Rattle.catalog_loading.specs.Files.{Contents, ReadsToCome, always}
 use Rattle.catalog_loading.specs.Loaded.{Loading, owners_in}
 use Rattle.query_server.specs.Work.{Work, to_answer, usage}
-use Rattle.query_server.specs.Shelves.{EachDisk, IsOnlySynced, Shelf}
+use Rattle.owner_books.specs.Shelves.{EachDisk, IsOnlySynced, Shelf}
 use Rattle.query_server.specs.Outside.{Outside}
 use Rattle.query_server.specs.Due.{AreRead, ForContents, IsBeginning, IsFaultyWordsEnd, IsOfRun, IsWrittenAt, MayStop, SomeFailed, files_of, work_of}
 use Rattle.query_server.specs.Promise.{IsAnsweredScript, IsRunLeft}

@@ -19,8 +19,8 @@ use Rattle.query_server.specs.Work.{Work, usage, refused, to_answer, to_make, to
 use Rattle.catalog_loading.specs.Files.{Contents, ReadsToCome, always}
 use Rattle.catalog_loading.specs.Steps.{done}
 use Rattle.catalog_loading.specs.Loaded.{Loading, in_versions}
-use Rattle.query_server.specs.Shelves.{Shelf}
-use Rattle.query_server.specs.Opened.{AreOpened, house_in}
+use Rattle.owner_books.specs.Shelves.{Shelf}
+use Rattle.owner_books.specs.Opened.{AreOpened, house_in}
 use Rattle.query_server.specs.Run.{IsScriptAnswered, script_limit}
 use Rattle.query_server.specs.Check.{status_by}
 use Rattle.query_server.specs.Gap.{IsGapDue}
@@ -39,7 +39,7 @@ use Rattle.query_server.proofs.Ends.{took_passed}
 use Rattle.query_server.proofs.Endings.{ComesTo, answers, checks, compares, counts, grants, makes, no_command, refuses, serves, house_by, work_comes}
 use Rattle.query_server.proofs.Disks.{may_stop_same}
 use Rattle.query_server.proofs.Owed.{histories}
-use Rattle.query_server.proofs.Versions.{lawful_in}
+use Rattle.owner_books.proofs.Versions.{lawful_in}
 use Rattle.generated_run.proofs.Scripts.{headline_of, owed_of}
 use Rattle.owner_house.proofs.Owners.{register_owners}
 

@@ -13,9 +13,9 @@ use Rattle.session_core.specs.Headline.{AreHistories}
 use Rattle.session_core.specs.Transcript.{Journals}
 use Rattle.owner_house.proofs.Owners.{entry_said, in_catalog}
 use Rattle.catalog_loading.specs.Loaded.{IsLoading, Loading, in_versions}
-use Rattle.query_server.specs.Shelves.{Shelf}
-use Rattle.query_server.specs.Opened.{AreOpened, house_in}
-use Rattle.query_server.proofs.Versions.{lawful_in}
+use Rattle.owner_books.specs.Shelves.{Shelf}
+use Rattle.owner_books.specs.Opened.{AreOpened, house_in}
+use Rattle.owner_books.proofs.Versions.{lawful_in}
 use Rattle.journal_records.specs.Encoding.{newest_version}
 
 -- A history keeps to the budget: each reservation did.

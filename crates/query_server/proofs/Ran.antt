@@ -23,27 +23,27 @@ use Rattle.session_core.specs.Code.{AreClosed, ArePasses, AreFresh, found_by, pa
 use Rattle.session_core.specs.Worked.{HasWorked, HaveAddedNone}
 use Rattle.session_core.specs.Transcript.{Journals}
 use Rattle.generated_run.proofs.Worked.{script_gathered}
-use Rattle.owner_house.proofs.Owners.{entry_said, in_catalog, owner_there, owners_length}
+use Rattle.owner_house.proofs.Owners.{in_catalog, owner_there, owners_length}
 use Rattle.std.proofs.lemmas.Option.{slice_get_within}
 use Rattle.catalog_loading.specs.Given.{stop_at_fault}
 use Rattle.catalog_loading.specs.Loaded.{IsLoading, KeyedHouse, Loading, header_of, entry_at, in_versions, keyed, owners_in}
 use Rattle.query_server.specs.Work.{Work, to_answer}
 use Rattle.query_server.specs.Due.{IsDiskLine, IsDue, MayStop}
-use Rattle.query_server.specs.Shelves.{Shelf, EachDisk, IsOnlySynced, bytes_on}
-use Rattle.query_server.specs.Opened.{AreOpened, IsDiskNamed, IsOpened, IsRefusalDue}
+use Rattle.owner_books.specs.Shelves.{Shelf, EachDisk, IsOnlySynced, bytes_on}
+use Rattle.owner_books.specs.Opened.{AreOpened, IsDiskNamed, IsOpened}
+use Rattle.query_server.specs.Duty.{IsRefusalDue}
 use Rattle.owner_catalog.specs.Limits.{owner_limit}
-use Rattle.journal_records.specs.Encoding.{newest_version}
 use Rattle.query_server.specs.Run.{IsScriptAnswered, WentOn}
-use Rattle.query_server.specs.Books.{ArePassesOn, ArePutBack, GaveBook, IsNewPass, IsOpenStop, shown_by}
+use Rattle.owner_books.specs.Books.{ArePassesOn, ArePutBack, GaveBook, IsNewPass, IsOpenStop, shown_by}
 use Rattle.query_server.specs.Ends.{Ended, IsScriptEnd, IsEndOf}
 use Rattle.catalog_loading.specs.declared.stops.Stop.{Stop}
 use Rattle.catalog_loading.specs.declared.stops.Stop.TheVariants.{Journal, Disk, NoMemory}
 use Rattle.query_server.specs.declared.end.End.TheVariants.{Done, ProgramRefused, ScriptTooLong, TooLarge, JournalFull}
 use Rattle.query_server.specs.declared.end.Status.TheVariants as code
-use Rattle.query_server.proofs.Bundled.{many_known}
-use Rattle.query_server.proofs.Passes.{all_back, fresh_none}
+use Rattle.owner_books.proofs.Bundled.{many_known}
+use Rattle.owner_books.proofs.Passes.{all_back, fresh_none}
 use Rattle.query_server.proofs.Ends.{end_passed}
-use Rattle.query_server.proofs.Stops.{err_same, pass_opened}
+use Rattle.owner_books.proofs.Stops.{err_same, pass_opened}
 use Rattle.query_server.proofs.Went.{went_on}
 
 -- what was answered by workers, by the draws and the script as they are called elsewhere
@@ -84,14 +84,7 @@ module _ (loading : Loading) (key : List ℕ) (lawful : IsLoading loading) where
   pub there : (o : ℕ) → o < owners_in loading → slice_get house.owners o ≡ Some (owner_at house o)
   there o within = owner_there loading.register o (omega (arith, within, count_owners))
 
-  -- the passes that were opened are of the house's owners, and fresh
-  pub opened_passes : (old mid : Shelf) (passes : List Pass) → ArePassesOn (entry_at loading) (header_of loading key) (owners_in loading) old mid passes → ArePasses (house_of loading.register) passes
-  opened_passes old mid passes on = record {
-    each_has = on.count ∙ sym count_owners;
-    entries = λ o owner at.
-        (let within = in_catalog loading.register lawful.register o (slice_get_within house.owners o owner at) in (on.each o within).book.of_entry ∙ entry_said loading.register o owner newest_version at);
-  }
-
+  -- the passes that were opened are fresh
   pub opened_fresh : (old mid : Shelf) (passes : List Pass) → ArePassesOn (entry_at loading) (header_of loading key) (owners_in loading) old mid passes → AreFresh (house_of loading.register) passes
   opened_fresh old mid passes on = λ o owner at. (on.each o (in_catalog loading.register lawful.register o (slice_get_within house.owners o owner at))).fresh
 

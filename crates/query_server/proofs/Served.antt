@@ -1,6 +1,6 @@
 -- sessions that were held over passes, and what became of the owners' disks
-use Rattle.std.proofs.Common.{◌≡◌, ℕ, ◌<◌, ◌≤◌, List, [], length, Option, Some, refl, sym, ◌∙◌, ap, subst, arith}
-use Rattle.std.specs.Prelude.{Result, Ok, Err, IsErrAnd, Vec}
+use Rattle.std.proofs.Common.{◌≡◌, ℕ, ◌≤◌, List, length, Option, refl, sym, ◌∙◌, ap, subst}
+use Rattle.std.specs.Prelude.{Err, IsErrAnd, Vec}
 use Rattle.std.specs.declared.alloc.Global.{Global}
 use mathlib.Core.Logic.{inl, inr}
 use Rattle.word_streams.specs.Draws.{draws_of}
@@ -18,20 +18,19 @@ use Rattle.catalog_loading.specs.Loaded.{IsLoading, KeyedHouse, Loading, header_
 use Rattle.catalog_loading.proofs.Reached.{IsDone, any_reads}
 use Rattle.query_server.specs.Work.{Work, ended, to_serve}
 use Rattle.query_server.specs.Due.{ForContents}
-use Rattle.query_server.specs.Shelves.{Shelf, EachDisk, IsOnlySynced}
-use Rattle.query_server.specs.Opened.{house_in}
+use Rattle.owner_books.specs.Shelves.{Shelf, EachDisk, IsOnlySynced}
+use Rattle.owner_books.specs.Opened.{house_in}
 use Rattle.owner_catalog.specs.Limits.{owner_limit}
 use Rattle.query_server.specs.Outside.{DoorsStay, SomeDoorRose}
 use Rattle.query_server.specs.Serve.{WereHeld}
 use Rattle.query_server.specs.Service.{IsServedEnd, IsServiceAt, IsServiceEnd, IsServiceOn, IsServiceOver}
-use Rattle.query_server.specs.Books.{ArePassesOn, ArePutBack, IsOpenStop, shown_by}
+use Rattle.owner_books.specs.Books.{ArePassesOn, ArePutBack, IsOpenStop, shown_by}
 use Rattle.query_server.specs.Ends.{Ended, IsEndOf, status_at, stop_status, text_at}
 use Rattle.catalog_loading.specs.declared.stops.Stop.{Stop}
 use Rattle.catalog_loading.specs.declared.stops.Stop.TheVariants as stopped
-use Rattle.query_server.specs.declared.end.End.TheVariants.{Done}
 use Rattle.query_server.specs.declared.end.Status.TheVariants as code
 use Rattle.query_server.proofs.Contents.{any_left, at_some}
-use Rattle.query_server.proofs.Disks.{nothing_same, nothing_written}
+use Rattle.owner_books.proofs.Disks.{nothing_same, nothing_written}
 use Rattle.query_server.proofs.Doors.{doors_same, service_rose, service_stays}
 use Rattle.query_server.proofs.Ends.{end_passed}
 use Rattle.query_server.proofs.Ran.{all_opened, books_closed, closings_of, open_ends, opened_fresh, owner_went, records_of, there, unserved_back}

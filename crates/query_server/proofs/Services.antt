@@ -9,7 +9,6 @@ use Rattle.owner_house.specs.House.{House, IsOwnerIn}
 use Rattle.owner_house.specs.Owner.{Owner}
 use Rattle.owner_house.proofs.Owners.{register_owners}
 use Rattle.owner_history.specs.Sound.{IsFound, IsOwed, MayBeFound}
-use Rattle.session_core.specs.Headline.{Programs, AreFound}
 use Rattle.service_workers.specs.Kept.{KeepThePromises}
 use Rattle.service_workers.proofs.Together.{together_keep, together_owed}
 use Rattle.service_workers.specs.Services.{Door}
@@ -18,10 +17,10 @@ use Rattle.service_workers.specs.declared.posting.Service.TheVariants.{Served, D
 use Rattle.command_words.specs.Command.{Command, command_of}
 use Rattle.catalog_loading.specs.Files.{Contents, ReadsToCome}
 use Rattle.catalog_loading.specs.Loaded.{IsLoading, Loading, in_versions}
-use Rattle.query_server.specs.Work.{Work, ended, to_serve}
+use Rattle.query_server.specs.Work.{ended}
 use Rattle.query_server.specs.Due.{ForContents, IsOfDoors, command_steps, work_of}
-use Rattle.query_server.specs.Shelves.{Shelf}
-use Rattle.query_server.specs.Opened.{house_in}
+use Rattle.owner_books.specs.Shelves.{Shelf}
+use Rattle.owner_books.specs.Opened.{house_in}
 use Rattle.query_server.specs.Service.{IsServedEnd, IsServiceAt, IsServiceLeft, IsServiceOver, service_status}
 use Rattle.query_server.specs.Ends.{Ended, IsEndingWith, IsStepEnd, status_at, text_at}
 use Rattle.query_server.specs.Serve.{serve_steps}
@@ -29,10 +28,10 @@ use Rattle.query_server.specs.declared.end.Status.{Status}
 use Rattle.query_server.specs.declared.end.Status.TheVariants as code
 use Rattle.catalog_loading.specs.declared.stops.Stop.TheVariants.{Fault}
 use Rattle.query_server.proofs.Contents.{at_some, for_contents}
-use Rattle.query_server.proofs.Disks.{nothing_same}
+use Rattle.owner_books.proofs.Disks.{nothing_same}
 use Rattle.query_server.proofs.Endings.{house_served_by}
 use Rattle.query_server.proofs.Owed.{histories}
-use Rattle.query_server.proofs.Versions.{lawful_in}
+use Rattle.owner_books.proofs.Versions.{lawful_in}
 
 -- another command listens at no door
 pub doorless : {A : Type 0} (command other : Option Command) → command ≡ other → (IsOfDoors other → ⊥) → IsOfDoors command → A

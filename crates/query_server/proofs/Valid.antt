@@ -12,22 +12,22 @@ use Rattle.command_words.specs.Command.{Command, command_of}
 use Rattle.catalog_loading.specs.Files.{ReadsToCome}
 use Rattle.catalog_loading.specs.Loaded.{KeyedOwner, Loading, its_entry, its_header, entry_in, header_in, in_versions, new_entry, new_header, owners_in, version_at}
 use Rattle.query_server.specs.Work.{Work, usage, refused, to_answer, to_make, to_count, to_grant, to_check, to_compare, to_serve, to_generate}
-use Rattle.query_server.specs.Shelves.{Shelf, bytes_on}
+use Rattle.owner_books.specs.Shelves.{Shelf, bytes_on}
 use Rattle.query_server.specs.Outside.{NoCallFailed, Outside}
 use Rattle.query_server.specs.Grant.{entry_in as grant_entry, header_in as grant_header, verdict_on, verdict_status}
-use Rattle.query_server.specs.Opened.{IsOpened, IsRefusedAt, IsUnopened}
+use Rattle.owner_books.specs.Opened.{IsOpened, IsRefusedAt, IsUnopened}
 use Rattle.query_server.specs.Due.{AreRead, IfFinished, IsDue, IsWrittenAt, SomeFailed, files_of, work_of}
 use Rattle.query_server.specs.Valid.{AreEmpty, EndsWell, HoldsJournal, HoldJournals, IsValidFor, MayEndWell}
 use Rattle.query_server.specs.Laws.{ValidCommandsEndWell}
 use Rattle.query_server.specs.Ends.{Ended}
-use Rattle.query_server.specs.declared.refusals.JournalRefusal.{JournalRefusal}
-use Rattle.query_server.specs.declared.refusals.JournalRefusal.TheVariants.{Changed, Damaged, Exists, Uninitialised}
+use Rattle.owner_books.specs.declared.refusals.JournalRefusal.{JournalRefusal}
+use Rattle.owner_books.specs.declared.refusals.JournalRefusal.TheVariants.{Changed, Damaged, Exists, Uninitialised}
 use Rattle.query_server.specs.declared.end.Status.{Status}
 use Rattle.query_server.specs.declared.end.Status.TheVariants as code
 use Rattle.catalog_loading.specs.declared.stops.Stop.TheVariants.{Fault}
 use Rattle.query_server.proofs.Contents.{for_contents}
 use Rattle.query_server.proofs.Outcomes.{Comes, due_status, finished_due}
-use Rattle.query_server.proofs.Unopened.{not_refused}
+use Rattle.owner_books.proofs.Unopened.{not_refused}
 
 -- what bytes stand for, where they are told
 unrefused : (entry : Entry) (header : Header) (bytes : Option (List ℕ)) (found : List Record) (refusal : JournalRefusal) → IsSome bytes → entry.version ≡ header.version → IsOpened entry header bytes found

@@ -11,8 +11,9 @@ use Rattle.catalog_loading.specs.Steps.{FileStep}
 use Rattle.catalog_loading.specs.Loaded.{Loading, with_house, owners_in, entry_at, in_versions}
 use Rattle.query_server.specs.Work.{Work, to_count}
 use Rattle.query_server.specs.Duty.{Duty, Kind}
-use Rattle.query_server.specs.Shelves.{Shelf, EachDisk, IsOnlySynced}
-use Rattle.query_server.specs.Opened.{AreOpened, IsDiskNamed, IsRefusalDue}
+use Rattle.owner_books.specs.Shelves.{Shelf, EachDisk, IsOnlySynced}
+use Rattle.owner_books.specs.Opened.{AreOpened, IsDiskNamed}
+use Rattle.query_server.specs.Duty.{IsRefusalDue}
 use Rattle.query_server.specs.declared.end.Status.{Status}
 use Rattle.query_server.specs.declared.end.Status.TheVariants.{Done, JournalRefused}
 

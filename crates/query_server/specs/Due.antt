@@ -8,7 +8,7 @@ use Rattle.catalog_loading.specs.Files.{Contents, ReadsToCome, AreTold}
 use Rattle.catalog_loading.specs.Steps.{FileStep}
 use Rattle.query_server.specs.Work.{Work, ended, usage, refused, to_answer, to_make, to_count, to_grant, to_check, to_compare, to_serve, to_generate}
 use Rattle.query_server.specs.Duty.{Duty, Kind, line_duty, no_kind}
-use Rattle.query_server.specs.Shelves.{Shelf}
+use Rattle.owner_books.specs.Shelves.{Shelf}
 use Rattle.query_server.specs.Outside.{Outside, SomeDoorRose}
 use Rattle.query_server.specs.Init.{init_duty, init_kind}
 use Rattle.query_server.specs.Run.{run_duty, run_kind}

@@ -3,9 +3,14 @@ use Rattle.std.specs.Prelude.{◌≡◌, ℕ, List, Option, None, Bool, false}
 use Rattle.fz_ast.specs.Signature.{Signature}
 use Rattle.outside_bays.specs.Bays.{Same}
 use Rattle.catalog_loading.specs.Steps.{FileStep, done}
+use Rattle.catalog_loading.specs.Loaded.{Loading, owner_name_at, owners_in}
 use Rattle.query_server.specs.Work.{Work, usage}
-use Rattle.query_server.specs.Shelves.{Shelf}
+use Rattle.owner_books.specs.Shelves.{Shelf, EachDisk, IsOnlySynced}
+use Rattle.owner_books.specs.Opened.{IsRefusedAt}
+use Rattle.owner_books.specs.Refusals.{journal_text}
+use Rattle.owner_books.specs.declared.refusals.JournalRefusal.{JournalRefusal}
 use Rattle.query_server.specs.declared.end.Status.{Status}
+use Rattle.query_server.specs.declared.end.Status.TheVariants.{JournalRefused}
 
 -- Of a command: the steps of its reading, in order, to the work that they come to; and what it takes beside files.
 pub record Kind : Type 0 where
@@ -45,3 +50,12 @@ line_duty its line = record {
   statuses = λ status. status ≡ its;
   judges = None;
 }
+
+-- What is due where a journal is refused: the first one's line. Nothing is written to any disk.
+pub record IsRefusalDue (loading : Loading) (key : List ℕ) (old new : Shelf) (status : Status) (text : List ℕ) : Type 0 where
+  pub o : ℕ
+  pub refusal : JournalRefusal
+  pub at : IsRefusedAt loading key old o refusal
+  pub is_status : status ≡ JournalRefused
+  pub is_text : text ≡ journal_text (owner_name_at loading o) refusal
+  pub disks : EachDisk (owners_in loading) (λ _. IsOnlySynced) old new

@@ -15,7 +15,7 @@ use Rattle.catalog_loading.specs.Loaded.{Loading}
 use Rattle.query_server.specs.Work.{Work, ended, to_count, to_make}
 use Rattle.query_server.specs.Status.{usage_text, refused_text, memory_text, too_long_text}
 use Rattle.query_server.specs.Due.{AreRead, IsDiskLine, IsDue, IsBeginning, MayStop}
-use Rattle.query_server.specs.Shelves.{Shelf}
+use Rattle.owner_books.specs.Shelves.{Shelf}
 use Rattle.query_server.specs.declared.end.Status.{Status}
 use Rattle.query_server.specs.declared.end.Status.TheVariants as code
 use Rattle.catalog_loading.specs.declared.stops.Stop.{Stop}

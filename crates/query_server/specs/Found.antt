@@ -14,8 +14,8 @@ use Rattle.owner_catalog.specs.Limits.{owner_limit}
 use Rattle.owner_history.specs.Explains.{Explains}
 use Rattle.owner_history.specs.Sound.{IsBacked, IsOwed}
 use Rattle.catalog_loading.specs.Loaded.{KeyedOwner, Loading, entry_at, header_of, in_versions}
-use Rattle.query_server.specs.Shelves.{OneDisk, Shelf, bytes_on}
-use Rattle.query_server.specs.Opened.{IsOpened, house_in}
+use Rattle.owner_books.specs.Shelves.{OneDisk, Shelf, bytes_on}
+use Rattle.owner_books.specs.Opened.{IsOpened, house_in}
 use Rattle.query_server.specs.Grant.{entry_in, header_in, verdict_on}
 use Rattle.query_server.specs.Due.{IfFinished}
 use Rattle.query_server.specs.declared.end.Status.{Status}

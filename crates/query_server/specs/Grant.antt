@@ -15,11 +15,11 @@ use Rattle.catalog_loading.specs.Steps.{FileStep}
 use Rattle.catalog_loading.specs.Loaded.{KeyedOwner, its_entry, its_header, its_name, with_owner}
 use Rattle.query_server.specs.Work.{Work, to_grant}
 use Rattle.query_server.specs.Duty.{Duty, Kind}
-use Rattle.query_server.specs.Shelves.{Shelf, NoOtherRose, OneDisk, IsOnlySynced, bytes_on}
-use Rattle.query_server.specs.Opened.{IsOpened, IsUnopened}
+use Rattle.owner_books.specs.Shelves.{Shelf, NoOtherRose, OneDisk, IsOnlySynced, bytes_on}
+use Rattle.owner_books.specs.Opened.{IsOpened, IsUnopened}
 use Rattle.query_server.specs.Run.{WentOn}
-use Rattle.query_server.specs.Status.{disk_text, journal_text}
-use Rattle.query_server.specs.declared.refusals.JournalRefusal.{JournalRefusal}
+use Rattle.owner_books.specs.Refusals.{disk_text, journal_text}
+use Rattle.owner_books.specs.declared.refusals.JournalRefusal.{JournalRefusal}
 use Rattle.query_server.specs.declared.end.Status.{Status}
 use Rattle.query_server.specs.declared.end.Status.TheVariants as code
 

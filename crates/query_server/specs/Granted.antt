@@ -11,7 +11,7 @@ use Rattle.budget_ledger.specs.declared.book.AppendFault.{AppendFault}
 use Rattle.catalog_loading.specs.declared.stops.Stop.TheVariants.{Disk, NoMemory}
 use Rattle.query_server.specs.Ends.{Ended, end_status, end_text}
 use Rattle.query_server.specs.Grant.{verdict_status, verdict_text}
-use Rattle.query_server.specs.Status.{disk_text}
+use Rattle.owner_books.specs.Refusals.{disk_text}
 use Rattle.query_server.specs.declared.end.End.{End}
 
 -- the end of a grant that is refused so

@@ -27,8 +27,9 @@ use Rattle.command_words.specs.Command.{command_of}
 use Rattle.catalog_loading.specs.Files.{Contents, ReadsToCome, always}
 use Rattle.catalog_loading.specs.Loaded.{IsKeyedOwner, IsLoading, KeyedOwner, Loading, owners_in}
 use Rattle.query_server.specs.Work.{Work, refused, to_answer, to_check, to_compare, to_count, to_grant, to_make, to_serve}
-use Rattle.query_server.specs.Shelves.{EachDisk, IsOnlySynced, Shelf}
-use Rattle.query_server.specs.Outside.{DisksFailed, NoCallFailed, Outside, Stays}
+use Rattle.owner_books.specs.Shelves.{EachDisk, IsOnlySynced, Shelf}
+use Rattle.owner_books.specs.Bays.{DisksFailed}
+use Rattle.query_server.specs.Outside.{NoCallFailed, Outside, Stays}
 use Rattle.query_server.specs.Run.{IsScriptAnswered}
 use Rattle.query_server.specs.Check.{status_by}
 use Rattle.query_server.specs.Status.{refused_text}

@@ -1,8 +1,6 @@
 pub mod Status
 pub mod Work
-pub mod Shelves
 pub mod Outside
-pub mod Opened
 pub mod Duty
 pub mod Run
 pub mod Init
@@ -19,10 +17,11 @@ pub mod Found
 pub mod Ends
 pub mod Granted
 pub mod Service
-pub mod Books
-pub mod Making
 pub mod Taken
 pub mod Laws
 -- passed on to the crates above
+pub use Rattle.owner_books.specs.Shelves
+pub use Rattle.owner_books.specs.Opened
+pub use Rattle.owner_books.specs.Refusals
 pub use Rattle.service_workers.specs.Services as ServiceOver
 pub use Rattle.service_workers.specs.declared.posting.Service as PostedService

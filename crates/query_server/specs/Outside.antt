@@ -1,24 +1,15 @@
 -- What is seen of the outside, and what stays of it through any work.
-use Rattle.std.specs.Prelude.{◌≡◌, ◌⊎◌, ℕ, ◌<◌, ◌≤◌, List, length, map, Option, Result, Err, Vec}
-use Rattle.std.specs.declared.alloc.Global.{Global}
+use Rattle.std.specs.Prelude.{◌≡◌, ℕ, ◌<◌, ◌≤◌, List, length, map, Option}
 use Rattle.fz_outside.specs.Faults.{HasRisen}
 use Rattle.outside_links.specs.Links.{Connection}
 use Rattle.service_workers.specs.Services.{Door, door_at, door_of}
 use Rattle.catalog_loading.specs.Files.{Contents}
-use Rattle.catalog_loading.specs.declared.stops.Stop.{Stop}
-use Rattle.catalog_loading.specs.declared.stops.Stop.TheVariants.{Disk}
-use Rattle.query_server.specs.Shelves.{Shelf, SomeRose}
+use Rattle.owner_books.specs.Bays.{BaySeen, BayStays, DisksFailed}
 
 -- of files: what they hold, where it is told; the names that were read so far, in order; and how many calls have failed
 pub record FilesSeen : Type 0 where
   pub held : Option Contents
   pub names : List (List ℕ)
-  pub faults : ℕ
-
--- of a bay: what each owner's disk shows while it is at home, how many owners it has, and how many calls have failed
-pub record BaySeen : Type 0 where
-  pub shelf : Shelf
-  pub owners : ℕ
   pub faults : ℕ
 
 -- of a source: the bytes that are left, where they are told, and how many calls have failed
@@ -44,9 +35,6 @@ pub record Outside : Type 0 where
 abbrev pub FilesStay : (before after : FilesSeen) → Type 0
 FilesStay before after = (after.held ≡ before.held) × (before.faults ≤ after.faults)
 
-abbrev pub BayStays : (before after : BaySeen) → Type 0
-BayStays before after = (after.owners ≡ before.owners) × (before.faults ≤ after.faults)
-
 abbrev pub DoorsStay : (before after : List Door) → Type 0
 DoorsStay before after =
     (length after ≡ length before) × ((i : ℕ) → i < length before → (door_at before i).faults ≤ (door_at after i).faults)
@@ -64,21 +52,11 @@ Stays before after =
 abbrev pub files_in : {F : Type 0} → (F → Option Contents) → (F → List (List ℕ)) → (F → ℕ) → F → FilesSeen
 files_in held names faults files = record { held = held files; names = names files; faults = faults files }
 
-abbrev pub bay_in : {B : Type 0} → (B → Shelf) → (owners faults : B → ℕ) → B → BaySeen
-bay_in shelf owners faults bay = record { shelf = shelf bay; owners = owners bay; faults = faults bay }
-
 abbrev pub KeepsFiles : {F : Type 0} → (F → Option Contents) → (F → List (List ℕ)) → (F → ℕ) → (old new : F) → Type 0
 KeepsFiles held names faults old new = FilesStay (files_in held names faults old) (files_in held names faults new)
 
-abbrev pub KeepsBay : {B : Type 0} → (B → Shelf) → (owners faults : B → ℕ) → (old new : B) → Type 0
-KeepsBay shelf owners faults old new = BayStays (bay_in shelf owners faults old) (bay_in shelf owners faults new)
-
 abbrev pub doors_in : {O : Type 0} → (O → Option (List Connection)) → (O → Option (List Connection)) → (O → ℕ) → List O → List Door
 doors_in coming served faults doors = map (λ d. door_of (coming d) (served d) (faults d)) doors
-
--- the bay's count of faults rose, or that of an owner's disk
-abbrev pub DisksFailed : (before after : BaySeen) → Type 0
-DisksFailed before after = HasRisen before.faults after.faults ⊎ SomeRose before.shelf after.shelf
 
 -- No call failed: no count of faults rose, of files, source, sink, the bay, an owner's disk or a door.
 abbrev pub NoCallFailed : (before after : Outside) → Type 0
@@ -86,8 +64,3 @@ NoCallFailed before after =
     (HasRisen before.files.faults after.files.faults → ⊥) × (HasRisen before.source.faults after.source.faults → ⊥)
     × (HasRisen before.sink.faults after.sink.faults → ⊥) × (DisksFailed before.bay after.bay → ⊥)
     × (SomeDoorRose before.doors after.doors → ⊥)
-
--- The line of a disk comes only where the bay or an owner's disk failed.
-abbrev pub HasDiskCause : {B T : Type 0} → (B → Shelf) → (owners faults : B → ℕ) → (old new : B) → Result T Stop → Type 0
-HasDiskCause shelf owners faults old new result =
-    (line : Vec ℕ Global) → result ≡ Err (Disk line) → DisksFailed (bay_in shelf owners faults old) (bay_in shelf owners faults new)

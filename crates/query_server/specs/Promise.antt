@@ -6,8 +6,8 @@ use Rattle.session_core.specs.Transcript.{Journals}
 use Rattle.command_words.specs.Command.{run, command_of}
 use Rattle.catalog_loading.specs.Files.{ReadsToCome}
 use Rattle.catalog_loading.specs.Loaded.{Loading, IsKeyedHouse, house_read, in_versions, keyed}
-use Rattle.query_server.specs.Shelves.{Shelf}
-use Rattle.query_server.specs.Opened.{AreOpened, house_in}
+use Rattle.owner_books.specs.Shelves.{Shelf}
+use Rattle.owner_books.specs.Opened.{AreOpened, house_in}
 use Rattle.query_server.specs.Run.{IsScriptAnswered, script_limit}
 use Rattle.query_server.specs.Due.{work_of, IsBeginning, MayStop}
 use Rattle.query_server.specs.declared.end.Status.{Status}

@@ -23,8 +23,9 @@ use Rattle.catalog_loading.specs.Steps.{FileStep}
 use Rattle.catalog_loading.specs.Loaded.{Loading, header_of, in_versions, with_house, entry_at, owners_in}
 use Rattle.query_server.specs.Work.{Work, to_answer}
 use Rattle.query_server.specs.Duty.{Duty, Kind}
-use Rattle.query_server.specs.Shelves.{Shelf, EachDisk, IsOnlySynced}
-use Rattle.query_server.specs.Opened.{AreOpened, IsDiskNamed, IsRefusalDue}
+use Rattle.owner_books.specs.Shelves.{Shelf, EachDisk, IsOnlySynced}
+use Rattle.owner_books.specs.Opened.{AreOpened, IsDiskNamed}
+use Rattle.query_server.specs.Duty.{IsRefusalDue}
 use Rattle.query_server.specs.Status.{too_long_text}
 use Rattle.query_server.specs.declared.end.Status.{Status}
 use Rattle.query_server.specs.declared.end.Status.TheVariants.{Done, JournalRefused, ScriptTooLong}

@@ -3,7 +3,7 @@ use Rattle.std.specs.Prelude.{◌≡◌, ◌⊎◌, true, false, ℕ, List, [], 
 use Rattle.word_streams.specs.Draws.{draws_of}
 use Rattle.budget_ledger.specs.declared.failure.Failure.{Failure}
 use Rattle.owner_desk.specs.Passes.{Pass}
-use Rattle.owner_house.specs.House.{House, house_of}
+use Rattle.owner_house.specs.House.{house_of}
 use Rattle.owner_house.specs.Owner.{Owner}
 use Rattle.session_core.specs.Code.{AreClosed, AreFresh, found_by}
 use Rattle.session_core.specs.Gathered.{AreGathered, AreShut}
@@ -14,8 +14,9 @@ use Rattle.catalog_loading.specs.Steps.{FileStep}
 use Rattle.catalog_loading.specs.Loaded.{Loading, header_of, in_versions, with_house, entry_at, owners_in}
 use Rattle.query_server.specs.Work.{Work, to_serve}
 use Rattle.query_server.specs.Duty.{Duty, Kind}
-use Rattle.query_server.specs.Shelves.{Shelf, EachDisk, IsOnlySynced}
-use Rattle.query_server.specs.Opened.{AreOpened, IsDiskNamed, IsRefusalDue}
+use Rattle.owner_books.specs.Shelves.{Shelf, EachDisk, IsOnlySynced}
+use Rattle.owner_books.specs.Opened.{AreOpened, IsDiskNamed}
+use Rattle.query_server.specs.Duty.{IsRefusalDue}
 use Rattle.query_server.specs.Run.{WentOn}
 use Rattle.query_server.specs.declared.end.Status.{Status}
 use Rattle.query_server.specs.declared.end.Status.TheVariants.{Done, JournalRefused}

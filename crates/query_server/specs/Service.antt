@@ -18,8 +18,8 @@ use Rattle.catalog_loading.specs.Files.{ReadsToCome}
 use Rattle.catalog_loading.specs.Loaded.{Loading, IsKeyedHouse, house_read, in_versions, keyed}
 use Rattle.catalog_loading.specs.declared.stops.Stop.TheVariants as stop
 use Rattle.query_server.specs.Work.{Work, to_serve}
-use Rattle.query_server.specs.Shelves.{Shelf, NothingWritten}
-use Rattle.query_server.specs.Opened.{AreOpened, house_in}
+use Rattle.owner_books.specs.Shelves.{Shelf, NothingWritten}
+use Rattle.owner_books.specs.Opened.{AreOpened, house_in}
 use Rattle.query_server.specs.Serve.{IsHeldOver}
 use Rattle.query_server.specs.Ends.{Ended, status_at}
 use Rattle.query_server.specs.declared.end.End.TheVariants as end_with

@@ -1,10 +1,8 @@
 -- The numbers of statuses, and their lines.
-use Rattle.std.specs.Prelude.{ℕ, List, ◌++◌, codes, decimal}
+use Rattle.std.specs.Prelude.{ℕ, List, ◌++◌, codes}
 use Rattle.query_server.specs.declared.end.Status.{Status}
 use Rattle.query_server.specs.declared.end.Status.TheVariants.{Done, ProgramRefused, Usage, Refused, JournalRefused, Fault}
 use Rattle.query_server.specs.declared.end.Status.TheVariants.{DiskFault, NoMemory, ScriptTooLong, TooLarge, JournalFull}
-use Rattle.query_server.specs.declared.refusals.JournalRefusal.{JournalRefusal}
-use Rattle.query_server.specs.declared.refusals.JournalRefusal.TheVariants.{Uninitialised, Changed, Damaged, Exists}
 
 abbrev pub status_code : Status → ℕ
 status_code Done = 0
@@ -24,19 +22,6 @@ usage_text = codes "usage\n"
 
 abbrev pub refused_text : (name : List ℕ) → List ℕ
 refused_text name = codes "refused " ++ name ++ codes "\n"
-
--- why an owner's journal is refused
-abbrev pub refusal_text : JournalRefusal → List ℕ
-refusal_text (Uninitialised n) = codes "uninitialised " ++ decimal n
-refusal_text Changed = codes "changed"
-refusal_text (Damaged slot) = codes "damaged " ++ decimal slot
-refusal_text (Exists n) = codes "exists " ++ decimal n
-
-abbrev pub journal_text : (owner : List ℕ) → JournalRefusal → List ℕ
-journal_text owner refusal = codes "journal " ++ owner ++ codes " " ++ refusal_text refusal ++ codes "\n"
-
-abbrev pub disk_text : (owner : List ℕ) → List ℕ
-disk_text owner = codes "disk " ++ owner ++ codes "\n"
 
 abbrev pub memory_text : List ℕ
 memory_text = codes "memory\n"

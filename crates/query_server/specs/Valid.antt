@@ -4,9 +4,9 @@ use Rattle.journal_records.specs.declared.records.Record.{Record}
 use Rattle.session_core.specs.Transcript.{Journals}
 use Rattle.catalog_loading.specs.Loaded.{KeyedOwner, Loading, owners_in}
 use Rattle.query_server.specs.Work.{Work, usage, refused, to_answer, to_make, to_count, to_grant, to_check, to_compare, to_serve, to_generate}
-use Rattle.query_server.specs.Shelves.{Shelf, TellBytes, bytes_on}
+use Rattle.owner_books.specs.Shelves.{Shelf, TellBytes, bytes_on}
 use Rattle.query_server.specs.Grant.{entry_in, header_in}
-use Rattle.query_server.specs.Opened.{AreOpened, IsOpened}
+use Rattle.owner_books.specs.Opened.{AreOpened, IsOpened}
 use Rattle.query_server.specs.declared.end.Status.{Status}
 use Rattle.query_server.specs.declared.end.Status.TheVariants.{Done, ProgramRefused, NoMemory, ScriptTooLong, TooLarge, JournalFull}
 

@@ -5,22 +5,21 @@ ghost use Rattle.journal_records.specs.declared.records.Record.{Record};
 ghost use Rattle.owner_catalog.specs.Entries.{owner_entry_at};
 ghost use Rattle.catalog_loading.specs.Loaded.{entry_in, header_in, in_versions, new_header, owners_in};
 ghost use Rattle.session_core.specs.Transcript.{Journals};
-ghost use Rattle.query_server.specs.Shelves.{AreAtHome, EachDisk, IsOnlySynced, StandsStill, bytes_on};
-ghost use Rattle.query_server.specs.Outside.{HasDiskCause, KeepsBay};
-ghost use Rattle.query_server.specs.Opened.{AreOpened, IsOpened};
+ghost use Rattle.owner_books.specs.Shelves.{AreAtHome, EachDisk, IsOnlySynced, StandsStill, bytes_on};
+ghost use Rattle.owner_books.specs.Bays.{HasDiskCause, KeepsBay};
+ghost use Rattle.owner_books.specs.Opened.{AreOpened, IsOpened};
 ghost use Rattle.query_server.specs.Audit.{counted_line, counted_text};
 ghost use Rattle.query_server.specs.Work.{to_count};
 ghost use Rattle.query_server.specs.Ends.{IsEndOf};
-ghost use Rattle.query_server.specs.Books.{IsBookStop, IsOpenStop, LeftDisk};
+ghost use Rattle.owner_books.specs.Books.{IsBookStop, IsOpenStop, LeftDisk};
 
-use crate::books::open_book;
 use crate::end::End;
-use crate::numbers::put_field;
 use budget_ledger::book::Book;
 use catalog_loading::{OpenedTables, Stop, headers_of};
 use journal_records::records::Header;
 use outside_bays::bay::Bay;
 use outside_disks::disk::Disk;
+use owner_books::{open_book, put_field};
 use owner_catalog::Catalog;
 use std::alloc::{AllocError, Global};
 

@@ -7,19 +7,19 @@ ghost use Rattle.owner_house.specs.Names.{AreNames};
 ghost use Rattle.query_server.specs.Ends.{IsStepEnd, IsVerdictOn};
 ghost use Rattle.query_server.specs.Check.{accepted_text, check_steps};
 ghost use Rattle.query_server.specs.Work.{to_check};
-ghost use Rattle.query_server.specs.Shelves.{Shelf};
+ghost use Rattle.owner_books.specs.Shelves.{Shelf};
 ghost use Rattle.query_server.specs.Outside.{KeepsFiles};
 ghost use Rattle.catalog_loading.specs.Given.{IsStep};
 ghost use Rattle.query_server.specs.Due.{ForContents};
 
 use crate::end::End;
-use crate::numbers::put_sensitivity;
 use crate::programs::refuse;
 use crate::whole::tables_of;
 use answer_path::check_program;
 use catalog_loading::{Stop, find_owner, load_for, open_catalog, read_file};
 use fz_frac::Sens;
 use fz_outside::files::Files;
+use owner_books::put_sensitivity;
 use part_views::Dataset;
 use std::alloc::{AllocError, Global};
 

@@ -1,7 +1,7 @@
 //! A program's values on two datasets are compared.
 
 ghost use Rattle.std.specs.Prelude.{◌≡◌, ◌<◌, ℕ, List, Option, length, IfOk, IsErrOf};
-ghost use Rattle.query_server.specs.Shelves.{Shelf};
+ghost use Rattle.owner_books.specs.Shelves.{Shelf};
 ghost use Rattle.fz_frac.specs.Sens.{distance_of};
 ghost use Rattle.metric_law.specs.Means.{Means};
 ghost use Rattle.metric_values.specs.Tables.{apart, rows_of as tables_rows};
@@ -19,7 +19,6 @@ ghost use Rattle.catalog_loading.specs.Given.{IsOwnerAt, IsStep};
 ghost use Rattle.query_server.specs.Ends.{IsEndOf, IsGapOn, IsStepEnd};
 
 use crate::end::End;
-use crate::numbers::{put_number, put_sensitivity, put_signed};
 use crate::programs::refuse;
 use crate::whole::{rows_of, tables_of};
 use answer_path::{Judged, judge, read_program};
@@ -27,6 +26,7 @@ use catalog_loading::{Stop, find_fitting, find_owner, load_for, open_catalog, re
 use fuzz_eval::run::run;
 use fz_frac::Sens;
 use fz_outside::files::Files;
+use owner_books::{put_number, put_sensitivity, put_signed};
 use owner_catalog::Catalog;
 use part_views::Dataset;
 use std::alloc::{AllocError, Global};

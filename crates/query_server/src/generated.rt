@@ -5,15 +5,15 @@ ghost use Rattle.std.specs.Prelude.{◌≡◌, ◌++◌, ◌≤◌, ℕ, List, I
 ghost use Rattle.command_words.specs.Program.{greatest_asks, greatest_workers};
 ghost use Rattle.query_server.specs.Gen.{tally_text};
 ghost use Rattle.query_server.specs.Work.{to_generate};
-ghost use Rattle.query_server.specs.Shelves.{Shelf};
+ghost use Rattle.owner_books.specs.Shelves.{Shelf};
 ghost use Rattle.query_server.specs.Ends.{IsEndOf};
 
 use crate::end::End;
-use crate::numbers::put_field;
 use catalog_loading::Stop;
 use generated_run::{Tally, run_generated};
 use itoa::Buffer;
 use outside_links::gate::Gate;
+use owner_books::put_field;
 use std::alloc::{AllocError, Global};
 use std::sync::Wait;
 use std::thread::Threads;

@@ -4,23 +4,23 @@ ghost use Rattle.std.specs.Prelude.{◌≡◌, ◌<◌, ℕ, List, Option, IfOk,
 ghost use Rattle.fz_outside.specs.Faults.{HasRisen};
 ghost use Rattle.budget_core.specs.Granting.{IsAmount};
 ghost use Rattle.budget_ledger.specs.Account.{IsBook, Went};
-ghost use Rattle.query_server.specs.Shelves.{AreAtHome};
-ghost use Rattle.query_server.specs.Outside.{HasDiskCause, KeepsBay, KeepsFiles};
+ghost use Rattle.owner_books.specs.Shelves.{AreAtHome};
+ghost use Rattle.owner_books.specs.Bays.{HasDiskCause, KeepsBay};
+ghost use Rattle.query_server.specs.Outside.{KeepsFiles};
 ghost use Rattle.query_server.specs.Due.{ForContents};
 ghost use Rattle.query_server.specs.Ends.{IsEndOf, IsStepEnd};
 ghost use Rattle.query_server.specs.Grant.{grant_steps, granted_text};
 ghost use Rattle.query_server.specs.Granted.{IsGrantEnd, IsRefusalEnd};
 ghost use Rattle.query_server.specs.Work.{to_grant};
 
-use crate::books::{disk_stop, open_on};
 use crate::end::End;
-use crate::numbers::put_field;
 use budget_core::answers::GrantRefusal;
 use budget_ledger::book::{Book, GrantFault};
 use catalog_loading::{OpenedOwner, Stop, open_owner};
 use fz_outside::files::Files;
 use outside_bays::bay::Bay;
 use outside_disks::disk::Disk;
+use owner_books::{disk_stop, open_on, put_field};
 use std::alloc::{AllocError, Global};
 
 /// The line of a grant: the owner, the budget with it, and how many records there are.

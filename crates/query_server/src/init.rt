@@ -1,29 +1,18 @@
-//! The owners' journals are made.
+//! The owners' journals are made, and listed.
 
-ghost use Rattle.std.specs.Prelude.{◌≡◌, ◌≢◌, ◌⊎◌, ◌++◌, ◌<◌, ◌≤◌, ℕ, length, List, IsSome, IfErr, IfOk, IsErrOf, OnOk};
+ghost use Rattle.std.specs.Prelude.{◌≡◌, ◌++◌, ◌<◌, ℕ, length, List, IfOk, IsErrOf};
 ghost use Rattle.std.specs.List.{flat_map};
-ghost use Rattle.fz_outside.specs.Faults.{HasRisen};
-ghost use Rattle.outside_disks.specs.Disks.{Shown};
-ghost use Rattle.journal_records.specs.Encoding.{IsHeader};
-ghost use Rattle.budget_journal.specs.declared.making.InitFault.TheVariants.{DiskFault};
 ghost use Rattle.owner_catalog.specs.Entries.{owner_entry_at};
-ghost use Rattle.catalog_loading.specs.Loaded.{new_header, owners_in};
-ghost use Rattle.query_server.specs.Shelves.{AreAtHome, EachDisk};
-ghost use Rattle.query_server.specs.Outside.{HasDiskCause, KeepsBay};
+ghost use Rattle.owner_books.specs.Shelves.{AreAtHome};
+ghost use Rattle.owner_books.specs.Bays.{HasDiskCause, KeepsBay};
 ghost use Rattle.query_server.specs.Work.{to_make};
-ghost use Rattle.query_server.specs.Init.{IsMade, made_line};
+ghost use Rattle.query_server.specs.Init.{made_line};
 ghost use Rattle.query_server.specs.Ends.{IsEndOf};
-ghost use Rattle.query_server.specs.Making.{IsMakeStop, IsUnmade, IsUnmadeStop, Turned};
 
-use crate::books::{disk_stop, journal_stop};
 use crate::end::End;
-use crate::numbers::put_field;
-use crate::refusals::JournalRefusal;
-use budget_journal::journal::Journal;
-use budget_journal::making::InitFault;
-use catalog_loading::{OpenedTables, Stop, headers_of};
-use journal_records::records::Header;
+use catalog_loading::{OpenedTables, Stop};
 use outside_bays::bay::Bay;
+use owner_books::{make_all, put_field};
 use owner_catalog::Catalog;
 use std::alloc::{AllocError, Global};
 
@@ -48,59 +37,6 @@ fn made_lines(alloc: Global, catalog: &Catalog) -> Result<Vec<u8>, AllocError>
         put_made(&mut lines, catalog, owner)?;
     }
     Ok(lines)
-}
-
-/// Makes the journal of an owner: its disk is taken, and put back.
-#[tactic(auto, using(crate::proofs::Made::untaken))]
-fn make_journal<B: Bay>(bay: &mut B, owner: u32, header: &Header) -> Result<(), InitFault>
-    requires owner { owner < B.owners bay.old }
-    requires home { IsSome (B.shelf bay.old owner) }
-    requires header { IsHeader header.now }
-    requires grown { 2 ≤ header.now.version }
-    ensures made { OnOk result (Turned (IsMade header.now) (B.shelf bay.old owner) (B.shelf bay.new owner)) }
-    ensures unmade { IfErr result (λ fault. Turned (IsUnmade fault) (B.shelf bay.old owner) (B.shelf bay.new owner)) }
-    ensures others { (o : ℕ) → o ≢ owner → B.shelf bay.new o ≡ B.shelf bay.old o }
-    ensures bay { KeepsBay B.shelf B.owners B.faults bay.old bay.new }
-    ensures passed { OnOk result (B.faults bay.new ≡ B.faults bay.old) }
-    ensures cause { IfErr result (λ fault. fault ≡ DiskFault → HasRisen (B.faults bay.old) (B.faults bay.new)
-        ⊎ Turned (λ before after. HasRisen before.faults after.faults) (B.shelf bay.old owner) (B.shelf bay.new owner)) }
-{
-    let mut disk = bay.take(owner)?;
-    let made = Journal::init(&mut disk, header);
-    bay.put_back(owner, disk);
-    made
-}
-
-/// What stops a command where no journal was made on an owner's disk.
-fn unmade_stop(alloc: Global, owner: &str, fault: InitFault) -> Stop
-    ensures { IsUnmadeStop owner.now fault result }
-{
-    match fault {
-        InitFault::DiskFault => disk_stop(alloc, owner),
-        InitFault::AlreadyThere { length } => {
-            journal_stop(alloc, owner, JournalRefusal::Exists { length })
-        }
-    }
-}
-
-/// Makes the journals of all owners in order, up to the first that isn't made.
-fn make_all<B: Bay>(alloc: Global, bay: &mut B, opened: &OpenedTables) -> Result<(), Stop>
-    requires home { AreAtHome (B.owners bay.old) (B.shelf bay.old) }
-    ensures made { OnOk result (EachDisk (owners_in opened.now.loading)
-        (λ o. IsMade (new_header opened.now.loading opened.now.key o))
-        (B.shelf bay.old) (B.shelf bay.new)) }
-    ensures stop { IfErr result (IsMakeStop opened.now.loading opened.now.key
-        (B.shelf bay.old) (B.shelf bay.new)) }
-    ensures bay { KeepsBay B.shelf B.owners B.faults bay.old bay.new }
-    ensures disk { HasDiskCause B.shelf B.owners B.faults bay.old bay.new result }
-{
-    let headers = headers_of(alloc, opened)?;
-    for owner in 0..headers.len() as u32 {
-        if let Err(fault) = make_journal(bay, owner, &headers[owner as usize]) {
-            return Err(unmade_stop(alloc, opened.catalog().owner_name(owner), fault));
-        }
-    }
-    Ok(())
 }
 
 /// Makes the journals of all owners. The lines come first: where memory is wanting for them, no disk is taken.

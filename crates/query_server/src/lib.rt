@@ -2,7 +2,6 @@
 #![tactic(auto)]
 
 mod audit;
-pub mod books;
 mod check;
 mod end;
 mod gap;
@@ -11,9 +10,7 @@ mod grant;
 mod init;
 mod laws;
 mod listing;
-mod numbers;
 mod programs;
-mod refusals;
 mod run;
 mod serve;
 mod server;

@@ -2,8 +2,9 @@
 
 ghost use Rattle.std.specs.Prelude.{◌≡◌, ◌<◌, ℕ, List, Option, IsErrOf};
 ghost use Rattle.catalog_loading.specs.Loaded.{with_house};
-ghost use Rattle.query_server.specs.Shelves.{AreAtHome};
-ghost use Rattle.query_server.specs.Outside.{HasDiskCause, KeepsBay, KeepsFiles};
+ghost use Rattle.owner_books.specs.Shelves.{AreAtHome};
+ghost use Rattle.owner_books.specs.Bays.{HasDiskCause, KeepsBay};
+ghost use Rattle.query_server.specs.Outside.{KeepsFiles};
 ghost use Rattle.fz_outside.specs.Faults.{HasRisen};
 ghost use Rattle.query_server.specs.Due.{ForContents};
 ghost use Rattle.query_server.specs.Ends.{IsStepEnd, listed_work};

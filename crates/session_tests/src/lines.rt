@@ -3,9 +3,8 @@
 
 use crate::serving::{Serving, connection, made, served};
 use memory_runs::journals::{LARGE, MemJournals, SMALL, journals_on};
-use memory_runs::{KEY, TABLE, census_files};
+use memory_runs::{KEY, Status, TABLE, census_files};
 use outside_disks::memory::{Limits, MemDisk};
-use query_server::Status;
 use session_serve::serve::SessionEnd::Bye;
 use std::alloc::{AllocError, Global};
 use std::str;

@@ -18,7 +18,7 @@ use outside_disks::memory::MemDisk;
 use outside_links::gate::FreeGate;
 use outside_links::link::Link;
 use outside_links::memory::MemLink;
-use query_server::books::open_desks;
+use owner_books::open_desks;
 use session_core::passes::Passes;
 use session_core::server::Server;
 use session_serve::serve::{SessionEnd, serve};

@@ -13,10 +13,12 @@ use Rattle.session_core.specs.Transcript.{Journals}
 use Rattle.query_server.specs.Work.{Work, to_answer}
 use Rattle.query_server.specs.Run.{IsScriptAnswered, IsScriptDue}
 use Rattle.catalog_loading.specs.Loaded.{header_in, in_versions, new_entry, new_header, owner_name_at}
-use Rattle.query_server.specs.Opened.{AreOpened, IsRefusalDue, IsUnopened}
+use Rattle.query_server.specs.Opened.{AreOpened, IsUnopened}
+use Rattle.query_server.specs.Duty.{IsRefusalDue}
 use Rattle.query_server.specs.Shelves.{Shelf, bytes_on}
 use Rattle.query_server.specs.Due.{IsBeginning, IsToWrite, IsStopLine, IsWrittenAt}
-use Rattle.query_server.specs.Status.{disk_text, memory_text}
+use Rattle.query_server.specs.Refusals.{disk_text}
+use Rattle.query_server.specs.Status.{memory_text}
 use Rattle.query_server.specs.declared.end.Status.{Status}
 use Rattle.query_server.specs.declared.end.Status.TheVariants.{Done, Fault, DiskFault, NoMemory}
 use Rattle.worked_row.specs.Held.{IsJournalMade, loading, zeros}

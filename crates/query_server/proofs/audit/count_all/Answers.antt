@@ -2,13 +2,13 @@ use Rattle.std.proofs.Common.{◌≡◌, ◌∙◌, ◌<◌, [], refl, ap, rules
 use Rattle.std.specs.Prelude.{Err}
 use Rattle.owner_catalog.specs.Entries.{OwnerEntry}
 use Rattle.catalog_loading.specs.Loaded.{entry_in, header_in, owners_in}
-use Rattle.query_server.specs.Shelves.{bytes_on}
-use Rattle.query_server.specs.Opened.{IsOpened}
-use Rattle.query_server.specs.Books.{IsOpenStop}
-use Rattle.query_server.proofs.Disks.{same_still}
+use Rattle.owner_books.specs.Shelves.{bytes_on}
+use Rattle.owner_books.specs.Opened.{IsOpened}
+use Rattle.owner_books.specs.Books.{IsOpenStop}
+use Rattle.owner_books.proofs.Disks.{same_still}
 use Rattle.query_server.proofs.Counted.{all_counted, none_counted, one_counted, one_left, one_still, opened_as, rose_since, still_elsewhere, stop_passed}
 use Rattle.query_server.proofs.Ran.{passed_disk}
-use Rattle.query_server.proofs.Stops.{book_stopped}
+use Rattle.owner_books.proofs.Stops.{book_stopped}
 use Rattle.query_server.proofs.audit.count_all.Goals as goal
 
 pub loop-owner-init : goal.loop-owner-init

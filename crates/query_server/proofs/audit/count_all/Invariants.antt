@@ -1,7 +1,7 @@
 use Rattle.std.proofs.Common.{◌≡◌, ◌≤◌, ℕ}
 use Rattle.catalog_loading.specs.Loaded.{header_in, entry_in}
-use Rattle.query_server.specs.Shelves.{EachDisk, IsOnlySynced, StandsStill, bytes_on}
-use Rattle.query_server.specs.Opened.{IsOpened}
+use Rattle.owner_books.specs.Shelves.{EachDisk, IsOnlySynced, StandsStill, bytes_on}
+use Rattle.owner_books.specs.Opened.{IsOpened}
 use Rattle.query_server.proofs.Counted.{AreCounted}
 use Rattle.query_server.proofs.audit.count_all.Given as goal
 

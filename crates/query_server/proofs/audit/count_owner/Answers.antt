@@ -1,10 +1,10 @@
 use Rattle.std.proofs.Common.{refl, ap}
 use Rattle.catalog_loading.specs.Loaded.{entry_in, header_in}
 use Rattle.owner_catalog.specs.Entries.{owner_entry_at}
-use Rattle.query_server.proofs.Back.{changed_to}
+use Rattle.owner_books.proofs.Back.{changed_to}
 use Rattle.query_server.proofs.Counted.{counted_as}
-use Rattle.query_server.proofs.Passes.{book_back}
-use Rattle.query_server.proofs.Stops.{book_opened}
+use Rattle.owner_books.proofs.Passes.{book_back}
+use Rattle.owner_books.proofs.Stops.{book_opened}
 use Rattle.query_server.proofs.audit.count_owner.Goals as goal
 
 pub returns-in_err-counted-clause-left : goal.returns-in_err-counted-clause-left

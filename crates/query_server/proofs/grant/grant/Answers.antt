@@ -1,18 +1,15 @@
-use Rattle.std.proofs.Common.{◌≡◌, ℕ, List, sym, subst, arith}
+use Rattle.std.proofs.Common.{ℕ, List, sym, subst, arith}
 use mathlib.Core.Logic.{inr}
-use Rattle.std.specs.Prelude.{Some, Err}
-use Rattle.outside_bays.specs.Bays.{Changes}
 use Rattle.journal_records.specs.declared.records.Header.{Header}
 use Rattle.budget_core.specs.Entries.{Entry}
-use Rattle.budget_ledger.specs.Account.{Account}
 use Rattle.catalog_loading.specs.Loaded.{its_entry, its_header, its_name}
-use Rattle.query_server.specs.Books.{IsNewBook, IsUnopenedStop, TookDisk, shown_by}
+use Rattle.owner_books.specs.Books.{IsNewBook, IsUnopenedStop, TookDisk}
 use Rattle.query_server.specs.Ends.{Ended, IsEndOf}
 use Rattle.query_server.specs.Grant.{entry_in, header_in}
 use Rattle.query_server.specs.Granted.{IsGrantEnd}
-use Rattle.query_server.specs.Shelves.{OneDisk, IsOnlySynced, bytes_on}
+use Rattle.owner_books.specs.Shelves.{OneDisk, IsOnlySynced, bytes_on}
 use Rattle.query_server.specs.Work.{to_grant}
-use Rattle.query_server.proofs.Back.{changed_to}
+use Rattle.owner_books.proofs.Back.{changed_to}
 use Rattle.query_server.proofs.Ends.{end_passed}
 use Rattle.query_server.proofs.Granting.{granted_end, granted_rose, one_risen, unopened_end}
 use Rattle.query_server.proofs.grant.grant.Goals as goal

@@ -3,7 +3,7 @@ use Rattle.query_server.specs.Grant.{grant_steps}
 use Rattle.query_server.specs.Work.{to_grant}
 use Rattle.query_server.proofs.Ends.{failed_end, passed_end}
 use Rattle.query_server.proofs.Ran.{passed_disk}
-use Rattle.query_server.proofs.Stops.{step_no_disk}
+use Rattle.owner_books.proofs.Stops.{step_no_disk}
 use Rattle.query_server.proofs.grant.grant_budget.Goals as goal
 
 pub returns-in_err-opened-clause-end : goal.returns-in_err-opened-clause-end

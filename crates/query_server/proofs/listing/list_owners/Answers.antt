@@ -5,7 +5,7 @@ use Rattle.query_server.specs.Ends.{IsEndOf, listed_work}
 use Rattle.query_server.specs.declared.listing.Listing.{Listing}
 use Rattle.query_server.proofs.Ends.{failed_end, passed_end}
 use Rattle.query_server.proofs.Ran.{passed_disk}
-use Rattle.query_server.proofs.Stops.{step_no_disk}
+use Rattle.owner_books.proofs.Stops.{step_no_disk}
 use Rattle.query_server.proofs.listing.list_owners.Goals as goal
 
 pub returns-in_err-opened-clause-end : goal.returns-in_err-opened-clause-end

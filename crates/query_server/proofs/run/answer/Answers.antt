@@ -1,15 +1,14 @@
-use Rattle.std.proofs.Common.{◌≡◌, ◌∙◌, ◌<◌, ℕ, List, length, refl, sym, ap, subst, arith}
+use Rattle.std.proofs.Common.{◌≡◌, ◌∙◌, length, sym, ap, subst, arith}
 use Rattle.word_streams.specs.Draws.{draws_of}
-use Rattle.owner_desk.specs.Passes.{Pass}
 use Rattle.owner_house.specs.House.{Register, house_of}
 use Rattle.session_core.specs.Bundles.{Bundle, bundle_of}
 use Rattle.session_core.specs.Code.{AreFresh, ArePasses}
 use Rattle.catalog_loading.specs.Loaded.{owners_in}
 use Rattle.query_server.specs.Ends.{IsScriptEnd}
-use Rattle.query_server.proofs.Bundled.{AreWholeIn, many_known}
+use Rattle.owner_books.proofs.Bundled.{AreWholeIn, many_known}
 use Rattle.query_server.proofs.Contents.{any_left}
 use Rattle.query_server.proofs.Ends.{took_passed}
-use Rattle.query_server.proofs.Passes.{back_counted}
+use Rattle.owner_books.proofs.Passes.{back_counted}
 use Rattle.query_server.proofs.Ran.{answered_in, answered_no_disk, few_owners, open_passed, many_opened, opened_fresh, run_over}
 use Rattle.query_server.proofs.run.answer.Goals as goal
 

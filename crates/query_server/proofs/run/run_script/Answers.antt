@@ -3,7 +3,7 @@ use Rattle.query_server.specs.Work.{to_answer}
 use Rattle.query_server.specs.Run.{run_steps}
 use Rattle.query_server.proofs.Ends.{took_passed, done_end, passed_end}
 use Rattle.query_server.proofs.Ran.{passed_disk}
-use Rattle.query_server.proofs.Stops.{step_no_disk}
+use Rattle.owner_books.proofs.Stops.{step_no_disk}
 use Rattle.query_server.proofs.run.run_script.Goals as goal
 
 pub returns-in_err-opened-clause-end : goal.returns-in_err-opened-clause-end

@@ -6,7 +6,7 @@ use Rattle.query_server.proofs.Doors.{doors_stay}
 use Rattle.query_server.proofs.Ends.{failed_end, passed_end}
 use Rattle.query_server.proofs.Ran.{passed_disk}
 use Rattle.query_server.proofs.Served.{on_stays, on_work, passed_undone, unserved_work}
-use Rattle.query_server.proofs.Stops.{step_no_disk}
+use Rattle.owner_books.proofs.Stops.{step_no_disk}
 use Rattle.query_server.proofs.serve.serve_doors.Goals as goal
 
 pub returns-in_err-opened-clause-end : goal.returns-in_err-opened-clause-end

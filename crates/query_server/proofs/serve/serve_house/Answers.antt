@@ -1,4 +1,4 @@
-use Rattle.std.proofs.Common.{◌≡◌, ◌∙◌, ◌<◌, ◌≤◌, ℕ, List, length, refl, sym, ap, subst, arith}
+use Rattle.std.proofs.Common.{◌≡◌, ◌∙◌, ◌≤◌, ℕ, List, length, sym, ap, subst, arith}
 use Rattle.std.specs.Prelude.{Err}
 use Rattle.std.proofs.lemmas.List.{length-map}
 use Rattle.word_streams.specs.Draws.{draws_of}
@@ -9,13 +9,13 @@ use Rattle.service_workers.specs.Services.{door_of}
 use Rattle.catalog_loading.specs.Loaded.{IsLoading, KeyedHouse, Loading, in_versions, keyed, owners_in}
 use Rattle.query_server.specs.Outside.{doors_in}
 use Rattle.query_server.specs.Service.{IsServiceEnd}
-use Rattle.query_server.proofs.Bundled.{AreWholeIn, many_known}
+use Rattle.owner_books.proofs.Bundled.{AreWholeIn, many_known}
 use Rattle.catalog_loading.specs.declared.stops.Stop.TheVariants.{Fault}
 use Rattle.query_server.proofs.Ends.{end_passed}
-use Rattle.query_server.proofs.Passes.{back_counted}
+use Rattle.owner_books.proofs.Passes.{back_counted}
 use Rattle.query_server.proofs.Ran.{few_owners, many_opened, opened_fresh, passed_disk}
 use Rattle.query_server.proofs.Served.{served_in, served_no_disk, served_rose, ends_over, on_over, unopened_ends, unopened_faultless, unopened_on}
-use Rattle.query_server.proofs.Stops.{err_same}
+use Rattle.owner_books.proofs.Stops.{err_same}
 use Rattle.query_server.proofs.serve.serve_house.Goals as goal
 
 -- the house that was opened, by what it is

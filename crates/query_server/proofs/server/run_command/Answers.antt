@@ -1,4 +1,4 @@
-use Rattle.std.proofs.Common.{◌∙◌, ℕ, [], Some, refl, ap, subst, map, string_bytes, arith}
+use Rattle.std.proofs.Common.{◌∙◌, [], Some, refl, ap, map, string_bytes, arith}
 use Rattle.command_words.specs.Command.{audit, check, command_of, gap, gen, grant, init, run, serve}
 use Rattle.command_words.specs.Meant.{command_meant}
 use Rattle.command_words.proofs.Accepted.{in_range}

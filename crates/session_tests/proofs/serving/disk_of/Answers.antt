@@ -1,4 +1,4 @@
-use Rattle.query_server.proofs.Bundled.{locks_popped, whole_popped}
+use Rattle.owner_books.proofs.Bundled.{locks_popped, whole_popped}
 use Rattle.session_tests.proofs.serving.disk_of.Goals as goal
 
 -- The desk and the pass that are popped belong together.

@@ -1,0 +1,8 @@
+pub mod Bundled
+pub mod Disks
+pub mod Back
+pub mod Passes
+pub mod Unopened
+pub mod Stops
+pub mod Versions
+pub mod Made
