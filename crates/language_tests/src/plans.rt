@@ -147,7 +147,7 @@ const MANY: Piece = (
 );
 
 #[rattlefmt::skip]
-static WALKS: [(&[Piece], WalkVerdict); 23] = [
+static WALKS: [(&[Piece], WalkVerdict); 24] = [
     (&[("size people", 1)], WalkVerdict::Takes(1)),
     (&[("size people + sum[0,9] people", 1)], WalkVerdict::Takes(2)),
     (&[("if size people <= 3 then 0 else size people", 1)], WalkVerdict::Takes(2)),
@@ -169,8 +169,10 @@ static WALKS: [(&[Piece], WalkVerdict); 23] = [
     // nothing but walks within one another, 64 deep and 65 deep
     (&[WITHIN, ("let f = fn (b : bag num) => f (![inf] (f (![inf] b))) in ", 4), DEEP, (ONE_DEEPER, 15), ("sum[0,1] a", 1)], WalkVerdict::Takes(64)),
     (&[WITHIN, ("let f = fn (b : bag num) => f (![inf] (f (![inf] b))) in ", 4), DEEP, (ONE_DEEPER, 16), ("sum[0,1] a", 1)], WalkVerdict::NoMemory),
-    // eight maps, each of which sums the one before under 47 sums and under 48: evaluated within 400 levels, and deeper
-    (&[SUMS, (" + 0", 47), TWICE_AND_AGAIN, ("0 * sum[0,1] a", 1)], WalkVerdict::Takes(9)),
+    // eight maps, each of which sums the one before under 47 sums, walked below eight sums and below nine: evaluated 400 levels deep, and 401
+    (&[SUMS, (" + 0", 47), TWICE_AND_AGAIN, ("0 * sum[0,1] a", 1), (" + 0", 8)], WalkVerdict::Takes(9)),
+    (&[SUMS, (" + 0", 47), TWICE_AND_AGAIN, ("0 * sum[0,1] a", 1), (" + 0", 9)], WalkVerdict::NoMemory),
+    // and under 48 sums, where the last map's own body is
     (&[SUMS, (" + 0", 48), TWICE_AND_AGAIN, ("0 * sum[0,1] a", 1)], WalkVerdict::NoMemory),
     // each `let` doubles them: six of them take 64
     (&[WALKED, ("let a = map (fn (x : num) => x + sum[0,1] a) a in ", 5), ("size a", 1)], WalkVerdict::Takes(64)),
