@@ -1,94 +1,108 @@
 #!/usr/bin/env python3
 """Is a wake ever missed? All interleavings of a few callers of the owners' lock, in a model of it.
 
-usage: bench/lock_states.py [CALLERS TURNS]    (all of the sizes below, unless said: half a minute)
+usage: bench/lock_states.py [CALLERS TURNS]    (all of the sizes below, unless said: some minutes)
 The model has the lock's word, the kernel's sleep and each caller's steps as crates/owner_lock/src/owned.rt has them: between any two of its
-single steps any other caller may go on. A caller that finds the turn taken tries again or goes to sleep, at any time; some runs have sleeps that
-end for no reason. It ends with status 1 where a state is met in which all callers that are left sleep until a wake, where two have the turn, or
-where the last word counts a sleeper; and where one of the mistakes that are planted in copies of it isn't found.
+single steps any other caller may go on. A caller that finds the turn taken tries again or goes to wait, at any time, and a nap ends at any time; some runs have
+sleeps that end for no reason. It ends with status 1 where a state is met in which all callers that are left sleep until they are called, where two have the turn, or
+where the last word says that somebody waits; and where one of the mistakes that are planted in copies of it isn't found.
 """
 import sys
 
-TAKEN, CALLED, SLEEPER = 1, 4, 8
+TAKEN, CALLED, AWAKE, SLEEPER = 1, 4, 8, 16
+FRESH, ASLEEP, WATCHER = "fresh", "sleeper", "watcher"
 SIZES = ((2, 3, 2), (3, 2, 2), (3, 3, 0), (4, 1, 1), (4, 2, 0))
-PLANTS = ("no wake", "no look at the word before a sleep", "no end of a sleep under a wake", "a caller that stays counted", "a wake that looks at no count")
+PLANTS = (
+    "no wake",
+    "no look at the word before a sleep",
+    "a caller that stays counted",
+    "a wake that looks at no count",
+    "a sleep although one is called",
+    "one that takes the turn and stays awake",
+    "a sleeper that takes the turn and leaves another called",
+)
 
 
 def is_taken(word):
     return word % 4 == TAKEN
 
 
-def taken_word(word, slept, plant):
-    if slept and plant != "a caller that stays counted":
-        return max(word // 8 - 1, 0) * 8 + TAKEN
-    return word // 4 * 4 + TAKEN
-
-
-def asleep_word(word, slept):
-    return word // 8 * 8 + word % 4 if slept else word + SLEEPER
+def is_called(word):
+    return word % AWAKE >= CALLED
 
 
 def is_owed(word):
-    return word >= SLEEPER and word % 8 < CALLED
+    return word >= SLEEPER and word % SLEEPER < CALLED
 
 
-def is_called(word):
-    return word % 8 >= CALLED
+def taken_word(word, waiter, plant):
+    others = max(word // SLEEPER - (plant != "a caller that stays counted"), 0) * SLEEPER
+    if waiter == FRESH:
+        return word // 4 * 4 + TAKEN
+    if waiter == ASLEEP and plant == "a sleeper that takes the turn and leaves another called":
+        return others + word % SLEEPER // 4 * 4 + TAKEN
+    if waiter == ASLEEP or plant == "one that takes the turn and stays awake":
+        return others + word % SLEEPER // AWAKE * AWAKE + TAKEN
+    return others + TAKEN
+
+
+def waiting_word(word, waiter, plant):
+    counted = word + SLEEPER if waiter == FRESH else word
+    return counted + AWAKE - CALLED if is_called(word) and plant != "a sleep although one is called" else counted
 
 
 class Caller(tuple):
-    """Where it is, whether it has slept in this turn's wait, the word that it read or wrote last, and the turns that are left."""
+    """Where it is, how it waits, the word that it read or wrote last, and the turns that are left."""
 
-    def __new__(cls, at, slept, word, left):
-        return super().__new__(cls, (at, slept, word, left))
+    def __new__(cls, at, waiter, word, left):
+        return super().__new__(cls, (at, waiter, word, left))
 
 
 def next_steps(state, plant):
     """The states that one step of one caller leads to."""
     word, spurious, callers = state
-    for place, (at, slept, seen, left) in enumerate(callers):
+    for place, (at, waiter, seen, left) in enumerate(callers):
 
-        def goes(word, at, slept, seen, left, spurious=spurious):
-            return word, spurious, callers[:place] + (Caller(at, slept, seen, left),) + callers[place + 1 :]
+        def goes(word, at, waiter, seen, left, spurious=spurious):
+            return word, spurious, callers[:place] + (Caller(at, waiter, seen, left),) + callers[place + 1 :]
 
-        over = ("try" if left > 1 else "done", False, 0, left - 1)
+        over = ("try" if left > 1 else "done", FRESH, 0, left - 1)
         if at == "try":
-            yield goes(word, *(("waits", slept, 0, left) if is_taken(word) else ("takes", slept, word, left)))
-        elif at == "waits":
-            yield goes(word, "try", slept, 0, left)
-            yield goes(word, "goes to sleep", slept, 0, left)
+            yield goes(word, *(("stays", waiter, 0, left) if is_taken(word) else ("takes", waiter, word, left)))
+        elif at == "stays":
+            yield goes(word, "try", waiter, 0, left)
+            if waiter != WATCHER:
+                yield goes(word, "goes to wait", waiter, 0, left)
         elif at == "takes":
             if word == seen:
-                yield goes(taken_word(word, slept, plant), "has the turn", False, 0, left)
+                yield goes(taken_word(word, waiter, plant), "has the turn", FRESH, 0, left)
             else:
-                yield goes(word, "waits", slept, 0, left)
-        elif at == "goes to sleep":
-            yield goes(word, *(("is counted", slept, word, left) if is_taken(word) else ("try", slept, 0, left)))
+                yield goes(word, "stays", waiter, 0, left)
+        elif at == "goes to wait":
+            yield goes(word, *(("is counted", waiter, word, left) if is_taken(word) else ("try", waiter, 0, left)))
         elif at == "is counted":
-            if word == seen:
-                asleep = asleep_word(word, slept)
-                yield goes(asleep, "parks", True, asleep, left)
+            if word != seen:
+                yield goes(word, "try", waiter, 0, left)
             else:
-                yield goes(word, "try", slept, 0, left)
+                waiting = waiting_word(word, waiter, plant)
+                comes = is_called(word) and plant != "a sleep although one is called"
+                yield goes(waiting, *(("try", WATCHER, 0, left) if comes else ("parks", ASLEEP, waiting, left)))
         elif at == "parks":
-            sleep = "naps" if is_called(seen) and plant != "no end of a sleep under a wake" else "sleeps"
             stays = word == seen or plant == "no look at the word before a sleep"
-            yield goes(word, sleep if stays else "try", True, 0, left)
-        elif at == "naps":
-            yield goes(word, "try", True, 0, left)
+            yield goes(word, "sleeps" if stays else "try", ASLEEP, 0, left)
         elif at == "sleeps" and spurious:
-            yield goes(word, "try", True, 0, left, spurious - 1)
+            yield goes(word, "try", ASLEEP, 0, left, spurious - 1)
         elif at == "has the turn":
             freed = word - TAKEN
-            owed = is_owed(freed) or plant == "a wake that looks at no count" and not is_called(freed)
-            yield goes(freed, *(("says that it wakes", False, freed, left) if owed else over))
-        elif at == "says that it wakes":
-            yield goes(word + CALLED, "wakes", False, 0, left) if word == seen else goes(word, *over)
+            owed = is_owed(freed) or plant == "a wake that looks at no count" and freed % SLEEPER < CALLED
+            yield goes(freed, *(("says that it calls", FRESH, freed, left) if owed else over))
+        elif at == "says that it calls":
+            yield goes(word + CALLED, "wakes", FRESH, 0, left) if word == seen else goes(word, *over)
         elif at == "wakes":
             _, _, others = goes(word, *over)
-            sleepers = [other for other, caller in enumerate(others) if caller[0] in ("sleeps", "naps")] if plant != "no wake" else []
+            sleepers = [other for other, caller in enumerate(others) if caller[0] == "sleeps"] if plant != "no wake" else []
             for other in sleepers:
-                woken = Caller("try", True, 0, others[other][3])
+                woken = Caller("try", ASLEEP, 0, others[other][3])
                 yield word, spurious, others[:other] + (woken,) + others[other + 1 :]
             if not sleepers:
                 yield word, spurious, others
@@ -106,7 +120,7 @@ def fault_of(state):
 
 def searched(count, turns, spurious, plant=None):
     """How many states there are, and the first that is wrong, if there is one."""
-    begin = (0, spurious, (Caller("try", False, 0, turns),) * count)
+    begin = (0, spurious, (Caller("try", FRESH, 0, turns),) * count)
     seen, left = {begin}, [begin]
     while left:
         state = left.pop()

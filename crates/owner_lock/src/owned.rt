@@ -23,19 +23,35 @@ use std::sync::Wait;
 use std::time::Duration;
 
 // How often a caller that waits tries before it sleeps.
-const TRIES: u32 = 100;
+const TRIES: u32 = 400;
 
-// How long a caller sleeps, in milliseconds, where a wake was on its way to another.
-const LONGEST_NAP: u64 = 10;
+// How long the one that is awake naps between two tries, in microseconds: at first, and at most.
+const FIRST_NAP: u64 = 100;
+
+const LONGEST_NAP: u64 = 400;
 
 // The low two bits of word 1 while a seat has the turn.
 const TAKEN: u64 = 1;
 
-// The bit of word 1 that says that one who slept was woken, and is on its way.
+// The bit of word 1 that says that one who slept is called, and hasn't come.
 const CALLED: u64 = 4;
 
-// Word 1 counts by eights those who sleep, from before they sleep until they take the turn.
-const SLEEPER: u64 = 8;
+// The bit that says that one of those who wait is awake.
+const AWAKE: u64 = 8;
+
+// Word 1 counts by sixteens those who wait, from before they sleep until they take the turn.
+const SLEEPER: u64 = 16;
+
+// How a caller waits.
+#[derive(Clone, Copy, PartialEq, Eq)]
+enum Waiter {
+    // It tries, and isn't counted.
+    Fresh,
+    // It is counted, and sleeps until it is called.
+    Sleeper,
+    // It is counted, and the one that is awake: it naps between its tries.
+    Watcher,
+}
 
 // The low two bits of word 1 while no seat has the turn.
 fn free_word(shut: bool) -> u64
@@ -58,38 +74,53 @@ fn is_taken(word: u64) -> bool
     word % 4 == TAKEN
 }
 
-// Some sleep, and none of them is on its way.
+// Some sleep, and none of them is called or awake.
 fn is_owed(word: u64) -> bool
-    ensures { result ≡ true → word % 8 < 4 }
+    ensures { result ≡ true → word % 16 < 4 }
 {
-    word >= SLEEPER && word % 8 < CALLED
+    word >= SLEEPER && word % SLEEPER < CALLED
 }
 
-// Word 1 for a seat that takes the turn. One that has slept isn't counted any more, and has come.
-fn taken_word(word: u64, slept: bool) -> u64
+// One who slept is called, and hasn't come.
+fn is_called(word: u64) -> bool {
+    word % AWAKE >= CALLED
+}
+
+// Word 1 for a seat that takes the turn. One that was counted isn't any more, and has come; with the one that was awake nobody is.
+fn taken_word(word: u64, waiter: Waiter) -> u64
     ensures { result % 4 ≡ 1 }
 {
-    if slept {
-        (word / 8).saturating_sub(1) * 8 + TAKEN
-    } else {
-        word / 4 * 4 + TAKEN
+    let others = (word / SLEEPER).saturating_sub(1) * SLEEPER;
+    match waiter {
+        Waiter::Fresh => word / 4 * 4 + TAKEN,
+        Waiter::Sleeper => others + word % SLEEPER / AWAKE * AWAKE + TAKEN,
+        Waiter::Watcher => others + TAKEN,
     }
 }
 
-// Word 1 for a seat that is to sleep. One that has slept is counted already, and has come.
-fn asleep_word(word: u64, slept: bool) -> u64
+// Word 1 for a seat that is to wait. Where one is called it has come: it is the one that is awake.
+fn waiting_word(word: u64, waiter: Waiter) -> u64
     ensures { result % 4 ≡ word % 4 }
 {
-    if slept {
-        word / 8 * 8 + word % 4
-    } else {
+    let counted = if waiter == Waiter::Fresh {
         word.wrapping_add(SLEEPER)
+    } else {
+        word
+    };
+    if is_called(word) {
+        counted.wrapping_add(AWAKE - CALLED)
+    } else {
+        counted
     }
 }
 
-// One who slept was woken, and is on its way.
-fn is_called(word: u64) -> bool {
-    word % 8 >= CALLED
+// How long the one that is awake naps after a nap of so long.
+fn longer(nap: u64) -> u64 {
+    if nap < LONGEST_NAP {
+        nap.saturating_mul(2)
+    } else {
+        nap
+    }
 }
 
 // The kernel compares 32 bits of a word, which are all that count fewer than 2^29 threads.
@@ -176,24 +207,27 @@ impl<T: StandsFor> Owned<T> {
         ensures took { Took T.StandsFor seat.old.me.0 seat.new.me }
     {
         let mut tries = 0u32;
-        let mut slept = false;
+        let mut nap = FIRST_NAP;
+        let mut waiter = Waiter::Fresh;
         for _ in rt.forever() {
-            if self.try_turn(seat, slept) {
+            if self.try_turn(seat, waiter) {
                 return;
             }
-            if tries < TRIES {
+            if waiter == Waiter::Watcher {
+                self.nap(rt, nap);
+                nap = longer(nap);
+            } else if tries < TRIES {
                 tries += 1;
                 hint::spin_loop();
-            } else if self.sleep(rt, seat, slept) {
-                slept = true;
-                tries = 0;
+            } else {
+                waiter = self.wait(rt, seat, waiter);
             }
         }
         unreachable!()
     }
 
     // Takes the turn, if nobody has it.
-    fn try_turn(&self, seat: &mut Seat<T, View<T::Entry, T::Fixed>>, slept: bool) -> bool
+    fn try_turn(&self, seat: &mut Seat<T, View<T::Entry, T::Fixed>>, waiter: Waiter) -> bool
         requires here { seat.old.table_id ≡ self.now.table.shared.table_id }
         requires rests { Rests seat.old.me.0 × (seat.old.me.1 ≡ []) }
         ensures here { (seat.new.table_id ≡ seat.old.table_id) × (seat.new.id ≡ seat.old.id) }
@@ -204,52 +238,52 @@ impl<T: StandsFor> Owned<T> {
         if is_taken(word) {
             return false;
         }
-        let taken = taken_word(word, slept);
+        let taken = taken_word(word, waiter);
         self.table
             .shared
             .compare_exchange::<Turn<T>>(seat, 1, word, taken)
             == word
     }
 
-    // Goes to sleep, if another still has the turn, and says whether it did. A seat is counted before, in the word that says that another has
-    // the turn, and the kernel puts to sleep only where the word is still the same: so the end of that turn sees it.
-    fn sleep<W: Wait>(
+    // Waits, if another still has the turn, and says how: as the one that is awake where one was called, or else asleep until it is called. A
+    // seat is counted before, in the word that says that another has the turn, and the kernel puts to sleep only where the word is still the
+    // same: so nobody is called then, and the end of that turn sees it.
+    fn wait<W: Wait>(
         &self,
         rt: &W,
         seat: &mut Seat<T, View<T::Entry, T::Fixed>>,
-        slept: bool,
-    ) -> bool
+        waiter: Waiter,
+    ) -> Waiter
         requires here { seat.old.table_id ≡ self.now.table.shared.table_id }
         ensures here { (seat.new.table_id ≡ seat.old.table_id) × (seat.new.id ≡ seat.old.id) }
         ensures same { seat.new.me ≡ seat.old.me }
     {
         let word = self.table.shared.peek(1);
         if !is_taken(word) {
-            return false;
+            return waiter;
         }
-        let asleep = asleep_word(word, slept);
+        let waiting = waiting_word(word, waiter);
         let found = self
             .table
             .shared
-            .compare_exchange::<Warn<T>>(seat, 1, word, asleep);
+            .compare_exchange::<Warn<T>>(seat, 1, word, waiting);
         if found != word {
-            return false;
+            return waiter;
         }
-        self.park(rt, asleep);
-        true
+        if is_called(word) {
+            return Waiter::Watcher;
+        }
+        self.table.shared.park(rt, 1, low_half(waiting));
+        Waiter::Sleeper
     }
 
-    // Sleeps while word 1 is this. Where a wake is on its way it may have been sent to this very seat, before it sleeps, and then nobody else is
-    // on the way: so that sleep ends by itself.
-    fn park<W: Wait>(&self, rt: &W, word: u64) {
-        if is_called(word) {
-            let longest = Duration::from_millis(LONGEST_NAP);
-            self.table
-                .shared
-                .park_timeout(rt, 1, low_half(word), longest);
-        } else {
-            self.table.shared.park(rt, 1, low_half(word));
-        }
+    // Naps for so many microseconds, or less where an entry is counted just then.
+    fn nap<W: Wait>(&self, rt: &W, nap: u64) {
+        let count = self.table.shared.peek(0);
+        let longest = Duration::from_micros(nap);
+        self.table
+            .shared
+            .park_timeout(rt, 0, low_half(count), longest);
     }
 
     // Counts what was added to the state in the seat's slot, and ends the turn.
@@ -271,7 +305,7 @@ impl<T: StandsFor> Owned<T> {
         self.wake(seat, word.wrapping_add(added));
     }
 
-    // Wakes one of those who sleep, where the turn has ended and word 1 was this. Not where one is on its way, nor where another seat has
+    // Calls one of those who sleep, where the turn has ended and word 1 was this. Not where one is called or awake, nor where another seat has
     // taken the turn since: the end of its turn looks again.
     fn wake(&self, seat: &mut Seat<T, View<T::Entry, T::Fixed>>, word: u64)
         requires here { seat.old.table_id ≡ self.now.table.shared.table_id }
