@@ -40,9 +40,9 @@ made asks tables some few held = record { catalog = lawful asks some few; each_h
     each (suc o) owner holding here there = absurd (omega (arith, slice_get_within (owner_for asks ∷ []) (suc o) owner here))
 
 module _ (catalog : Catalog) (tables : Dataset) (held : Holding) (holdings : List Holding) where
-  pub registered : (asks : ℕ) → 1 ≤ asks → asks ≤ most_asks → catalog ≡ catalog_for asks → held ≡ first_holding catalog tables → holdings ≡ held ∷ [] → IsHolding held
+  pub housed : (asks : ℕ) → 1 ≤ asks → asks ≤ most_asks → catalog ≡ catalog_for asks → held ≡ first_holding catalog tables → holdings ≡ held ∷ [] → IsHolding held
       → IsRegister (register_with catalog holdings)
-  registered asks some few catalog_is held_is holdings_are holding =
+  housed asks some few catalog_is held_is holdings_are holding =
       let same : held ≡ first_holding (catalog_for asks) tables = held_is ∙ ap (λ (c : Catalog). first_holding c tables) catalog_is in
       let whole : IsRegister (register_with (catalog_for asks) (held ∷ []))
       = subst (λ (h : Holding). IsRegister (register_with (catalog_for asks) (h ∷ []))) (sym same) (made asks tables some few (subst IsHolding same holding)) in
@@ -55,9 +55,9 @@ module _ (catalog : Catalog) (tables : Dataset) (held : Holding) (holdings : Lis
       let here : register ≡ register_with (catalog_for asks) (held ∷ []) = is ∙ (λ i. register_with (catalog_is i) (holdings_are i)) in
       subst (λ (r : Register). 0 < length (house_of r).owners) (sym here) some
 
-  pub register_is : (seed asks : ℕ) (old new : Register) → catalog ≡ catalog_for asks → tables ≡ rows_of_seed seed ∷ [] → held ≡ first_holding catalog tables → holdings ≡ held ∷ []
+  pub reads : (seed asks : ℕ) (old new : Register) → catalog ≡ catalog_for asks → tables ≡ rows_of_seed seed ∷ [] → held ≡ first_holding catalog tables → holdings ≡ held ∷ []
       → old ≡ register_with catalog holdings → new ≡ record old { versions = slice_set old.versions 0 journal_version } → new ≡ register_for seed asks
-  register_is seed asks old new catalog_is tables_are held_is holdings_are made_of is =
+  reads seed asks old new catalog_is tables_are held_is holdings_are made_of is =
       let whole : register_with catalog holdings ≡ register_with (catalog_for asks) (first_holding (catalog_for asks) (rows_of_seed seed ∷ []) ∷ [])
       = ap (register_with catalog) (holdings_are ∙ ap (λ (h : Holding). h ∷ []) (held_is ∙ ap (first_holding catalog) tables_are))
       ∙ ap (λ (c : Catalog). register_with c (first_holding c (rows_of_seed seed ∷ []) ∷ [])) catalog_is in

@@ -58,7 +58,7 @@ fn catalog(alloc: Global, asks: u32) -> Result<Catalog, AllocError>
 }
 
 /// The house of a seed and of so many asks.
-#[tactic(auto, using(crate::proofs::Registers::typed, crate::proofs::Registers::registered, crate::proofs::Registers::one_owner, crate::proofs::Registers::register_is))]
+#[tactic(auto, using(crate::proofs::Registers::typed, crate::proofs::Registers::housed, crate::proofs::Registers::one_owner, crate::proofs::Registers::reads))]
 pub fn generated_house(alloc: Global, seed: u32, asks: u32) -> Result<House, AllocError>
     requires asks { (1 ≤ asks) × (asks ≤ most_asks) }
     ensures { IfOk result (λ house. house ≡ register_for seed asks) }

@@ -1,5 +1,5 @@
 -- What the row's files are read as.
-use Rattle.std.specs.Prelude.{◌≡◌, ℕ, pos, List, [], ◌∷◌, codes, replicate, Some}
+use Rattle.std.specs.Prelude.{◌≡◌, ℕ, pos, List, [], ◌∷◌, ◌++◌, codes, replicate, Some}
 use Rattle.budget_journal.specs.Journals.{Stands}
 use Rattle.fz_ast.specs.declared.row.Column.TheVariants.{Num}
 use Rattle.metric_values.specs.Values.{Flat, NumF}
@@ -21,7 +21,8 @@ census = record {
   capacity = 100;
   tables = people ∷ [];
   partitions = [];
-  text = codes "{\"budget\":10000000,\"capacity\":100,\"name\":\"census\",\"partitions\":[],\"tables\":[{\"columns\":[{\"name\":\"age\",\"type\":\"num\"}],\"file\":\"people.csv\",\"name\":\"people\"}]}";
+  text = codes "{\"budget\":10000000,\"capacity\":100,\"name\":\"census\",\"partitions\":[],\"tables\":[{\"columns\":[{\"name\":\"age\",\"type\":\"num\"}],"
+      ++ codes "\"file\":\"people.csv\",\"name\":\"people\"}]}";
 }
 
 abbrev pub catalog : Catalog
