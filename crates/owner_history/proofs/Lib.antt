@@ -12,3 +12,4 @@ pub mod Sound
 pub mod Examples
 mod ExamplesOfRecords
 mod ExamplesOfParts
+pub mod AnswerPath

@@ -2,3 +2,6 @@
 #![tactic(auto)]
 
 pub mod laws;
+
+// The crates above meet demands by these.
+pub use answer_path::{Demand, Desk, LastProgram, Pass, Query, meet};

@@ -9,11 +9,11 @@ ghost use Rattle.session_core.specs.Worked.{HasWorked, HaveAddedNone};
 
 use crate::crew::{bring_in, hire_all, work};
 use crate::order::put_in_order;
-use answer_path::Desk;
 use fz_outside::words::Streams;
 use outside_disks::disk::Disk;
 use outside_links::gate::Gate;
 use owner_house::house::House;
+use session_core::Desk;
 use session_core::blocks::pass_block;
 use session_core::passes::Passes;
 use std::alloc::{AllocError, Global};

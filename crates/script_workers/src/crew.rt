@@ -7,11 +7,11 @@ ghost use Rattle.script_workers.specs.Crews.{HasDone, HasRoomFor, HasTakenAll, I
 
 use crate::needs::needs_of_all;
 use crate::worker::{Worker, hire, serve};
-use answer_path::Desk;
 use fz_outside::words::Streams;
 use outside_disks::disk::Disk;
 use outside_links::gate::Gate;
 use owner_house::house::House;
+use session_core::Desk;
 use session_core::passes::{Passes, Token};
 use session_core::server::Server;
 use std::alloc::{AllocError, Global};

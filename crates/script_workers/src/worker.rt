@@ -13,11 +13,11 @@ ghost use Rattle.script_workers.specs.Crews.{AreNeeds, HasDone, HasRoomFor, IsHi
 
 use crate::needs::Needs;
 use crate::texts::Texts;
-use answer_path::Desk;
 use fz_outside::words::Streams;
 use outside_disks::disk::Disk;
 use outside_links::gate::Gate;
 use owner_desk::Knows;
+use session_core::Desk;
 use session_core::blocks::pass_block;
 use session_core::passes::{Bundle, Passes, Token};
 use session_core::script::answer_block;

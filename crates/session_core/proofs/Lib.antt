@@ -19,3 +19,6 @@ pub mod ExamplesOfOwners
 mod ExamplesOfFaults
 mod ExamplesOfParts
 mod ExamplesOfNames
+pub mod OwnerHistory
+-- passed on to the crates above
+pub use Rattle.owner_history.proofs.AnswerPath

@@ -12,9 +12,9 @@ use Rattle.wire_lines.specs.Reply.{greeted, ended, refused}
 use Rattle.wire_lines.specs.Refusal.{by_line}
 use Rattle.part_views.specs.Partitions.{HasPart}
 use Rattle.owner_house.specs.Owner.{Owner}
-use Rattle.answer_path.specs.Query.{Query}
-use Rattle.answer_path.specs.Demand.{Demand, asks, recalls, balances}
-use Rattle.answer_path.specs.Code.{IsQueryOf}
+use Rattle.owner_history.specs.AnswerPath.Query.{Query}
+use Rattle.owner_history.specs.AnswerPath.Demand.{Demand, asks, recalls, balances}
+use Rattle.owner_history.specs.AnswerPath.Code.{IsQueryOf}
 use Rattle.owner_house.specs.House.{House, IsOwnerIn, analyst_named, owner_named}
 use Rattle.session_core.specs.Meant.{Meant, Subject, says, wants, whole_named, part_named, meant_by, meant_by_request, meant_by_hello, meant_by_ask, meant_by_recall, meant_by_left}
 use Rattle.session_core.specs.Turns.{is_bye, is_bye_request}

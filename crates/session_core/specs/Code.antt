@@ -14,8 +14,8 @@ use Rattle.wire_lines.specs.declared.refusal.LineRefusal.{LineRefusal}
 use Rattle.part_views.specs.Partitions.{HasPart}
 use Rattle.owner_house.specs.Owner.{Owner}
 use Rattle.owner_desk.specs.Passes.{Pass, Told, first_of_run, records_told, closing}
-use Rattle.answer_path.specs.Shut.{shut_of}
-use Rattle.answer_path.specs.Code.{AsksTooManyWalks, demand_of, IsDemandOf, HasPartFor}
+use Rattle.owner_history.specs.AnswerPath.Shut.{shut_of}
+use Rattle.owner_history.specs.AnswerPath.Code.{AsksTooManyWalks, demand_of, IsDemandOf, HasPartFor}
 use Rattle.owner_house.specs.House.{House, owner_at, no_entry}
 use Rattle.session_core.specs.Meant.{Meant, Subject, says, wants, meant_by, next_who}
 use Rattle.session_core.specs.Turns.{Turn, session_turns, blocks_of, is_bye}

@@ -6,7 +6,7 @@ use Rattle.budget_ledger.specs.declared.failure.Failure.{Failure}
 use Rattle.owner_house.specs.Owner.{Owner}
 use Rattle.owner_house.specs.House.{House}
 use Rattle.owner_desk.specs.Passes.{Told, told_behind, closing}
-use Rattle.answer_path.specs.Shut.{Shut, unshut}
+use Rattle.owner_history.specs.AnswerPath.Shut.{Shut, unshut}
 use Rattle.session_core.specs.Turns.{turns_of}
 use Rattle.session_core.specs.Exchanges.{Exchange, ArePlain, told_of}
 use Rattle.session_core.specs.Served.{AnswersOn, ShutsOn}

@@ -10,3 +10,6 @@ pub mod Code
 pub mod Bundles
 pub mod Blocks
 pub mod Worked
+pub mod OwnerHistory
+-- passed on to the crates above
+pub use Rattle.owner_history.specs.AnswerPath

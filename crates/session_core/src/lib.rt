@@ -7,3 +7,6 @@ pub mod line;
 pub mod passes;
 pub mod script;
 pub mod server;
+
+// The crates above hold an owner's desk and the last program by these, too.
+pub use owner_history::{Desk, LastProgram};

@@ -6,7 +6,7 @@ ghost use Rattle.owner_house.specs.House.{house_of, analyst_named, owner_named};
 ghost use Rattle.session_core.specs.Meant.{meant_by, meant_by_ask, meant_by_hello, meant_by_left, meant_by_recall, part_named, whole_named};
 ghost use Rattle.session_core.specs.Code.{found_in, meaning_of, IsAnalyst, IsMeaningIn, IsShort, IsSubjectIn};
 
-use answer_path::{Demand, Query};
+use owner_history::{Demand, Query};
 use owner_house::house::House;
 use partition_charge::view::View;
 use wire_lines::{LineRefusal, Name, Refusal, Reply, Request, read_request};

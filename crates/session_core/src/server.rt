@@ -1,7 +1,7 @@
 //! By what lines are answered.
 
-use answer_path::Desk;
 use outside_disks::disk::Disk;
+use owner_history::Desk;
 use owner_house::house::House;
 use std::alloc::Global;
 

@@ -6,9 +6,9 @@ use Rattle.budget_ledger.specs.declared.failure.Failure.{Failure}
 use Rattle.owner_house.specs.Owner.{Owner}
 use Rattle.owner_house.specs.House.{House}
 use Rattle.owner_desk.specs.Passes.{closing}
-use Rattle.answer_path.specs.Demand.{Demand}
-use Rattle.answer_path.specs.Shut.{Shut, unshut, StaysShut}
-use Rattle.answer_path.specs.Laws.{OnePassCloses}
+use Rattle.session_core.specs.AnswerPath.Demand.{Demand}
+use Rattle.session_core.specs.AnswerPath.Shut.{Shut, unshut, StaysShut}
+use Rattle.session_core.specs.AnswerPath.Laws.{OnePassCloses}
 use Rattle.session_core.specs.Meant.{Meant, says, wants}
 use Rattle.session_core.specs.Turns.{meant_at}
 use Rattle.session_core.specs.Exchanges.{Exchange, TurnLeads}

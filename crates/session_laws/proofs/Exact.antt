@@ -6,7 +6,7 @@ use Rattle.std.proofs.lemmas.List.{length-drop}
 use Rattle.std.proofs.lemmas.List.FromFn.{length-enumerate_from}
 use Rattle.std.proofs.lemmas.List.Sums.{sum_by-cons}
 use Rattle.journal_records.specs.declared.records.Record.{Record}
-use Rattle.owner_history.proofs.Prefixes.{prefix_length}
+use Rattle.session_core.proofs.OwnerHistory.Prefixes.{prefix_length}
 use Rattle.owner_house.specs.House.{House}
 use Rattle.session_core.specs.Meant.{Meant, says, wants}
 use Rattle.session_core.specs.Turns.{meant_at}

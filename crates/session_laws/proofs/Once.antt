@@ -8,9 +8,9 @@ use Rattle.std.proofs.lemmas.List.{length-drop}
 use mathlib.Core.Logic.{inl, inr}
 use Rattle.journal_records.specs.declared.records.Record.{Record}
 use Rattle.owner_house.specs.Owner.{Owner}
-use Rattle.owner_history.proofs.Prefixes.{prefix_length}
+use Rattle.session_core.proofs.OwnerHistory.Prefixes.{prefix_length}
 use Rattle.owner_house.specs.House.{House}
-use Rattle.answer_path.specs.Demand.{Demand}
+use Rattle.session_core.specs.AnswerPath.Demand.{Demand}
 use Rattle.session_core.specs.Meant.{wants}
 use Rattle.session_core.specs.Turns.{meant_at}
 use Rattle.session_core.specs.Exchanges.{Exchange}

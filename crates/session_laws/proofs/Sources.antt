@@ -22,11 +22,11 @@ use Rattle.budget_core.specs.Ledger.{reservation_numbered, settlement_of, settle
 use Rattle.budget_core.proofs.Histories.{slice_get-append-lt}
 use Rattle.budget_core.proofs.Numbers.{outcome_past}
 use Rattle.owner_house.specs.Owner.{Owner}
-use Rattle.answer_path.specs.Query.{Query}
-use Rattle.owner_history.proofs.Grants.{verdict_grants}
-use Rattle.owner_history.proofs.Prefixes.{prefix_by, prefix_trans, slice_get_prefix}
+use Rattle.session_core.specs.AnswerPath.Query.{Query}
+use Rattle.session_core.proofs.OwnerHistory.Grants.{verdict_grants}
+use Rattle.session_core.proofs.OwnerHistory.Prefixes.{prefix_by, prefix_trans, slice_get_prefix}
 use Rattle.owner_house.specs.House.{House, IsOwnerIn}
-use Rattle.answer_path.specs.Demand.{Demand, asks}
+use Rattle.session_core.specs.AnswerPath.Demand.{Demand, asks}
 use Rattle.session_core.specs.Meant.{wants}
 use Rattle.session_core.specs.Turns.{Turn, meant_at}
 use Rattle.session_core.specs.Exchanges.{Exchange, is_of}
@@ -42,7 +42,7 @@ use Rattle.session_laws.proofs.Standing.{Reserves}
 use Rattle.session_laws.proofs.Once.{told_once, reserves_at}
 use Rattle.owner_desk.specs.Passes.{Told}
 use Rattle.owner_desk.specs.Answers.{Has}
-use Rattle.answer_path.specs.Answered.{granted_record}
+use Rattle.session_core.specs.AnswerPath.Answered.{granted_record}
 use Rattle.session_core.specs.Served.{Sources}
 use Rattle.session_core.specs.Gathered.{AreGathered}
 use Rattle.session_laws.specs.ToldOnce.{IsToldAt, AreToldOnce}

@@ -4,10 +4,10 @@ use Rattle.std.specs.Prelude.{if◌then◌else◌, sum_by}
 use mathlib.Core.Logic.{inl, inr}
 use Rattle.journal_records.specs.declared.records.Record.{Record}
 use Rattle.owner_house.specs.Owner.{Owner}
-use Rattle.answer_path.specs.Query.{Query}
-use Rattle.owner_history.proofs.Prefixes.{prefix_trans}
+use Rattle.session_core.specs.AnswerPath.Query.{Query}
+use Rattle.session_core.proofs.OwnerHistory.Prefixes.{prefix_trans}
 use Rattle.owner_house.specs.House.{House}
-use Rattle.answer_path.specs.Demand.{Demand, asks}
+use Rattle.session_core.specs.AnswerPath.Demand.{Demand, asks}
 use Rattle.session_core.specs.Meant.{Meant, says, wants}
 use Rattle.session_core.specs.Turns.{meant_at}
 use Rattle.session_core.specs.Exchanges.{Exchange, is_of}

@@ -6,8 +6,8 @@ use Rattle.budget_ledger.specs.declared.failure.Failure.{Failure}
 use Rattle.owner_house.specs.Owner.{Owner}
 use Rattle.owner_house.specs.House.{House}
 use Rattle.owner_desk.specs.Passes.{Pass, records_told}
-use Rattle.answer_path.specs.Shut.{Shut, shut_of}
-use Rattle.owner_history.proofs.Prefixes.{prefix_trans}
+use Rattle.session_core.specs.AnswerPath.Shut.{Shut, shut_of}
+use Rattle.session_core.proofs.OwnerHistory.Prefixes.{prefix_trans}
 use Rattle.session_core.specs.Exchanges.{Exchange, told_of}
 use Rattle.session_core.specs.Transcript.{Journals, first_new}
 use Rattle.session_core.specs.Served.{AnswersOn, ShutsOn}

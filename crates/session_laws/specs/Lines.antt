@@ -4,7 +4,7 @@ use Rattle.std.specs.List.{AllByRecursion}
 use Rattle.journal_records.specs.declared.records.Record.{Record}
 use Rattle.owner_house.specs.Owner.{Owner}
 use Rattle.owner_house.specs.House.{House}
-use Rattle.owner_history.specs.Sound.{IsBacked}
+use Rattle.session_core.specs.OwnerHistory.Sound.{IsBacked}
 use Rattle.session_core.specs.Turns.{Turn}
 use Rattle.session_core.specs.Exchanges.{Exchange}
 use Rattle.session_core.specs.Served.{Sources, AreAskedBy}

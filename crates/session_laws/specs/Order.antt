@@ -22,12 +22,12 @@ use Rattle.wire_lines.specs.declared.refusal.MoneyRefusal.{MoneyRefusal}
 use Rattle.wire_lines.specs.declared.refusal.MoneyRefusal.TheVariants.{OverBudget, JournalFull}
 use Rattle.owner_house.specs.Owner.{Owner, signature_of_view}
 use Rattle.owner_house.specs.House.{House}
-use Rattle.answer_path.specs.Judgement.{fault_refusal, shape_refusal}
-use Rattle.answer_path.specs.Program.{IsCharged}
-use Rattle.answer_path.specs.Query.{Query}
-use Rattle.answer_path.specs.Reading.{unlexed, stuck, nested, read, IsReading}
-use Rattle.answer_path.specs.Verdict.{Verdict, program_refused, money_refused, granted, ask_for, IsVerdict}
-use Rattle.answer_path.specs.Demand.{asks}
+use Rattle.session_core.specs.AnswerPath.Judgement.{fault_refusal, shape_refusal}
+use Rattle.session_core.specs.AnswerPath.Program.{IsCharged}
+use Rattle.session_core.specs.AnswerPath.Query.{Query}
+use Rattle.session_core.specs.AnswerPath.Reading.{unlexed, stuck, nested, read, IsReading}
+use Rattle.session_core.specs.AnswerPath.Verdict.{Verdict, program_refused, money_refused, granted, ask_for, IsVerdict}
+use Rattle.session_core.specs.AnswerPath.Demand.{asks}
 use Rattle.session_core.specs.Meant.{Subject, says, wants, whole_named, part_named, meant_by}
 
 -- what a line that asks says: what it looks at, as far as its names are known; at which epsilon; and its program

@@ -15,12 +15,12 @@ ghost use Rattle.session_serve.specs.Code.{Keeps, IsLineAnswered, GoesOnWith, Le
 ghost use Rattle.session_serve.specs.declared.serve.SessionEnd.TheVariants.{NoMemory};
 
 use crate::line::Line;
-use answer_path::LastProgram;
 use fz_outside::Failed;
 use fz_outside::words::Streams;
 use outside_disks::disk::Disk;
 use outside_links::gate::Gate;
 use outside_links::link::{Link, send};
+use session_core::LastProgram;
 use session_core::passes::Passes;
 use session_core::script::{Answer, answer_line};
 use session_core::server::Server;

@@ -5,7 +5,7 @@ use Rattle.wire_lines.specs.Reply.{replied}
 use Rattle.owner_catalog.specs.Entries.{PartitionEntry}
 use Rattle.owner_house.specs.House.{house_of, owner_at}
 use Rattle.owner_desk.specs.Shared.{Shared}
-use Rattle.answer_path.specs.Code.{demand_of, HasPartFor, IsDemandOf}
+use Rattle.owner_history.specs.AnswerPath.Code.{demand_of, HasPartFor, IsDemandOf}
 use Rattle.session_core.specs.Exchanges.{Exchange}
 use Rattle.session_core.specs.Bundles.{Bundle, bundle_of}
 use Rattle.session_core.specs.Code.{meaning_of, ArePasses, AreServed, WantsTooManyWalks}
