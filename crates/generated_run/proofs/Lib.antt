@@ -4,6 +4,8 @@ pub mod Counts
 pub mod Recalls
 mod Examples
 -- passed on to the crates above
+pub use Rattle.session_laws.proofs.AnswerPath
 pub use Rattle.session_laws.proofs.Causes
+pub use Rattle.session_laws.proofs.OwnerHistory
 pub use Rattle.session_laws.proofs.Scripts
 pub use Rattle.session_laws.proofs.Worked

@@ -15,3 +15,4 @@ pub use Rattle.answer_path.specs.Idle
 pub use Rattle.answer_path.specs.Closing
 pub use Rattle.answer_path.specs.Code
 pub use Rattle.answer_path.specs.Laws
+pub use Rattle.answer_path.specs.declared.program.Accepted as AcceptedProgram

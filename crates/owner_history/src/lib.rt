@@ -3,5 +3,7 @@
 
 pub mod laws;
 
-// The crates above meet demands by these.
-pub use answer_path::{Demand, Desk, LastProgram, Pass, Query, meet};
+// The crates above meet demands by these, and judge programs.
+pub use answer_path::{
+    Demand, Desk, Judged, LastProgram, Pass, Query, check_program, judge, meet, read_program,
+};

@@ -8,5 +8,5 @@ pub mod passes;
 pub mod script;
 pub mod server;
 
-// The crates above hold an owner's desk and the last program by these, too.
-pub use owner_history::{Desk, LastProgram};
+// The crates above hold an owner's desk and the last program by these, and judge programs.
+pub use owner_history::{Desk, Judged, LastProgram, check_program, judge, read_program};

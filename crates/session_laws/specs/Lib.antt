@@ -6,3 +6,7 @@ pub mod Crew
 pub mod Between
 pub mod Causes
 pub mod Order
+pub mod SessionCore
+-- passed on to the crates above
+pub use Rattle.session_core.specs.AnswerPath
+pub use Rattle.session_core.specs.OwnerHistory
