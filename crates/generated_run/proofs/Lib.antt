@@ -3,9 +3,11 @@ pub mod Settling
 pub mod Counts
 pub mod Recalls
 mod Examples
+pub mod SessionLaws
 -- passed on to the crates above
 pub use Rattle.session_laws.proofs.AnswerPath
 pub use Rattle.session_laws.proofs.Causes
 pub use Rattle.session_laws.proofs.OwnerHistory
 pub use Rattle.session_laws.proofs.Scripts
+pub use Rattle.session_laws.proofs.SessionCore
 pub use Rattle.session_laws.proofs.Worked

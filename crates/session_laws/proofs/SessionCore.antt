@@ -2,4 +2,6 @@
 
 pub use Rattle.session_core.proofs.Exchanges
 pub use Rattle.session_core.proofs.Turns
+pub use Rattle.session_core.proofs.Exactly
 pub use Rattle.session_core.proofs.Serving
+pub use Rattle.session_core.proofs.Examples
