@@ -3,8 +3,8 @@ pub mod Settling
 pub mod Counts
 pub mod Recalls
 mod Examples
-pub mod SessionLaws
 -- passed on to the crates above
+pub mod SessionLaws
 pub use Rattle.session_laws.proofs.AnswerPath
 pub use Rattle.session_laws.proofs.Causes
 pub use Rattle.session_laws.proofs.OwnerHistory

@@ -1,8 +1,8 @@
 pub mod Tally
 pub mod Settled
 pub mod Answered
-pub mod SessionLaws
 -- passed on to the crates above
+pub mod SessionLaws
 pub use Rattle.session_laws.specs.AnswerPath
 pub use Rattle.session_laws.specs.Causes
 pub use Rattle.session_laws.specs.OwnerHistory

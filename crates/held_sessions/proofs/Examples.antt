@@ -1,9 +1,9 @@
 -- Workers' sessions, worked out.
 use Rattle.std.proofs.Common.{◌≡◌, ℕ, ◌<◌, List, [], ◌∷◌, map, slice_get, Some, refl, sym, subst, arith}
 use Rattle.owner_lock.specs.Entries.{Ascends}
-use Rattle.owner_house.specs.Owner.{Owner}
-use Rattle.owner_house.specs.House.{House}
-use Rattle.owner_desk.specs.Passes.{Pass}
+use Rattle.session_laws.specs.OwnerHouse.Owner.{Owner}
+use Rattle.session_laws.specs.OwnerHouse.House.{House}
+use Rattle.session_laws.specs.OwnerDesk.Passes.{Pass}
 use Rattle.session_laws.proofs.OwnerHistory.Prefixes.{prefix_self}
 use Rattle.session_laws.specs.SessionCore.Gathered.{one_worker}
 use Rattle.session_laws.specs.SessionCore.Bundles.{handed_on}

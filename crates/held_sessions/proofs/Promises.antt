@@ -3,9 +3,9 @@ use Rattle.std.proofs.Common.{◌≡◌, ℕ, ◌+◌, ◌<◌, List, ◌++◌, 
 use mathlib.Core.List.{IsPrefix}
 use Rattle.journal_records.specs.declared.records.Record.{Record}
 use Rattle.budget_ledger.specs.declared.failure.Failure.{Failure}
-use Rattle.owner_desk.specs.Passes.{Pass}
-use Rattle.owner_house.specs.Owner.{Owner}
-use Rattle.owner_house.specs.House.{House, IsOwnerIn}
+use Rattle.session_laws.specs.OwnerDesk.Passes.{Pass}
+use Rattle.session_laws.specs.OwnerHouse.Owner.{Owner}
+use Rattle.session_laws.specs.OwnerHouse.House.{House, IsOwnerIn}
 use Rattle.session_laws.specs.OwnerHistory.Sound.{IsFound, MayBeFound, IsOwed}
 use Rattle.session_laws.proofs.OwnerHistory.Prefixes.{prefix_self}
 use Rattle.session_laws.specs.SessionCore.Turns.{Turn, meant_at}

@@ -5,9 +5,9 @@ use Rattle.std.proofs.lemmas.List.{map-append}
 use mathlib.Core.List.{IsPrefix}
 use Rattle.journal_records.specs.declared.records.Record.{Record}
 use Rattle.budget_ledger.specs.Account.{Account}
-use Rattle.owner_desk.specs.Passes.{Pass}
-use Rattle.owner_house.specs.Owner.{Owner}
-use Rattle.owner_house.specs.House.{House}
+use Rattle.session_laws.specs.OwnerDesk.Passes.{Pass}
+use Rattle.session_laws.specs.OwnerHouse.Owner.{Owner}
+use Rattle.session_laws.specs.OwnerHouse.House.{House}
 use Rattle.session_laws.proofs.OwnerHistory.Prefixes.{prefix_trans}
 use Rattle.session_laws.specs.SessionCore.Turns.{Turn, meant_at}
 use Rattle.session_laws.specs.SessionCore.Exchanges.{Exchange}

@@ -1,8 +1,8 @@
 -- Sessions that several workers held, each on passes of its own, which were joined to the first ones in the end.
 use Rattle.std.specs.Prelude.{◌≡◌, ℕ, ◌<◌, List, length, map, slice_get, Some}
-use Rattle.owner_desk.specs.Passes.{Pass}
-use Rattle.owner_house.specs.Owner.{Owner}
-use Rattle.owner_house.specs.House.{House}
+use Rattle.session_laws.specs.OwnerDesk.Passes.{Pass}
+use Rattle.session_laws.specs.OwnerHouse.Owner.{Owner}
+use Rattle.session_laws.specs.OwnerHouse.House.{House}
 use Rattle.session_laws.specs.SessionCore.Exchanges.{Exchange}
 use Rattle.session_laws.specs.SessionCore.Gathered.{part_of}
 use Rattle.session_laws.specs.SessionCore.Bundles.{handed_on}

@@ -4,9 +4,9 @@ ghost use Rattle.std.specs.Prelude.{◌≡◌, ℕ, ◌<◌, MatchBool, List, �
 ghost use mathlib.Core.List.{IsPrefix};
 ghost use Rattle.journal_records.specs.declared.records.Record.{Record};
 ghost use Rattle.budget_ledger.specs.declared.failure.Failure.{Failure};
-ghost use Rattle.owner_desk.specs.Passes.{Pass};
-ghost use Rattle.owner_house.specs.Owner.{Owner};
-ghost use Rattle.owner_house.specs.House.{House, IsOwnerIn};
+ghost use Rattle.session_laws.specs.OwnerDesk.Passes.{Pass};
+ghost use Rattle.session_laws.specs.OwnerHouse.Owner.{Owner};
+ghost use Rattle.session_laws.specs.OwnerHouse.House.{House, IsOwnerIn};
 ghost use Rattle.session_laws.specs.OwnerHistory.Sound.{IsFound, MayBeFound, IsOwed};
 ghost use Rattle.session_laws.specs.SessionCore.Turns.{Turn};
 ghost use Rattle.session_laws.specs.SessionCore.Exchanges.{Exchange};

@@ -5,5 +5,6 @@ pub mod laws;
 
 // The crates above meet demands by these, and judge programs.
 pub use answer_path::{
-    Demand, Desk, Judged, LastProgram, Pass, Query, check_program, judge, meet, read_program,
+    Demand, Desk, Guarded, Held, House, Judged, Knows, LastProgram, Noted, Pass, Query,
+    check_program, judge, meet, read_program,
 };

@@ -20,11 +20,11 @@ use Rattle.fz_ast.specs.Signature.{Signature}
 use Rattle.budget_ledger.specs.declared.failure.Failure.{Failure}
 use Rattle.wire_lines.specs.Reply.{Replied, refused}
 use Rattle.wire_lines.specs.Refusal.{by_program, by_money, no_memory}
-use Rattle.owner_catalog.specs.Entries.{PartitionEntry}
-use Rattle.part_views.specs.Holding.{Holding}
-use Rattle.part_views.specs.Views.{signature_in}
-use Rattle.owner_house.specs.Owner.{IsOwnerOf, Owner, signature_of_view, rows_of_view, HasData}
-use Rattle.owner_desk.specs.Passes.{Told, closing, records_told}
+use Rattle.owner_history.specs.OwnerCatalog.Entries.{PartitionEntry}
+use Rattle.owner_history.specs.PartViews.Holding.{Holding}
+use Rattle.owner_history.specs.PartViews.Views.{signature_in}
+use Rattle.owner_history.specs.OwnerHouse.Owner.{IsOwnerOf, Owner, signature_of_view, rows_of_view, HasData}
+use Rattle.owner_history.specs.OwnerDesk.Passes.{Told, closing, records_told}
 use Rattle.owner_history.specs.AnswerPath.Query.{Query}
 use Rattle.owner_history.specs.AnswerPath.Demand.{Demand, asks, recalls, balances}
 use Rattle.owner_history.specs.AnswerPath.Reading.{Reading, IsReading}

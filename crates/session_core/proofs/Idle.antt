@@ -4,9 +4,9 @@ use Rattle.std.specs.Prelude.{MatchBool, if◌then◌else◌}
 use mathlib.Core.Logic.{◌⊎◌, inl, inr}
 use Rattle.journal_records.specs.declared.records.Record.{Record}
 use Rattle.wire_lines.specs.Reply.{Replied}
-use Rattle.owner_house.specs.Owner.{Owner}
-use Rattle.owner_house.specs.House.{House}
-use Rattle.owner_desk.specs.Passes.{Pass, Told, first_of_run}
+use Rattle.owner_history.specs.OwnerHouse.Owner.{Owner}
+use Rattle.owner_history.specs.OwnerHouse.House.{House}
+use Rattle.owner_history.specs.OwnerDesk.Passes.{Pass, Told, first_of_run}
 use Rattle.owner_history.specs.AnswerPath.Demand.{Demand}
 use Rattle.owner_history.specs.AnswerPath.Idle.{AddsNone, IsAlone, IsIdle, IsShutOut, LeavesBook}
 use Rattle.owner_history.specs.AnswerPath.Met.{IsMet}

@@ -13,7 +13,7 @@ use Rattle.budget_core.specs.Legal.{IsHistory}
 use Rattle.budget_core.specs.Ledger.{IsUnsettled, returned_by}
 use Rattle.budget_core.proofs.Histories.{prefix_split, slice_get-append-seam}
 use Rattle.budget_core.proofs.Numbers.{reserved_below, reservations_of-append-Settle}
-use Rattle.owner_house.specs.Owner.{Owner}
+use Rattle.session_core.specs.OwnerHouse.Owner.{Owner}
 use Rattle.session_core.specs.OwnerHistory.Explains.{Explains}
 use Rattle.session_core.proofs.OwnerHistory.Steps.{IsWell, IsLawful, reserve, settle, well_reserved}
 use Rattle.session_core.proofs.OwnerHistory.Explaining.{explains_settlement, outcome_explains}

@@ -7,9 +7,9 @@ use Rattle.std.proofs.lemmas.List.{length-map}
 use Rattle.journal_records.specs.declared.records.Record.{Record}
 use Rattle.budget_ledger.specs.declared.failure.Failure.{Failure}
 use Rattle.wire_lines.specs.Reply.{Replied}
-use Rattle.owner_house.specs.Owner.{Owner}
-use Rattle.owner_house.specs.House.{House, IsOwnerIn, AreOwners}
-use Rattle.owner_desk.specs.Passes.{Pass, Told, records_told}
+use Rattle.session_core.specs.OwnerHouse.Owner.{Owner}
+use Rattle.session_core.specs.OwnerHouse.House.{House, IsOwnerIn, AreOwners}
+use Rattle.session_core.specs.OwnerDesk.Passes.{Pass, Told, records_told}
 use Rattle.session_core.specs.AnswerPath.Shut.{Shut, unshut, shut_of}
 use Rattle.session_core.specs.OwnerHistory.Sound.{IsFound}
 use Rattle.session_core.proofs.OwnerHistory.Prefixes.{prefix_self}

@@ -6,10 +6,10 @@ use Rattle.budget_core.specs.declared.entry.Ask.{Ask}
 use Rattle.budget_core.specs.declared.entry.Grant.{Grant}
 use Rattle.budget_core.specs.Entries.{Entry}
 use Rattle.budget_core.specs.Ledger.{settlement_for}
-use Rattle.owner_house.specs.Owner.{Owner, signature_of_view}
+use Rattle.session_core.specs.OwnerHouse.Owner.{Owner, signature_of_view}
 use Rattle.session_core.specs.AnswerPath.Query.{Query}
 use Rattle.session_core.specs.AnswerPath.Verdict.{granted, IsVerdict}
-use Rattle.owner_house.specs.House.{House}
+use Rattle.session_core.specs.OwnerHouse.House.{House}
 use Rattle.session_core.specs.AnswerPath.Demand.{asks}
 use Rattle.session_core.specs.Meant.{wants}
 use Rattle.session_core.specs.Turns.{meant_at}

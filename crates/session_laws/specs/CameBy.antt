@@ -10,7 +10,7 @@ use Rattle.budget_core.specs.declared.entry.Grant.{Grant}
 use Rattle.budget_core.specs.Counts.{reservations_of, outcome_of}
 use Rattle.budget_core.specs.Ledger.{returned_by}
 use Rattle.budget_core.specs.Legal.{IsHistory, IsLegal}
-use Rattle.owner_house.specs.Owner.{Owner, signature_of_view}
+use Rattle.session_core.specs.OwnerHouse.Owner.{Owner, signature_of_view}
 use Rattle.session_core.specs.AnswerPath.Query.{Query}
 use Rattle.session_core.specs.AnswerPath.Code.{IsQueryOf}
 use Rattle.session_core.specs.AnswerPath.Verdict.{granted, IsVerdict}

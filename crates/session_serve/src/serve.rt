@@ -3,10 +3,10 @@
 ghost use Rattle.std.specs.Prelude.{◌≡◌, ◌≤◌, ◌∷◌, [], List, ℕ, length};
 ghost use Rattle.outside_links.specs.Links.{Connection, HasGiven, shown};
 ghost use Rattle.wire_lines.specs.Lines.{lines_of};
-ghost use Rattle.owner_desk.specs.Passes.{Pass as Seen};
-ghost use Rattle.owner_desk.specs.Passes.{Told};
+ghost use Rattle.session_core.specs.OwnerDesk.Passes.{Pass as Seen};
+ghost use Rattle.session_core.specs.OwnerDesk.Passes.{Told};
 ghost use Rattle.wire_lines.specs.Reply.{replied};
-ghost use Rattle.owner_house.specs.House.{house_of};
+ghost use Rattle.session_core.specs.OwnerHouse.House.{house_of};
 ghost use Rattle.session_core.specs.Turns.{is_bye};
 ghost use Rattle.session_core.specs.Code.{IsAnalyst, ArePasses, AreServed, one_line, who_behind};
 ghost use Rattle.std.specs.Io.KnownBytes.{IsAtEnd};
