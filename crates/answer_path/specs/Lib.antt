@@ -14,3 +14,9 @@ pub mod Closing
 pub mod Turn
 pub mod Code
 pub mod Laws
+-- passed on to the crates above
+pub mod OwnerCatalog
+pub mod OwnerDesk
+pub mod OwnerHouse
+pub mod PartViews
+pub mod ShapeLaw

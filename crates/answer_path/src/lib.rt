@@ -20,7 +20,8 @@ pub use laws::{
     refusals_add_nothing, verdicts_see_no_answers,
 };
 pub use meeting::meet;
-pub use owner_desk::{Desk, Pass};
+pub use owner_desk::{Desk, Guarded, Held, Knows, Noted, Pass};
+pub use owner_house::house::House;
 pub use part_views::Dataset;
 pub use program::{Accepted, Judged, check_program, judge, read_program};
 pub use query::Query;

@@ -11,11 +11,11 @@ use Rattle.owner_desk.specs.Passes.{Pass}
 use Rattle.owner_desk.specs.Shared.{Shared}
 use Rattle.owner_house.specs.Owner.{Owner}
 use Rattle.owner_house.specs.House.{House}
-use Rattle.session_core.specs.Blocks.{AreDealt, crew_of, script_blocks}
-use Rattle.session_core.specs.Bundles.{Bundle, bundle_of}
-use Rattle.session_core.specs.Code.{AreFresh, ArePasses, IsClosedWith, found_by, fresh_pass, pass_at}
-use Rattle.session_core.specs.Gathered.{AreGathered, part_of}
-use Rattle.session_core.specs.Worked.{HasWorked}
+use Rattle.session_laws.specs.SessionCore.Blocks.{AreDealt, crew_of, script_blocks}
+use Rattle.session_laws.specs.SessionCore.Bundles.{Bundle, bundle_of}
+use Rattle.session_laws.specs.SessionCore.Code.{AreFresh, ArePasses, IsClosedWith, found_by, fresh_pass, pass_at}
+use Rattle.session_laws.specs.SessionCore.Gathered.{AreGathered, part_of}
+use Rattle.session_laws.specs.SessionCore.Worked.{HasWorked}
 use Rattle.session_laws.proofs.Crew.{joined_gathered}
 use Rattle.session_laws.proofs.Dealing.{are_dealt}
 use Rattle.session_laws.proofs.Worked.{worked_joined}

@@ -22,18 +22,18 @@ use Rattle.wire_lines.specs.Refusal.{by_line}
 use Rattle.wire_lines.specs.declared.refusal.LineRefusal.TheVariants.{NoHello}
 use Rattle.wire_lines.specs.Reply.{Replied, ended, greeted, refused}
 use Rattle.wire_lines.specs.Request.{request_of}
-use Rattle.answer_path.specs.Answered.{HasWorthIn, IsSettledAt, IsSettledBy}
-use Rattle.answer_path.specs.Demand.{asks}
-use Rattle.answer_path.specs.Judgement.{HasValue}
-use Rattle.answer_path.specs.Noise.{noise_at}
-use Rattle.answer_path.specs.Query.{Query}
-use Rattle.answer_path.proofs.Programs.{one_value}
-use Rattle.answer_path.proofs.SizePeople.{size_people, size_reads, size_term}
-use Rattle.session_core.specs.Blocks.{crew_of, script_blocks}
-use Rattle.session_core.specs.Exchanges.{Exchange}
-use Rattle.session_core.specs.Meant.{Meant, meant_by, says, wants}
-use Rattle.session_core.specs.Turns.{Turn}
-use Rattle.session_core.proofs.Turns.{turns_lines}
+use Rattle.session_laws.specs.AnswerPath.Answered.{HasWorthIn, IsSettledAt, IsSettledBy}
+use Rattle.session_laws.specs.AnswerPath.Demand.{asks}
+use Rattle.session_laws.specs.AnswerPath.Judgement.{HasValue}
+use Rattle.session_laws.specs.AnswerPath.Noise.{noise_at}
+use Rattle.session_laws.specs.AnswerPath.Query.{Query}
+use Rattle.session_laws.proofs.AnswerPath.Programs.{one_value}
+use Rattle.session_laws.proofs.AnswerPath.SizePeople.{size_people, size_reads, size_term}
+use Rattle.session_laws.specs.SessionCore.Blocks.{crew_of, script_blocks}
+use Rattle.session_laws.specs.SessionCore.Exchanges.{Exchange}
+use Rattle.session_laws.specs.SessionCore.Meant.{Meant, meant_by, says, wants}
+use Rattle.session_laws.specs.SessionCore.Turns.{Turn}
+use Rattle.session_laws.proofs.SessionCore.Turns.{turns_lines}
 use Rattle.session_laws.proofs.Added.{IsReservedBy}
 use Rattle.session_laws.proofs.Once.{reserves_at, told_once}
 use Rattle.session_laws.proofs.Places.{settled_at}

@@ -2,7 +2,7 @@
 pub use Rattle.generated_house.specs.Sizes.{most_asks}
 use Rattle.std.specs.Prelude.{ℕ, zero, suc, ◌+◌, ◌-◌, if◌then◌else◌, Option, Some, None, is_some, is_none, ℤ, pos, ◌+ℤ◌}
 use Rattle.word_streams.specs.Draws.{draws_of}
-use Rattle.answer_path.specs.Noise.{noise_at}
+use Rattle.session_laws.specs.AnswerPath.Noise.{noise_at}
 use Rattle.generated_house.specs.Sizes.{budget_for, paid_of, price, row_count}
 use Rattle.generated_house.specs.Key.{key_of_seed}
 use Rattle.generated_run.specs.declared.counting.Tally.{Tally}

@@ -7,5 +7,5 @@ mod run;
 
 pub use counting::Tally;
 pub use run::run_generated;
-// The crates above answer their scripts by it, too.
-pub use script_workers::answer_script;
+// The crates above answer their scripts by these, and judge programs.
+pub use script_workers::{Desk, Judged, Passes, answer_script, check_program, judge, read_program};

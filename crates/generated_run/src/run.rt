@@ -4,7 +4,7 @@ ghost use Rattle.std.specs.Prelude.{◌≡◌, ◌≤◌, [], length, slice_get,
 ghost use Rattle.word_streams.specs.Draws.{draws_of};
 ghost use Rattle.budget_ledger.specs.Account.{IsBook};
 ghost use Rattle.owner_lock.specs.Known.{whole_share};
-ghost use Rattle.session_core.specs.Code.{IsClosedWith, pass_at};
+ghost use Rattle.session_laws.specs.SessionCore.Code.{IsClosedWith, pass_at};
 ghost use Rattle.owner_house.specs.House.{house_of};
 ghost use Rattle.owner_house.specs.Owner.{Owner};
 ghost use Rattle.generated_run.specs.Answered.{IsAnsweredOver};
@@ -17,8 +17,7 @@ use outside_disks::disk::Disk;
 use outside_links::gate::Gate;
 use owner_desk::Desk;
 use owner_house::house::House;
-use script_workers::answer_script;
-use session_core::passes::Passes;
+use script_workers::{Passes, answer_script};
 use std::alloc::{AllocError, Global};
 use std::sync::Wait;
 use std::thread::Threads;

@@ -1,14 +1,14 @@
 -- Workers' sessions, worked out.
 use Rattle.std.proofs.Common.{◌≡◌, ℕ, ◌<◌, List, [], ◌∷◌, map, slice_get, Some, refl, sym, subst, arith}
 use Rattle.owner_lock.specs.Entries.{Ascends}
-use Rattle.owner_house.specs.Owner.{Owner}
-use Rattle.owner_house.specs.House.{House}
-use Rattle.owner_desk.specs.Passes.{Pass}
-use Rattle.owner_history.proofs.Prefixes.{prefix_self}
-use Rattle.session_core.specs.Gathered.{one_worker}
-use Rattle.session_core.specs.Bundles.{handed_on}
-use Rattle.session_core.specs.Code.{AreFresh, pass_at}
-use Rattle.session_core.specs.Worked.{IsBroughtIn}
+use Rattle.session_laws.specs.OwnerHouse.Owner.{Owner}
+use Rattle.session_laws.specs.OwnerHouse.House.{House}
+use Rattle.session_laws.specs.OwnerDesk.Passes.{Pass}
+use Rattle.session_laws.proofs.OwnerHistory.Prefixes.{prefix_self}
+use Rattle.session_laws.specs.SessionCore.Gathered.{one_worker}
+use Rattle.session_laws.specs.SessionCore.Bundles.{handed_on}
+use Rattle.session_laws.specs.SessionCore.Code.{AreFresh, pass_at}
+use Rattle.session_laws.specs.SessionCore.Worked.{IsBroughtIn}
 use Rattle.held_sessions.specs.Sittings.{Sitting}
 use Rattle.held_sessions.specs.Crews.{AreHeldBy}
 use Rattle.held_sessions.proofs.Together.{pass_handed}

@@ -12,3 +12,5 @@ pub use Rattle.session_laws.proofs.Dealing
 pub use Rattle.session_laws.proofs.Exact
 pub use Rattle.session_laws.proofs.Growing
 pub use Rattle.session_laws.proofs.Locals
+pub use Rattle.session_laws.proofs.SessionCore
+pub use Rattle.session_serve.proofs.Steps

@@ -3,17 +3,17 @@ use Rattle.std.proofs.Common.{◌≡◌, ℕ, ◌+◌, ◌<◌, List, ◌++◌, 
 use mathlib.Core.List.{IsPrefix}
 use Rattle.journal_records.specs.declared.records.Record.{Record}
 use Rattle.budget_ledger.specs.declared.failure.Failure.{Failure}
-use Rattle.owner_desk.specs.Passes.{Pass}
-use Rattle.owner_house.specs.Owner.{Owner}
-use Rattle.owner_house.specs.House.{House, IsOwnerIn}
-use Rattle.owner_history.specs.Sound.{IsFound, MayBeFound, IsOwed}
-use Rattle.owner_history.proofs.Prefixes.{prefix_self}
-use Rattle.session_core.specs.Turns.{Turn, meant_at}
-use Rattle.session_core.specs.Exchanges.{Exchange}
-use Rattle.session_core.specs.Served.{IsHeldTo, AreHeldTo}
-use Rattle.session_core.specs.Transcript.{Journals}
-use Rattle.session_core.specs.Gathered.{part_of, one_worker, AreGathered, AreShut}
-use Rattle.session_core.specs.Code.{IsAnalyst, pass_at, found_by}
+use Rattle.session_laws.specs.OwnerDesk.Passes.{Pass}
+use Rattle.session_laws.specs.OwnerHouse.Owner.{Owner}
+use Rattle.session_laws.specs.OwnerHouse.House.{House, IsOwnerIn}
+use Rattle.session_laws.specs.OwnerHistory.Sound.{IsFound, MayBeFound, IsOwed}
+use Rattle.session_laws.proofs.OwnerHistory.Prefixes.{prefix_self}
+use Rattle.session_laws.specs.SessionCore.Turns.{Turn, meant_at}
+use Rattle.session_laws.specs.SessionCore.Exchanges.{Exchange}
+use Rattle.session_laws.specs.SessionCore.Served.{IsHeldTo, AreHeldTo}
+use Rattle.session_laws.specs.SessionCore.Transcript.{Journals}
+use Rattle.session_laws.specs.SessionCore.Gathered.{part_of, one_worker, AreGathered, AreShut}
+use Rattle.session_laws.specs.SessionCore.Code.{IsAnalyst, pass_at, found_by}
 use Rattle.session_laws.specs.Lines.{AreKnown, AreOfTurns, AreHonoured}
 use Rattle.session_laws.proofs.Exact.{one_part}
 use Rattle.session_laws.proofs.Kept.{lines_kept, lines_owed}

@@ -5,18 +5,18 @@ use Rattle.std.proofs.lemmas.List.{map-append}
 use mathlib.Core.List.{IsPrefix}
 use Rattle.journal_records.specs.declared.records.Record.{Record}
 use Rattle.budget_ledger.specs.Account.{Account}
-use Rattle.owner_desk.specs.Passes.{Pass}
-use Rattle.owner_house.specs.Owner.{Owner}
-use Rattle.owner_house.specs.House.{House}
-use Rattle.owner_history.proofs.Prefixes.{prefix_trans}
-use Rattle.session_core.specs.Turns.{Turn, meant_at}
-use Rattle.session_core.specs.Exchanges.{Exchange}
-use Rattle.session_core.specs.Served.{MeetsOnSome, AnswersOn, IsHeldTo, AreHeldTo}
-use Rattle.session_core.specs.Transcript.{first_new}
-use Rattle.session_core.specs.Code.{IsAnalyst, pass_at, GoesOn, AreServed}
-use Rattle.session_core.proofs.Exchanges.{all_append}
-use Rattle.session_core.proofs.Serving.{served_append, none_served}
-use Rattle.session_core.proofs.Turns.{turns_known}
+use Rattle.session_laws.specs.OwnerDesk.Passes.{Pass}
+use Rattle.session_laws.specs.OwnerHouse.Owner.{Owner}
+use Rattle.session_laws.specs.OwnerHouse.House.{House}
+use Rattle.session_laws.proofs.OwnerHistory.Prefixes.{prefix_trans}
+use Rattle.session_laws.specs.SessionCore.Turns.{Turn, meant_at}
+use Rattle.session_laws.specs.SessionCore.Exchanges.{Exchange}
+use Rattle.session_laws.specs.SessionCore.Served.{MeetsOnSome, AnswersOn, IsHeldTo, AreHeldTo}
+use Rattle.session_laws.specs.SessionCore.Transcript.{first_new}
+use Rattle.session_laws.specs.SessionCore.Code.{IsAnalyst, pass_at, GoesOn, AreServed}
+use Rattle.session_laws.proofs.SessionCore.Exchanges.{all_append}
+use Rattle.session_laws.proofs.SessionCore.Serving.{served_append, none_served}
+use Rattle.session_laws.proofs.SessionCore.Turns.{turns_known}
 use Rattle.session_laws.specs.Lines.{AreKnown}
 use Rattle.session_laws.proofs.Growing.{growing_from}
 use Rattle.session_laws.proofs.Locals.{meets_grow, lead_grows}

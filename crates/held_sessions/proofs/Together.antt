@@ -3,16 +3,16 @@ use Rattle.std.proofs.Common.{◌≡◌, ℕ, zero, suc, List, [], ◌∷◌, ma
 use mathlib.Core.List.{IsPrefix}
 use Rattle.journal_records.specs.declared.records.Record.{Record}
 use Rattle.budget_ledger.specs.declared.failure.Failure.{Failure}
-use Rattle.owner_desk.specs.Passes.{Pass}
-use Rattle.owner_house.specs.Owner.{Owner}
-use Rattle.owner_house.specs.House.{House, IsOwnerIn}
-use Rattle.owner_history.specs.Sound.{IsFound, MayBeFound, IsOwed}
-use Rattle.owner_history.proofs.Prefixes.{prefix_self, prefix_trans}
-use Rattle.session_core.specs.Exchanges.{Exchange}
-use Rattle.session_core.specs.Transcript.{Journals}
-use Rattle.session_core.specs.Gathered.{AreGathered, AreShut}
-use Rattle.session_core.specs.Bundles.{handed_on}
-use Rattle.session_core.specs.Code.{AreClosed, AreFresh, found_by, pass_at}
+use Rattle.session_laws.specs.OwnerDesk.Passes.{Pass}
+use Rattle.session_laws.specs.OwnerHouse.Owner.{Owner}
+use Rattle.session_laws.specs.OwnerHouse.House.{House, IsOwnerIn}
+use Rattle.session_laws.specs.OwnerHistory.Sound.{IsFound, MayBeFound, IsOwed}
+use Rattle.session_laws.proofs.OwnerHistory.Prefixes.{prefix_self, prefix_trans}
+use Rattle.session_laws.specs.SessionCore.Exchanges.{Exchange}
+use Rattle.session_laws.specs.SessionCore.Transcript.{Journals}
+use Rattle.session_laws.specs.SessionCore.Gathered.{AreGathered, AreShut}
+use Rattle.session_laws.specs.SessionCore.Bundles.{handed_on}
+use Rattle.session_laws.specs.SessionCore.Code.{AreClosed, AreFresh, found_by, pass_at}
 use Rattle.session_laws.proofs.Worked.{crew_gathered}
 use Rattle.held_sessions.specs.Sittings.{Sitting}
 use Rattle.held_sessions.specs.Kept.{AreShifts, KeepThePromises}

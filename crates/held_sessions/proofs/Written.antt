@@ -7,9 +7,9 @@ use Rattle.std.proofs.lemmas.List.Concat.{flat_map-append}
 use mathlib.Core.Logic.{◌⊎◌, inl, inr}
 use mathlib.Core.List.{IsPrefix}
 use Rattle.wire_lines.specs.Reply.{Replied, reply_text}
-use Rattle.owner_house.specs.House.{House}
-use Rattle.owner_history.proofs.Prefixes.{prefix_trans, prefix_length}
-use Rattle.session_core.specs.Exchanges.{Exchange}
+use Rattle.session_laws.specs.OwnerHouse.House.{House}
+use Rattle.session_laws.proofs.OwnerHistory.Prefixes.{prefix_trans, prefix_length}
+use Rattle.session_laws.specs.SessionCore.Exchanges.{Exchange}
 use Rattle.session_serve.specs.Session.{IsCutShort, EndsBy, reply_texts}
 use Rattle.session_serve.specs.declared.serve.SessionEnd.{SessionEnd}
 use Rattle.session_serve.specs.declared.serve.SessionEnd.TheVariants.{Bye, EndOfInput, ReadFault, WriteFault, TooLong, NoMemory}

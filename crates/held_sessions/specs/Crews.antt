@@ -1,13 +1,13 @@
 -- Sessions that several workers held, each on passes of its own, which were joined to the first ones in the end.
 use Rattle.std.specs.Prelude.{◌≡◌, ℕ, ◌<◌, List, length, map, slice_get, Some}
-use Rattle.owner_desk.specs.Passes.{Pass}
-use Rattle.owner_house.specs.Owner.{Owner}
-use Rattle.owner_house.specs.House.{House}
-use Rattle.session_core.specs.Exchanges.{Exchange}
-use Rattle.session_core.specs.Gathered.{part_of}
-use Rattle.session_core.specs.Bundles.{handed_on}
-use Rattle.session_core.specs.Code.{pass_at}
-use Rattle.session_core.specs.Worked.{IsBroughtIn}
+use Rattle.session_laws.specs.OwnerDesk.Passes.{Pass}
+use Rattle.session_laws.specs.OwnerHouse.Owner.{Owner}
+use Rattle.session_laws.specs.OwnerHouse.House.{House}
+use Rattle.session_laws.specs.SessionCore.Exchanges.{Exchange}
+use Rattle.session_laws.specs.SessionCore.Gathered.{part_of}
+use Rattle.session_laws.specs.SessionCore.Bundles.{handed_on}
+use Rattle.session_laws.specs.SessionCore.Code.{pass_at}
+use Rattle.session_laws.specs.SessionCore.Worked.{IsBroughtIn}
 use Rattle.held_sessions.specs.Sittings.{Sitting, FollowOn, all_exchanges}
 
 -- So many workers held these sessions, each of them one after another, from what the first passes knew on, which were handed on to it.

@@ -4,15 +4,15 @@ use Rattle.std.specs.List.{AllByRecursion}
 use mathlib.Core.List.{IsPrefix}
 use Rattle.journal_records.specs.declared.records.Record.{Record}
 use Rattle.budget_ledger.specs.declared.failure.Failure.{Failure}
-use Rattle.owner_desk.specs.Passes.{Pass}
-use Rattle.owner_house.specs.Owner.{Owner}
-use Rattle.owner_house.specs.House.{House}
-use Rattle.session_core.specs.Turns.{Turn}
-use Rattle.session_core.specs.Exchanges.{Exchange}
-use Rattle.session_core.specs.Served.{AreHeldTo}
-use Rattle.session_core.specs.Gathered.{part_of}
-use Rattle.session_core.specs.Transcript.{Journals, first_new}
-use Rattle.session_core.specs.Code.{AreClosed, AreFresh, pass_at}
+use Rattle.session_laws.specs.OwnerDesk.Passes.{Pass}
+use Rattle.session_laws.specs.OwnerHouse.Owner.{Owner}
+use Rattle.session_laws.specs.OwnerHouse.House.{House}
+use Rattle.session_laws.specs.SessionCore.Turns.{Turn}
+use Rattle.session_laws.specs.SessionCore.Exchanges.{Exchange}
+use Rattle.session_laws.specs.SessionCore.Served.{AreHeldTo}
+use Rattle.session_laws.specs.SessionCore.Gathered.{part_of}
+use Rattle.session_laws.specs.SessionCore.Transcript.{Journals, first_new}
+use Rattle.session_laws.specs.SessionCore.Code.{AreClosed, AreFresh, pass_at}
 use Rattle.session_laws.specs.Growing.{AreGrowingFrom}
 use Rattle.session_laws.specs.Lines.{AreHonoured}
 use Rattle.held_sessions.specs.Sittings.{Sitting, FollowOn, all_exchanges, exchanges_in}

@@ -3,10 +3,10 @@ use Rattle.std.specs.Prelude.{◌≡◌, ◌⊎◌, ℕ, ◌+◌, ◌-◌, nat_l
 use Rattle.std.specs.List.{flat_map}
 use mathlib.Core.List.{IsPrefix}
 use Rattle.outside_links.specs.Links.{Connection}
-use Rattle.owner_desk.specs.Passes.{Pass}
-use Rattle.owner_house.specs.House.{House}
-use Rattle.session_core.specs.Turns.{Turn, turns_of}
-use Rattle.session_core.specs.Exchanges.{Exchange}
+use Rattle.session_laws.specs.OwnerDesk.Passes.{Pass}
+use Rattle.session_laws.specs.OwnerHouse.House.{House}
+use Rattle.session_laws.specs.SessionCore.Turns.{Turn, turns_of}
+use Rattle.session_laws.specs.SessionCore.Exchanges.{Exchange}
 use Rattle.session_serve.specs.Session.{IsCutShort, IsSession, reply_texts}
 use Rattle.session_serve.specs.declared.serve.SessionEnd.{SessionEnd}
 use Rattle.session_serve.specs.declared.serve.SessionEnd.TheVariants.{WriteFault}

@@ -2,3 +2,6 @@
 #![tactic(auto)]
 
 pub mod laws;
+
+// The crates above serve sessions by these, too.
+pub use session_serve::serve::{SessionEnd, serve};

@@ -9,10 +9,10 @@ use Rattle.partition_charge.specs.Cost.{Charge, charges_of, partition_cost, cost
 use Rattle.partition_charge.proofs.Charges.{dearest-at}
 use Rattle.fz_ast.specs.Signature.{Signature}
 use Rattle.metric_values.specs.Tables.{Dataset, IsDataset, apart}
-use Rattle.owner_catalog.specs.Entries.{PartitionEntry}
-use Rattle.part_views.specs.Partitions.{ArePartitions, IsPartitionOf}
-use Rattle.part_views.specs.Views.{rows_in}
-use Rattle.part_views.proofs.Laws.{parts_are_no_further_apart}
+use Rattle.answer_path.specs.OwnerCatalog.Entries.{PartitionEntry}
+use Rattle.answer_path.specs.PartViews.Partitions.{ArePartitions, IsPartitionOf}
+use Rattle.answer_path.specs.PartViews.Views.{rows_in}
+use Rattle.answer_path.proofs.PartViews.Laws.{parts_are_no_further_apart}
 use Rattle.owner_history.proofs.Sums.{IsSpread, greatest_below, weighed, weighed-within}
 
 module _ (partitions : List PartitionEntry) (rows other : Dataset) where

@@ -13,11 +13,11 @@ use Rattle.budget_core.specs.Counts.{reservations_of, outcome_of}
 use Rattle.metric_values.specs.Distances.{gap}
 use Rattle.metric_values.specs.Tables.{Dataset, IsDataset, apart}
 use Rattle.fz_ast.specs.Signature.{Signature, IsSignature}
-use Rattle.owner_catalog.specs.Entries.{PartitionEntry}
-use Rattle.part_views.specs.Partitions.{ArePartitions}
-use Rattle.part_views.specs.Views.{signature_in, rows_in}
+use Rattle.answer_path.specs.OwnerCatalog.Entries.{PartitionEntry}
+use Rattle.answer_path.specs.PartViews.Partitions.{ArePartitions}
+use Rattle.answer_path.specs.PartViews.Views.{signature_in, rows_in}
 use Rattle.answer_path.specs.Program.{IsCharged}
-use Rattle.owner_house.specs.Owner.{Owner, HasData}
+use Rattle.answer_path.specs.OwnerHouse.Owner.{Owner, HasData}
 use Rattle.owner_history.specs.Explains.{Explains}
 use Rattle.owner_history.specs.Sound.{IsDisplacementBounded}
 use Rattle.owner_history.specs.Shown.{IsDisplacedIf, IsDisplaced, AreDisplaced, IsShown}

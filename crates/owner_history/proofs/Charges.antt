@@ -12,9 +12,9 @@ use Rattle.fz_frac.proofs.Lowest.{gcd_is, pos_of_IsGcd, pos_low, coprime}
 use Rattle.fz_ast.specs.Signature.{Signature, IsSignature}
 use Rattle.metric_values.specs.Distances.{gap}
 use Rattle.metric_values.specs.Tables.{Dataset, IsDataset, apart}
-use Rattle.owner_catalog.specs.Entries.{PartitionEntry}
-use Rattle.part_views.specs.Partitions.{ArePartitions}
-use Rattle.part_views.specs.Views.{signature_in, rows_in}
+use Rattle.answer_path.specs.OwnerCatalog.Entries.{PartitionEntry}
+use Rattle.answer_path.specs.PartViews.Partitions.{ArePartitions}
+use Rattle.answer_path.specs.PartViews.Views.{signature_in, rows_in}
 use Rattle.answer_path.specs.Judgement.{HasValue}
 use Rattle.answer_path.specs.Program.{IsCharged}
 use Rattle.answer_path.proofs.Programs.{accepted_is}

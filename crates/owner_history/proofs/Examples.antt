@@ -12,9 +12,9 @@ use Rattle.fz_frac.specs.Lowest.{gcd, gcd_in}
 use Rattle.fz_ast.specs.Signature.{TableType, row_of}
 use Rattle.fz_ast.specs.Types.{NumT}
 use Rattle.metric_values.specs.Values.{NumF}
-use Rattle.shape_law.specs.Walk.{depth_limit}
+use Rattle.answer_path.specs.ShapeLaw.Walk.{depth_limit}
 use Rattle.metric_values.specs.Tables.{Dataset}
-use Rattle.part_views.specs.Views.{signature_in, rows_in}
+use Rattle.answer_path.specs.PartViews.Views.{signature_in, rows_in}
 use Rattle.wire_lines.specs.Reply.{greeted, answered, recalled, remaining, ended, refused}
 use Rattle.wire_lines.specs.declared.refusal.DiskRefusal.TheVariants.{Fault}
 use Rattle.wire_lines.specs.Refusal.{by_line, by_program, by_money, by_disk, by_number, no_memory, no_number}
@@ -22,7 +22,7 @@ use Rattle.wire_lines.specs.declared.refusal.LineRefusal.TheVariants.{NoHello}
 use Rattle.wire_lines.specs.declared.refusal.MoneyRefusal.TheVariants.{JournalFull}
 use Rattle.wire_lines.specs.declared.refusal.NumberRefusal.TheVariants.{Exhausted as NoNoise, Lost as NoAnswer}
 use Rattle.sha2.specs.Sha256.{sha256}
-use Rattle.owner_house.specs.Owner.{Owner}
+use Rattle.answer_path.specs.OwnerHouse.Owner.{Owner}
 use Rattle.answer_path.specs.Query.{Query}
 use Rattle.answer_path.specs.Judgement.{judgement_of, HasValue}
 use Rattle.answer_path.specs.Program.{IsCharged}

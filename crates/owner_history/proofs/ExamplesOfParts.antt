@@ -20,13 +20,13 @@ use Rattle.metric_values.specs.Distances.{gap}
 use Rattle.metric_values.specs.Tables.{Dataset, IsDataset, apart}
 use Rattle.metric_values.specs.Typed.{TypedFlat}
 use Rattle.metric_values.specs.Values.{Flat, PairF, TextF}
-use Rattle.owner_catalog.specs.Entries.{PartitionEntry}
-use Rattle.part_views.specs.Partitions.{ArePartitions, IsPartitionOf}
-use Rattle.part_views.specs.Views.{signature_in, rows_in}
+use Rattle.answer_path.specs.OwnerCatalog.Entries.{PartitionEntry}
+use Rattle.answer_path.specs.PartViews.Partitions.{ArePartitions, IsPartitionOf}
+use Rattle.answer_path.specs.PartViews.Views.{signature_in, rows_in}
 use Rattle.sha2.specs.Sha256.{sha256}
-use Rattle.shape_law.specs.Walk.{depth_limit}
+use Rattle.answer_path.specs.ShapeLaw.Walk.{depth_limit}
 use Rattle.answer_path.specs.Judgement.{HasValue, judgement_of}
-use Rattle.owner_house.specs.Owner.{Owner, HasData}
+use Rattle.answer_path.specs.OwnerHouse.Owner.{Owner, HasData}
 use Rattle.answer_path.specs.Program.{IsCharged}
 use Rattle.answer_path.specs.Reading.{read, IsReading}
 use Rattle.answer_path.proofs.Programs.{one_value}

@@ -10,7 +10,7 @@ use Rattle.journal_records.specs.declared.records.Record.TheVariants.{Reserve}
 use Rattle.journal_records.specs.Records.{settling}
 use Rattle.budget_core.specs.Counts.{outcome_of, reservations_of}
 use Rattle.metric_values.specs.Distances.{gap}
-use Rattle.part_views.specs.Views.{signature_in, rows_in}
+use Rattle.answer_path.specs.PartViews.Views.{signature_in, rows_in}
 use Rattle.sha2.specs.Sha256.{sha256}
 use Rattle.answer_path.specs.Noise.{noise_at}
 use Rattle.answer_path.specs.Query.{Query}

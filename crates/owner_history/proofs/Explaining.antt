@@ -17,7 +17,7 @@ use Rattle.budget_core.specs.Legal.{IsHistory}
 use Rattle.budget_core.proofs.Histories.{push_cases}
 use Rattle.budget_core.proofs.Numbers.{outcome_past, outcome_of-append-Reserve, outcome_of-append-Settle, outcome_of-append-new}
 use Rattle.sha2.specs.Sha256.{sha256}
-use Rattle.owner_house.specs.Owner.{Owner, signature_of_view, rows_of_view}
+use Rattle.answer_path.specs.OwnerHouse.Owner.{Owner, signature_of_view, rows_of_view}
 use Rattle.answer_path.specs.Query.{Query}
 use Rattle.answer_path.specs.Judgement.{HasValue}
 use Rattle.answer_path.specs.Program.{IsCharged}

@@ -9,7 +9,7 @@ use Rattle.budget_core.specs.Ledger.{money_verdict}
 use Rattle.fz_frac.specs.Distance.{Distance, Fin, Inf}
 use Rattle.fz_ast.specs.Signature.{Signature}
 use Rattle.fz_ast.specs.Terms.{Term}
-use Rattle.owner_house.specs.Owner.{Owner, signature_of_view}
+use Rattle.answer_path.specs.OwnerHouse.Owner.{Owner, signature_of_view}
 use Rattle.answer_path.specs.Query.{Query}
 use Rattle.answer_path.specs.Program.{IsCharged}
 use Rattle.answer_path.specs.Reading.{Reading, unlexed, stuck, nested, read, IsReading}

@@ -12,3 +12,7 @@ pub mod Sound
 pub mod Examples
 mod ExamplesOfRecords
 mod ExamplesOfParts
+-- passed on to the crates above
+pub mod AnswerPath
+pub use Rattle.answer_path.proofs.OwnerDesk
+pub use Rattle.answer_path.proofs.OwnerHouse

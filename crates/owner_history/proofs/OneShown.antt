@@ -9,8 +9,8 @@ use Rattle.budget_core.specs.Counts.{reservations_of, outcome_of}
 use Rattle.metric_values.specs.Distances.{gap}
 use Rattle.metric_values.specs.Tables.{Dataset}
 use Rattle.fz_ast.specs.Signature.{Signature}
-use Rattle.owner_catalog.specs.Entries.{PartitionEntry}
-use Rattle.part_views.specs.Views.{signature_in, rows_in}
+use Rattle.answer_path.specs.OwnerCatalog.Entries.{PartitionEntry}
+use Rattle.answer_path.specs.PartViews.Views.{signature_in, rows_in}
 use Rattle.owner_history.specs.Shown.{IsDisplacedIf, IsDisplaced, AreDisplaced, IsShown}
 use Rattle.answer_path.proofs.Programs.{one_value}
 

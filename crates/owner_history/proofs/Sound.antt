@@ -7,7 +7,7 @@ use Rattle.budget_core.specs.Cost.{cost_of, budget_of}
 use Rattle.budget_core.specs.Entries.{Entry}
 use Rattle.budget_core.specs.Legal.{IsLegal}
 use Rattle.budget_core.proofs.LegalLemmas.{legal-cost}
-use Rattle.owner_house.specs.Owner.{Owner, HasData}
+use Rattle.answer_path.specs.OwnerHouse.Owner.{Owner, HasData}
 use Rattle.owner_history.specs.Sound.{IsBacked, IsFound, IsOwed, MayBeFound}
 use Rattle.owner_history.proofs.Bounded.{explained_bounded}
 use Rattle.owner_history.proofs.Steps.{IsLawful, IsWell}

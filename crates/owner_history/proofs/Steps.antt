@@ -16,7 +16,7 @@ use Rattle.budget_core.specs.Ledger.{Ledger, IsAskOf, IsUnsettled, next_number, 
 use Rattle.budget_core.proofs.Histories.{legal-history, slice_get-append-seam}
 use Rattle.budget_core.proofs.Numbers.{reservations_of-append-Reserve, reservations_of-append-Settle, reservation_of-append-old, reservation_of-next, outcome_of-append-new}
 use Rattle.budget_core.proofs.LegalLemmas.{granted as money_granted, legal-Reserve, legal-Settle, unsettled-Reserve, settlement-may}
-use Rattle.owner_house.specs.Owner.{Owner, signature_of_view}
+use Rattle.answer_path.specs.OwnerHouse.Owner.{Owner, signature_of_view}
 use Rattle.answer_path.specs.Query.{Query}
 use Rattle.answer_path.specs.Code.{IsQueryOf}
 use Rattle.answer_path.specs.Program.{IsCharged}

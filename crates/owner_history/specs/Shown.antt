@@ -8,8 +8,8 @@ use Rattle.budget_core.specs.Counts.{reservations_of, outcome_of}
 use Rattle.fz_ast.specs.Signature.{Signature}
 use Rattle.metric_values.specs.Distances.{gap}
 use Rattle.metric_values.specs.Tables.{Dataset}
-use Rattle.owner_catalog.specs.Entries.{PartitionEntry}
-use Rattle.part_views.specs.Views.{signature_in, rows_in}
+use Rattle.answer_path.specs.OwnerCatalog.Entries.{PartitionEntry}
+use Rattle.answer_path.specs.PartViews.Views.{signature_in, rows_in}
 use Rattle.answer_path.specs.Judgement.{HasValue}
 
 -- Epsilon times how far a program's value is displaced between two datasets of some tables, where its reservation was

@@ -5,7 +5,7 @@ use Rattle.budget_core.specs.Cost.{cost_of, budget_of}
 use Rattle.budget_core.specs.Legal.{IsHistory, IsLegal}
 use Rattle.metric_values.specs.Tables.{Dataset, apart}
 use Rattle.metric_values.specs.Tables.{IsDataset}
-use Rattle.owner_house.specs.Owner.{Owner}
+use Rattle.answer_path.specs.OwnerHouse.Owner.{Owner}
 use Rattle.owner_history.specs.Explains.{Explains}
 use Rattle.owner_history.specs.Shown.{IsShown}
 

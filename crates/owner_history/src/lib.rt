@@ -2,3 +2,9 @@
 #![tactic(auto)]
 
 pub mod laws;
+
+// The crates above meet demands by these, and judge programs.
+pub use answer_path::{
+    Demand, Desk, Guarded, Held, House, Judged, Knows, LastProgram, Noted, Pass, Query,
+    check_program, judge, meet, read_program,
+};

@@ -6,9 +6,9 @@ use Rattle.fz_ast.specs.Signature.{Signature, IsSignature}
 use Rattle.fz_ast.specs.Terms.{Term}
 use Rattle.metric_values.specs.Distances.{gap as difference}
 use Rattle.metric_values.specs.Tables.{Dataset, IsDataset, apart}
-use Rattle.answer_path.specs.Reading.{Reading, unlexed, stuck, nested, read, IsReading}
-use Rattle.answer_path.specs.Judgement.{HasValue, Judgement, refused_for, accepted, judgement_of}
-use Rattle.answer_path.proofs.Programs.{accepted_are_bounded}
+use Rattle.generated_run.specs.AnswerPath.Reading.{Reading, unlexed, stuck, nested, read, IsReading}
+use Rattle.generated_run.specs.AnswerPath.Judgement.{HasValue, Judgement, refused_for, accepted, judgement_of}
+use Rattle.generated_run.proofs.AnswerPath.Programs.{accepted_are_bounded}
 use Rattle.query_server.specs.Gap.{GapsAreBounded, IsGapBy, gap_text}
 use Rattle.query_server.specs.declared.end.Status.TheVariants.{Done}
 

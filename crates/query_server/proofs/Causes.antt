@@ -10,7 +10,7 @@ use Rattle.wire_lines.specs.declared.refusal.DiskRefusal.{DiskRefusal}
 use Rattle.wire_lines.specs.declared.refusal.DiskRefusal.TheVariants.{Closed, Fault}
 use Rattle.owner_house.specs.House.{house_of, owner_at}
 use Rattle.owner_house.proofs.Owners.{owner_there, owners_length}
-use Rattle.answer_path.specs.Shut.{IsPendingOf, disk_word}
+use Rattle.generated_run.specs.AnswerPath.Shut.{IsPendingOf, disk_word}
 use Rattle.generated_run.specs.Causes.{AreCaused}
 use Rattle.generated_run.proofs.Causes.{caused}
 use Rattle.query_server.specs.Laws.{DiskRefusalsHaveCauses}

@@ -11,10 +11,10 @@ use Rattle.metric_values.specs.Tables.{Dataset}
 use Rattle.metric_law.specs.Worked.{worked_tables}
 use Rattle.wire_lines.specs.Refusal.{no_token}
 use Rattle.wire_lines.specs.Reply.{reply_text}
-use Rattle.answer_path.specs.Reading.{IsReading, read, unlexed}
-use Rattle.answer_path.specs.Judgement.{judgement_of, refused_for}
-use Rattle.answer_path.proofs.Limits.{seven_walk_too_much, six_are_judged, six_have_a_plan, unweighed}
-use Rattle.answer_path.proofs.Told.{planned_walks_little, refused_walks_little}
+use Rattle.generated_run.specs.AnswerPath.Reading.{IsReading, read, unlexed}
+use Rattle.generated_run.specs.AnswerPath.Judgement.{judgement_of, refused_for}
+use Rattle.generated_run.proofs.AnswerPath.Limits.{seven_walk_too_much, six_are_judged, six_have_a_plan, unweighed}
+use Rattle.generated_run.proofs.AnswerPath.Told.{planned_walks_little, refused_walks_little}
 use Rattle.query_server.specs.Status.{status_code, refused_text, usage_text}
 use Rattle.command_words.specs.Command.{Command, audit, check, gap, init, run}
 use Rattle.query_server.specs.Work.{usage, refused, to_check}
@@ -25,7 +25,7 @@ use Rattle.catalog_loading.specs.Files.{always, readable}
 use Rattle.catalog_loading.specs.Loaded.{Loading, key_read, owners_in}
 use Rattle.owner_books.specs.Shelves.{Shelf, EachDisk, IsOnlySynced}
 use Rattle.query_server.specs.Run.{script_limit, IsAnswerDue, IsScriptDue}
-use Rattle.session_core.specs.Transcript.{Journals}
+use Rattle.generated_run.specs.SessionCore.Transcript.{Journals}
 use Rattle.query_server.specs.Check.{IsProgramDue, accepted_text, status_by, text_by}
 use Rattle.query_server.specs.Gap.{IsGapBy, IsGapDue, gap_text}
 use Rattle.query_server.specs.Due.{AreRead, IfFinished, IsFaultyWordsEnd, IsBeginning, IsForProgram, IsWrittenAt, command_kind}

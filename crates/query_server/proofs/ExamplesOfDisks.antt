@@ -21,7 +21,7 @@ use Rattle.metric_values.specs.Tables.{Dataset}
 use Rattle.owner_house.specs.Owner.{Owner}
 use Rattle.owner_catalog.specs.Catalog.{Catalog, OwnerEntry}
 use Rattle.owner_catalog.specs.Digest.{digest_of}
-use Rattle.session_core.specs.Transcript.{Journals}
+use Rattle.generated_run.specs.SessionCore.Transcript.{Journals}
 use Rattle.catalog_loading.specs.Loaded.{Loading, entry_at, header_in, header_of, in_versions, new_header, owner_name_at}
 use Rattle.owner_books.specs.Shelves.{Shelf, bytes_on, TellBytes, AreAtHome, EachDisk, IsOnlySynced, NoOtherRose}
 use Rattle.owner_books.specs.Opened.{AreOpenedBefore, IsUnopened, IsRefusedAt}

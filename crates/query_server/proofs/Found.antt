@@ -21,7 +21,7 @@ use Rattle.budget_core.specs.declared.answers.GrantRefusal.TheVariants.{TooLarge
 use Rattle.budget_core.proofs.SoundLemmas.{may-raise}
 use Rattle.owner_house.specs.Owner.{HasData, Owner}
 use Rattle.owner_house.proofs.Owners.{entry_said, register_owners}
-use Rattle.owner_history.proofs.Sound.{lawful_found, lawful_owed, well_backed, well_found}
+use Rattle.generated_run.proofs.OwnerHistory.Sound.{lawful_found, lawful_owed, well_backed, well_found}
 use Rattle.catalog_loading.specs.Loaded.{KeyedOwner, Loading, IsLoading, header_of, in_versions, owners_in}
 use Rattle.query_server.specs.Work.{Work, to_count, to_grant}
 use Rattle.owner_books.specs.Shelves.{EachDisk, IsOnlySynced, NothingWritten, OneDisk, Shelf, bytes_on}

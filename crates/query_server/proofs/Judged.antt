@@ -12,11 +12,11 @@ use Rattle.wire_lines.specs.Refusal.{ProgramRefusal, Refusal, by_disk, by_line, 
 use Rattle.wire_lines.specs.declared.refusal.Refusal.{Refusal as RefusalAt}
 use Rattle.wire_lines.specs.declared.refusal.Refusal.TheVariants.{NoMemory}
 use Rattle.wire_lines.specs.Reply.{refused, reply_text}
-use Rattle.answer_path.specs.declared.program.Accepted.{Accepted}
-use Rattle.answer_path.specs.Code.{IsAccepted, IsProgramRefusal, IsRefusedFor}
-use Rattle.answer_path.specs.Reading.{IsReading, read}
-use Rattle.answer_path.specs.Judgement.{HasTooManyWalks, HasValue, Judgement, refused_for, accepted, judgement_of}
-use Rattle.answer_path.proofs.Told.{accepted_walks_little, refused_walks_little}
+use Rattle.generated_run.specs.AnswerPath.AcceptedProgram.{Accepted}
+use Rattle.generated_run.specs.AnswerPath.Code.{IsAccepted, IsProgramRefusal, IsRefusedFor}
+use Rattle.generated_run.specs.AnswerPath.Reading.{IsReading, read}
+use Rattle.generated_run.specs.AnswerPath.Judgement.{HasTooManyWalks, HasValue, Judgement, refused_for, accepted, judgement_of}
+use Rattle.generated_run.proofs.AnswerPath.Told.{accepted_walks_little, refused_walks_little}
 use Rattle.query_server.specs.Check.{IsProgramDue, accepted_text, status_by, text_by}
 use Rattle.query_server.specs.Gap.{IsGapBy, IsGapDue, gap_text}
 use Rattle.query_server.specs.declared.end.Status.{Status}

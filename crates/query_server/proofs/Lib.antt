@@ -30,4 +30,9 @@ pub mod ExamplesOfService
 pub mod ExamplesOfGrants
 pub mod Granting
 -- passed on to the crates above
+pub use Rattle.generated_run.proofs.AnswerPath
+pub use Rattle.generated_run.proofs.OwnerHistory
+pub use Rattle.generated_run.proofs.SessionCore
+pub use Rattle.generated_run.proofs.SessionLaws
 pub use Rattle.owner_books.proofs.Unopened
+pub use Rattle.service_workers.proofs.HeldSessions

@@ -16,7 +16,7 @@ use Rattle.query_server.specs.declared.end.Status.{Status}
 use Rattle.query_server.specs.declared.end.Status.TheVariants as code
 use Rattle.word_streams.specs.Draws.{draws_of}
 use Rattle.owner_house.specs.House.{house_of}
-use Rattle.session_core.specs.Gathered.{IsGatheredScript}
+use Rattle.generated_run.specs.SessionCore.Gathered.{IsGatheredScript}
 use Rattle.generated_run.proofs.Scripts.{transcript_of}
 use Rattle.query_server.proofs.Doors.{doors_stay, doors_stay_on}
 use Rattle.query_server.proofs.Contents.{at_held, at_told, for_contents}

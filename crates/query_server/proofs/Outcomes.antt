@@ -9,11 +9,11 @@ use Rattle.budget_core.specs.declared.answers.GrantRefusal.TheVariants.{TooLarge
 use Rattle.query_server.specs.Grant.{verdict_on, verdict_status}
 use mathlib.Core.Logic.{◌⊎◌, inl, inr}
 use Rattle.word_streams.specs.Draws.{draws_of}
-use Rattle.answer_path.specs.Reading.{Reading, IsReading}
-use Rattle.answer_path.specs.Judgement.{HasTooManyWalks, Judgement, refused_for, accepted, judgement_of}
-use Rattle.answer_path.proofs.Readings.{one_reading}
+use Rattle.generated_run.specs.AnswerPath.Reading.{Reading, IsReading}
+use Rattle.generated_run.specs.AnswerPath.Judgement.{HasTooManyWalks, Judgement, refused_for, accepted, judgement_of}
+use Rattle.generated_run.proofs.AnswerPath.Readings.{one_reading}
 use Rattle.metric_values.specs.Tables.{Dataset}
-use Rattle.session_core.specs.Transcript.{Journals}
+use Rattle.generated_run.specs.SessionCore.Transcript.{Journals}
 use Rattle.command_words.specs.Command.{Command, command_of}
 use Rattle.query_server.specs.Work.{Work, usage, refused, to_answer, to_make, to_count, to_grant, to_check, to_compare, to_serve, to_generate}
 use Rattle.catalog_loading.specs.Files.{Contents, ReadsToCome, always}

@@ -8,9 +8,9 @@ use Rattle.budget_core.specs.Entries.{Entry}
 use Rattle.budget_core.specs.Legal.{IsHistory, MayFollow}
 use Rattle.budget_core.proofs.Costs.{cost_of-le-Settle, cost_of-append-Grant, budget_of-append, cost_of-nil}
 use Rattle.budget_core.proofs.Histories.{history-induction}
-use Rattle.owner_history.specs.Sound.{MayBeFound}
-use Rattle.session_core.specs.Headline.{AreHistories}
-use Rattle.session_core.specs.Transcript.{Journals}
+use Rattle.generated_run.specs.OwnerHistory.Sound.{MayBeFound}
+use Rattle.generated_run.specs.SessionCore.Headline.{AreHistories}
+use Rattle.generated_run.specs.SessionCore.Transcript.{Journals}
 use Rattle.owner_house.proofs.Owners.{entry_said, in_catalog}
 use Rattle.catalog_loading.specs.Loaded.{IsLoading, Loading, in_versions}
 use Rattle.owner_books.specs.Shelves.{Shelf}

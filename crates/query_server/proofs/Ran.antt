@@ -17,11 +17,11 @@ use Rattle.budget_ledger.specs.declared.failure.Failure.{Failure}
 use Rattle.owner_desk.specs.Passes.{Pass}
 use Rattle.owner_house.specs.House.{House, Register, house_of, owner_at}
 use Rattle.owner_desk.specs.Shared.{Shared}
-use Rattle.session_core.specs.Blocks.{crew_of, script_blocks}
-use Rattle.session_core.specs.Bundles.{Bundle, bundle_of}
-use Rattle.session_core.specs.Code.{AreClosed, ArePasses, AreFresh, found_by, pass_at}
-use Rattle.session_core.specs.Worked.{HasWorked, HaveAddedNone}
-use Rattle.session_core.specs.Transcript.{Journals}
+use Rattle.generated_run.specs.SessionCore.Blocks.{crew_of, script_blocks}
+use Rattle.generated_run.specs.SessionCore.Bundles.{Bundle, bundle_of}
+use Rattle.generated_run.specs.SessionCore.Code.{AreClosed, ArePasses, AreFresh, found_by, pass_at}
+use Rattle.generated_run.specs.SessionCore.Worked.{HasWorked, HaveAddedNone}
+use Rattle.generated_run.specs.SessionCore.Transcript.{Journals}
 use Rattle.generated_run.proofs.Worked.{script_gathered}
 use Rattle.owner_house.proofs.Owners.{in_catalog, owner_there, owners_length}
 use Rattle.std.proofs.lemmas.Option.{slice_get_within}

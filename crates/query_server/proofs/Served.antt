@@ -7,7 +7,7 @@ use Rattle.word_streams.specs.Draws.{draws_of}
 use Rattle.budget_ledger.specs.Account.{Account}
 use Rattle.owner_desk.specs.Passes.{Pass}
 use Rattle.owner_house.specs.House.{House, Register, house_of, owner_at}
-use Rattle.session_core.specs.Code.{found_by, pass_at}
+use Rattle.generated_run.specs.SessionCore.Code.{found_by, pass_at}
 use Rattle.service_workers.proofs.Together.{together}
 use Rattle.service_workers.specs.Services.{Door, IsService}
 use Rattle.service_workers.specs.declared.posting.Service.{Service}

@@ -8,7 +8,7 @@ use Rattle.fz_outside.specs.Faults.{HasRisen}
 use Rattle.owner_house.specs.House.{House, IsOwnerIn}
 use Rattle.owner_house.specs.Owner.{Owner}
 use Rattle.owner_house.proofs.Owners.{register_owners}
-use Rattle.owner_history.specs.Sound.{IsFound, IsOwed, MayBeFound}
+use Rattle.generated_run.specs.OwnerHistory.Sound.{IsFound, IsOwed, MayBeFound}
 use Rattle.service_workers.specs.Kept.{KeepThePromises}
 use Rattle.service_workers.proofs.Together.{together_keep, together_owed}
 use Rattle.service_workers.specs.Services.{Door}

@@ -6,7 +6,7 @@ use Rattle.budget_core.specs.Answers.{counts_of}
 use Rattle.budget_core.specs.Cost.{cost_of, budget_of}
 use Rattle.budget_core.specs.Entries.{Entry}
 use Rattle.owner_catalog.specs.Entries.{OwnerEntry}
-use Rattle.session_core.specs.Transcript.{Journals}
+use Rattle.generated_run.specs.SessionCore.Transcript.{Journals}
 use Rattle.catalog_loading.specs.Steps.{FileStep}
 use Rattle.catalog_loading.specs.Loaded.{Loading, with_house, owners_in, entry_at, in_versions}
 use Rattle.query_server.specs.Work.{Work, to_count}

@@ -4,8 +4,8 @@ use Rattle.fz_ast.specs.Signature.{Signature}
 use Rattle.fz_frac.specs.Distance.{Distance}
 use Rattle.wire_lines.specs.Refusal.{by_program}
 use Rattle.wire_lines.specs.Reply.{refused as refused_reply, sensitivity_text, reply_text}
-use Rattle.answer_path.specs.Reading.{Reading, IsReading}
-use Rattle.answer_path.specs.Judgement.{HasTooManyWalks, Judgement, refused_for, accepted, judgement_of}
+use Rattle.generated_run.specs.AnswerPath.Reading.{Reading, IsReading}
+use Rattle.generated_run.specs.AnswerPath.Judgement.{HasTooManyWalks, Judgement, refused_for, accepted, judgement_of}
 use Rattle.outside_bays.specs.Bays.{Same}
 use Rattle.catalog_loading.specs.Steps.{FileStep, ◌>>=◌, done, file_read, from}
 use Rattle.catalog_loading.specs.Loaded.{catalog_read, entry_named, owner_loaded}

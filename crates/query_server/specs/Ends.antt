@@ -7,7 +7,7 @@ use Rattle.query_server.specs.Check.{IsProgramDue}
 use Rattle.query_server.specs.Gap.{IsGapDue}
 use Rattle.catalog_loading.specs.Files.{ReadsToCome}
 use Rattle.owner_desk.specs.Passes.{Pass}
-use Rattle.session_core.specs.Worked.{HasWorked, HaveAddedNone}
+use Rattle.generated_run.specs.SessionCore.Worked.{HasWorked, HaveAddedNone}
 use Rattle.owner_house.specs.House.{House}
 use Rattle.query_server.specs.Run.{script_limit}
 use Rattle.catalog_loading.specs.Steps.{FileStep}

@@ -11,8 +11,8 @@ use Rattle.budget_core.specs.Granting.{grant_behind}
 use Rattle.budget_core.specs.Legal.{MayFollow}
 use Rattle.owner_house.specs.Owner.{HasData, Owner}
 use Rattle.owner_catalog.specs.Limits.{owner_limit}
-use Rattle.owner_history.specs.Explains.{Explains}
-use Rattle.owner_history.specs.Sound.{IsBacked, IsOwed}
+use Rattle.generated_run.specs.OwnerHistory.Explains.{Explains}
+use Rattle.generated_run.specs.OwnerHistory.Sound.{IsBacked, IsOwed}
 use Rattle.catalog_loading.specs.Loaded.{KeyedOwner, Loading, entry_at, header_of, in_versions}
 use Rattle.owner_books.specs.Shelves.{OneDisk, Shelf, bytes_on}
 use Rattle.owner_books.specs.Opened.{IsOpened, house_in}

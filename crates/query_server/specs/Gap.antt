@@ -7,8 +7,8 @@ use Rattle.metric_values.specs.Distances.{gap as difference}
 use Rattle.metric_values.specs.Tables.{Dataset, IsDataset, apart}
 use Rattle.wire_lines.specs.Refusal.{by_program}
 use Rattle.wire_lines.specs.Reply.{refused as refused_reply, sensitivity_text, reply_text}
-use Rattle.answer_path.specs.Reading.{Reading, IsReading}
-use Rattle.answer_path.specs.Judgement.{HasTooManyWalks, Judgement, HasValue, refused_for, accepted, judgement_of}
+use Rattle.generated_run.specs.AnswerPath.Reading.{Reading, IsReading}
+use Rattle.generated_run.specs.AnswerPath.Judgement.{HasTooManyWalks, Judgement, HasValue, refused_for, accepted, judgement_of}
 use Rattle.owner_catalog.specs.Entries.{Catalog, OwnerEntry}
 use Rattle.outside_bays.specs.Bays.{Same}
 use Rattle.catalog_loading.specs.Steps.{FileStep, ◌>>=◌, done, file_read, from}

@@ -11,18 +11,18 @@ use Rattle.wire_lines.specs.declared.refusal.DiskRefusal.{DiskRefusal}
 use Rattle.wire_lines.specs.declared.refusal.DiskRefusal.TheVariants.{Fault as DiskFault}
 use Rattle.owner_house.specs.Owner.{Owner}
 use Rattle.service_workers.specs.Services.{Door}
-use Rattle.answer_path.specs.Query.{Query}
-use Rattle.answer_path.specs.Reading.{Reading, IsReading}
-use Rattle.answer_path.specs.Judgement.{HasTooManyWalks, judgement_of}
+use Rattle.generated_run.specs.AnswerPath.Query.{Query}
+use Rattle.generated_run.specs.AnswerPath.Reading.{Reading, IsReading}
+use Rattle.generated_run.specs.AnswerPath.Judgement.{HasTooManyWalks, judgement_of}
 use Rattle.owner_house.specs.House.{house_of}
-use Rattle.answer_path.specs.Demand.{asks}
-use Rattle.answer_path.specs.Shut.{IsPendingOf}
+use Rattle.generated_run.specs.AnswerPath.Demand.{asks}
+use Rattle.generated_run.specs.AnswerPath.Shut.{IsPendingOf}
 use Rattle.budget_ledger.specs.declared.failure.Failure.{Failure}
 use Rattle.budget_core.specs.Granting.{IsAmount}
-use Rattle.session_core.specs.Meant.{wants}
-use Rattle.session_core.specs.Turns.{meant_at}
-use Rattle.session_core.specs.Exchanges.{Exchange}
-use Rattle.session_core.specs.Transcript.{IsScriptRun, Journals}
+use Rattle.generated_run.specs.SessionCore.Meant.{wants}
+use Rattle.generated_run.specs.SessionCore.Turns.{meant_at}
+use Rattle.generated_run.specs.SessionCore.Exchanges.{Exchange}
+use Rattle.generated_run.specs.SessionCore.Transcript.{IsScriptRun, Journals}
 use Rattle.command_words.specs.Command.{command_of}
 use Rattle.catalog_loading.specs.Files.{Contents, ReadsToCome, always}
 use Rattle.catalog_loading.specs.Loaded.{IsKeyedOwner, IsLoading, KeyedOwner, Loading, owners_in}

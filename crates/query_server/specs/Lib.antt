@@ -20,8 +20,13 @@ pub mod Service
 pub mod Taken
 pub mod Laws
 -- passed on to the crates above
-pub use Rattle.owner_books.specs.Shelves
+pub use Rattle.generated_run.specs.AnswerPath
+pub use Rattle.generated_run.specs.OwnerHistory
+pub use Rattle.generated_run.specs.SessionCore
+pub use Rattle.generated_run.specs.SessionLaws
 pub use Rattle.owner_books.specs.Opened
 pub use Rattle.owner_books.specs.Refusals
+pub use Rattle.owner_books.specs.Shelves
+pub use Rattle.service_workers.specs.HeldSessions
 pub use Rattle.service_workers.specs.Services as ServiceOver
 pub use Rattle.service_workers.specs.declared.posting.Service as PostedService

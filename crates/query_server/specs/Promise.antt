@@ -1,8 +1,8 @@
 -- A script that was answered, and what is promised to every owner.
 use Rattle.std.specs.Prelude.{◌≡◌, ◌⊎◌, ℕ, ◌≤◌, List, length, Some, Ok}
 use Rattle.word_streams.specs.Draws.{draws_of}
-use Rattle.session_core.specs.Headline.{Programs, AreFound, AreOwed, Headline}
-use Rattle.session_core.specs.Transcript.{Journals}
+use Rattle.generated_run.specs.SessionCore.Headline.{Programs, AreFound, AreOwed, Headline}
+use Rattle.generated_run.specs.SessionCore.Transcript.{Journals}
 use Rattle.command_words.specs.Command.{run, command_of}
 use Rattle.catalog_loading.specs.Files.{ReadsToCome}
 use Rattle.catalog_loading.specs.Loaded.{Loading, IsKeyedHouse, house_read, in_versions, keyed}

@@ -15,10 +15,10 @@ use Rattle.budget_ledger.specs.declared.failure.Failure.{Failure}
 use Rattle.wire_lines.specs.Reply.{reply_text}
 use Rattle.owner_house.specs.House.{house_of}
 use Rattle.owner_house.specs.Owner.{Owner}
-use Rattle.session_core.specs.Blocks.{crew_of, script_blocks}
-use Rattle.session_core.specs.Exchanges.{Exchange}
-use Rattle.session_core.specs.Gathered.{AreShut, IsGatheredScript}
-use Rattle.session_core.specs.Transcript.{Journals}
+use Rattle.generated_run.specs.SessionCore.Blocks.{crew_of, script_blocks}
+use Rattle.generated_run.specs.SessionCore.Exchanges.{Exchange}
+use Rattle.generated_run.specs.SessionCore.Gathered.{AreShut, IsGatheredScript}
+use Rattle.generated_run.specs.SessionCore.Transcript.{Journals}
 use Rattle.catalog_loading.specs.Steps.{FileStep}
 use Rattle.catalog_loading.specs.Loaded.{Loading, header_of, in_versions, with_house, entry_at, owners_in}
 use Rattle.query_server.specs.Work.{Work, to_answer}

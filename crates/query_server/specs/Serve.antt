@@ -5,9 +5,9 @@ use Rattle.budget_ledger.specs.declared.failure.Failure.{Failure}
 use Rattle.owner_desk.specs.Passes.{Pass}
 use Rattle.owner_house.specs.House.{house_of}
 use Rattle.owner_house.specs.Owner.{Owner}
-use Rattle.session_core.specs.Code.{AreClosed, AreFresh, found_by}
-use Rattle.session_core.specs.Gathered.{AreGathered, AreShut}
-use Rattle.session_core.specs.Transcript.{Journals}
+use Rattle.generated_run.specs.SessionCore.Code.{AreClosed, AreFresh, found_by}
+use Rattle.generated_run.specs.SessionCore.Gathered.{AreGathered, AreShut}
+use Rattle.generated_run.specs.SessionCore.Transcript.{Journals}
 use Rattle.service_workers.specs.Sittings.{Sitting}
 use Rattle.service_workers.specs.Crews.{AreHeldBy}
 use Rattle.catalog_loading.specs.Steps.{FileStep}

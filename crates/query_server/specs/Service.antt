@@ -6,9 +6,9 @@ use Rattle.fz_outside.specs.Faults.{HasRisen}
 use Rattle.owner_desk.specs.Passes.{Pass}
 use Rattle.owner_house.specs.House.{House}
 use Rattle.owner_house.specs.Owner.{Owner}
-use Rattle.session_core.specs.Headline.{Programs, AreFound, AreOwed}
-use Rattle.session_core.specs.Transcript.{Journals}
-use Rattle.session_core.specs.Worked.{HaveAddedNone}
+use Rattle.generated_run.specs.SessionCore.Headline.{Programs, AreFound, AreOwed}
+use Rattle.generated_run.specs.SessionCore.Transcript.{Journals}
+use Rattle.generated_run.specs.SessionCore.Worked.{HaveAddedNone}
 use Rattle.service_workers.specs.Kept.{KeepThePromises}
 use Rattle.service_workers.specs.Services.{Door, IsService}
 use Rattle.service_workers.specs.declared.posting.Service.{Service}

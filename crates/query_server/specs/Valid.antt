@@ -1,7 +1,7 @@
 -- What some work takes where nothing is in the way, and how it ends then.
 use Rattle.std.specs.Prelude.{◌≡◌, ◌⊎◌, ℕ, ◌<◌, List, [], Some, IsSome, ⊤}
 use Rattle.journal_records.specs.declared.records.Record.{Record}
-use Rattle.session_core.specs.Transcript.{Journals}
+use Rattle.generated_run.specs.SessionCore.Transcript.{Journals}
 use Rattle.catalog_loading.specs.Loaded.{KeyedOwner, Loading, owners_in}
 use Rattle.query_server.specs.Work.{Work, usage, refused, to_answer, to_make, to_count, to_grant, to_check, to_compare, to_serve, to_generate}
 use Rattle.owner_books.specs.Shelves.{Shelf, TellBytes, bytes_on}

@@ -4,7 +4,7 @@ ghost use Rattle.std.specs.Prelude.{◌≡◌, ◌++◌, ◌<◌, ℕ, List, len
 ghost use Rattle.journal_records.specs.declared.records.Record.{Record};
 ghost use Rattle.owner_catalog.specs.Entries.{owner_entry_at};
 ghost use Rattle.catalog_loading.specs.Loaded.{entry_in, header_in, in_versions, new_header, owners_in};
-ghost use Rattle.session_core.specs.Transcript.{Journals};
+ghost use Rattle.generated_run.specs.SessionCore.Transcript.{Journals};
 ghost use Rattle.owner_books.specs.Shelves.{AreAtHome, EachDisk, IsOnlySynced, StandsStill, bytes_on};
 ghost use Rattle.owner_books.specs.Bays.{HasDiskCause, KeepsBay};
 ghost use Rattle.owner_books.specs.Opened.{AreOpened, IsOpened};

@@ -5,7 +5,7 @@ ghost use Rattle.metric_values.specs.Tables.{Dataset};
 ghost use Rattle.wire_lines.specs.Refusal.{refusal_at};
 ghost use Rattle.wire_lines.specs.Reply.{refused, reply_text};
 ghost use Rattle.fz_ast.specs.Signature.{Signature};
-ghost use Rattle.answer_path.specs.Code.{IsProgramRefusal};
+ghost use Rattle.generated_run.specs.AnswerPath.Code.{IsProgramRefusal};
 ghost use Rattle.query_server.specs.Ends.{IsGapOn, IsVerdictOn};
 
 use crate::end::End;

@@ -8,7 +8,7 @@ ghost use Rattle.owner_books.specs.Bays.{HasDiskCause, KeepsBay};
 ghost use Rattle.query_server.specs.Outside.{KeepsFiles};
 ghost use Rattle.owner_lock.specs.Known.{whole_share};
 ghost use Rattle.command_words.specs.Program.{greatest_workers};
-ghost use Rattle.session_core.specs.Code.{AreFresh, ArePasses};
+ghost use Rattle.generated_run.specs.SessionCore.Code.{AreFresh, ArePasses};
 ghost use Rattle.query_server.specs.Work.{to_answer};
 ghost use Rattle.query_server.specs.Run.{run_steps};
 ghost use Rattle.owner_books.specs.Shelves.{AreAtHome};
@@ -17,17 +17,15 @@ ghost use Rattle.query_server.specs.Ends.{IsScriptEnd, IsEndOf, IsStepEnd, statu
 ghost use Rattle.query_server.specs.Taken.{IsTaken};
 
 use crate::end::End;
-use answer_path::Desk;
 use catalog_loading::{Opened, Stop, open_house};
 use fz_outside::files::Files;
 use fz_outside::source::{Source, read_up_to};
-use generated_run::answer_script;
+use generated_run::{Desk, Passes, answer_script};
 use outside_bays::bay::Bay;
 use outside_disks::disk::Disk;
 use outside_links::gate::Gate;
 use owner_books::{Opening, open_desks, put_back};
 use owner_house::house::House;
-use session_core::passes::Passes;
 use std::alloc::Global;
 use std::sync::Wait;
 use std::thread::Threads;

@@ -6,7 +6,7 @@ ghost use Rattle.fz_outside.specs.Faults.{HasRisen};
 ghost use Rattle.owner_house.specs.House.{house_of};
 ghost use Rattle.owner_lock.specs.Known.{whole_share};
 ghost use Rattle.command_words.specs.Program.{greatest_workers};
-ghost use Rattle.session_core.specs.Code.{AreFresh, ArePasses};
+ghost use Rattle.generated_run.specs.SessionCore.Code.{AreFresh, ArePasses};
 ghost use Rattle.query_server.specs.Work.{ended, to_serve};
 ghost use Rattle.query_server.specs.Serve.{serve_steps};
 ghost use Rattle.owner_books.specs.Shelves.{AreAtHome};
@@ -17,9 +17,9 @@ ghost use Rattle.query_server.specs.Service.{IsServiceAt, IsServiceEnd, IsServic
 ghost use Rattle.query_server.specs.Ends.{IsEndOf, IsStepEnd};
 
 use crate::end::End;
-use answer_path::Desk;
 use catalog_loading::{Opened, Stop, open_house};
 use fz_outside::files::Files;
+use generated_run::{Desk, Passes};
 use outside_bays::bay::Bay;
 use outside_disks::disk::Disk;
 use outside_doors::door::Doors;
@@ -27,7 +27,6 @@ use outside_links::gate::Gate;
 use owner_books::{Opening, open_desks, put_back};
 use owner_house::house::House;
 use service_workers::{Posting, Service, serve_all};
-use session_core::passes::Passes;
 use std::alloc::Global;
 use std::sync::Wait;
 use std::thread::Threads;

@@ -8,9 +8,9 @@ use Rattle.std.proofs.lemmas.List.Concat.{flat_map-append}
 use mathlib.Core.List.{IsPrefix}
 use Rattle.budget_ledger.specs.declared.failure.Failure.{Failure}
 use Rattle.wire_lines.specs.Reply.{Replied, reply_text}
-use Rattle.owner_house.specs.Owner.{Owner}
-use Rattle.owner_house.specs.House.{House}
-use Rattle.owner_desk.specs.Passes.{Pass, Told}
+use Rattle.session_core.specs.OwnerHouse.Owner.{Owner}
+use Rattle.session_core.specs.OwnerHouse.House.{House}
+use Rattle.session_core.specs.OwnerDesk.Passes.{Pass, Told}
 use Rattle.session_core.specs.Turns.{Turn, meant_at, session_turns, turns_of}
 use Rattle.session_core.specs.Exchanges.{Exchange, IsPlain}
 use Rattle.session_core.specs.Gathered.{StillShut, added_below, part_of}

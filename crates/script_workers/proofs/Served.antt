@@ -6,7 +6,7 @@ use Rattle.std.proofs.lemmas.List.{map-append}
 use Rattle.std.proofs.lemmas.List.Concat.{flat_map-append}
 use Rattle.std.proofs.lemmas.List.Sums.{sum_by-cons}
 use Rattle.wire_lines.specs.Lines.{lines_of}
-use Rattle.owner_house.specs.House.{House}
+use Rattle.session_core.specs.OwnerHouse.House.{House}
 use Rattle.session_core.specs.Turns.{session_turns, blocks_of}
 use Rattle.session_core.specs.Exchanges.{Exchange}
 use Rattle.session_core.specs.Blocks.{behind_block, first_block, own_blocks, script_blocks}

@@ -8,7 +8,7 @@ use mathlib.Core.Logic.{inl, inr}
 use mathlib.Core.List.{IsPrefix}
 use Rattle.owner_lock.proofs.Lists.{prefix_self, prefix_trans}
 use Rattle.budget_ledger.specs.declared.failure.Failure.{Failure}
-use Rattle.owner_desk.specs.Passes.{Pass, Told}
+use Rattle.session_core.specs.OwnerDesk.Passes.{Pass, Told}
 use Rattle.session_core.specs.Gathered.{StillShut}
 use Rattle.session_core.specs.Bundles.{HasTakenIn, handed_on}
 use Rattle.script_workers.specs.Crews.{HasTakenAll}

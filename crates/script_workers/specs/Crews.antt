@@ -5,8 +5,8 @@ use mathlib.Core.List.{IsPrefix}
 use Rattle.budget_ledger.specs.declared.failure.Failure.{Failure}
 use Rattle.owner_lock.specs.Entries.{Ascends}
 use Rattle.wire_lines.specs.Reply.{reply_text}
-use Rattle.owner_house.specs.House.{House}
-use Rattle.owner_desk.specs.Passes.{Pass, Told}
+use Rattle.session_core.specs.OwnerHouse.House.{House}
+use Rattle.session_core.specs.OwnerDesk.Passes.{Pass, Told}
 use Rattle.session_core.specs.Turns.{session_turns}
 use Rattle.session_core.specs.Exchanges.{Exchange}
 use Rattle.session_core.specs.Gathered.{StillShut}

@@ -2,20 +2,19 @@
 
 ghost use Rattle.std.specs.Prelude.{◌≡◌, ◌^◌, ◌-◌, ◌<◌, ◌≤◌, ℕ, min, sum_by, All, IfErr, IfOk, get_or};
 ghost use Rattle.owner_lock.specs.Known.{whole_share};
-ghost use Rattle.owner_house.specs.House.{house_of};
+ghost use Rattle.session_core.specs.OwnerHouse.House.{house_of};
 ghost use Rattle.session_core.specs.Blocks.{script_blocks};
 ghost use Rattle.session_core.specs.Code.{AreFresh, ArePasses, room_for_lines};
 ghost use Rattle.session_core.specs.Worked.{HasWorked, HaveAddedNone};
 
 use crate::crew::{bring_in, hire_all, work};
 use crate::order::put_in_order;
-use answer_path::Desk;
 use fz_outside::words::Streams;
 use outside_disks::disk::Disk;
 use outside_links::gate::Gate;
-use owner_house::house::House;
 use session_core::blocks::pass_block;
 use session_core::passes::Passes;
+use session_core::{Desk, House};
 use std::alloc::{AllocError, Global};
 use std::sync::Wait;
 use std::thread::Threads;

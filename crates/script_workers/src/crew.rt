@@ -1,19 +1,18 @@
 //! The crew of workers: hired, at work, and brought in.
 
 ghost use Rattle.std.specs.Prelude.{◌≡◌, ◌+◌, ◌<◌, ◌≤◌, [], ℕ, length, map, sum_by, All, OnOk, get_or, slice_index_or, vec_capacity};
-ghost use Rattle.owner_house.specs.House.{house_of};
+ghost use Rattle.session_core.specs.OwnerHouse.House.{house_of};
 ghost use Rattle.session_core.specs.Code.{ArePasses, pass_at};
 ghost use Rattle.script_workers.specs.Crews.{HasDone, HasRoomFor, HasTakenAll, IsHired, needed};
 
 use crate::needs::needs_of_all;
 use crate::worker::{Worker, hire, serve};
-use answer_path::Desk;
 use fz_outside::words::Streams;
 use outside_disks::disk::Disk;
 use outside_links::gate::Gate;
-use owner_house::house::House;
 use session_core::passes::{Passes, Token};
 use session_core::server::Server;
+use session_core::{Desk, House};
 use std::alloc::{AllocError, Global};
 use std::sync::Wait;
 use std::thread::{self, Threads};

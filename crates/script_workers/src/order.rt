@@ -8,7 +8,7 @@ ghost use Rattle.script_workers.specs.Texts.{KeepsTexts, in_all};
 
 use crate::crew::MOST_WORKERS;
 use crate::worker::Worker;
-use owner_desk::Knows;
+use session_core::Knows;
 use session_core::blocks::pass_block;
 
 // Puts a text at the end, for which there is room.

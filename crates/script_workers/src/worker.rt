@@ -2,7 +2,7 @@
 
 ghost use Rattle.std.specs.Prelude.{◌≡◌, ◌+◌, ◌++◌, ◌<◌, ◌≤◌, [], ◌∷◌, List, ℕ, length, map, All, IfErr, IfOk, None, vec_capacity};
 ghost use Rattle.wire_lines.specs.Lines.{lines_of};
-ghost use Rattle.owner_house.specs.House.{house_of};
+ghost use Rattle.session_core.specs.OwnerHouse.House.{house_of};
 ghost use Rattle.session_core.specs.Turns.{session_turns};
 ghost use Rattle.session_core.specs.Exchanges.{Exchange};
 ghost use Rattle.session_core.specs.Blocks.{behind_block, first_block};
@@ -13,15 +13,14 @@ ghost use Rattle.script_workers.specs.Crews.{AreNeeds, HasDone, HasRoomFor, IsHi
 
 use crate::needs::Needs;
 use crate::texts::Texts;
-use answer_path::Desk;
 use fz_outside::words::Streams;
 use outside_disks::disk::Disk;
 use outside_links::gate::Gate;
-use owner_desk::Knows;
 use session_core::blocks::pass_block;
 use session_core::passes::{Bundle, Passes, Token};
 use session_core::script::answer_block;
 use session_core::server::Server;
+use session_core::{Desk, Knows};
 use std::alloc::{AllocError, Global};
 use std::sync::Wait;
 

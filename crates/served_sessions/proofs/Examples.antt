@@ -20,27 +20,27 @@ use Rattle.outside_links.specs.Links.{shown}
 use Rattle.owner_house.specs.Owner.{Owner}
 use Rattle.owner_house.specs.House.{House, house_of}
 use Rattle.owner_desk.specs.Passes.{Pass, Told}
-use Rattle.answer_path.specs.Demand.{asks}
-use Rattle.answer_path.specs.Met.{IsMetExactly}
-use Rattle.answer_path.specs.Noise.{noise_at}
-use Rattle.answer_path.specs.Shut.{unshut, StaysShut, ShutsBy}
-use Rattle.answer_path.specs.Verdict.{granted}
-use Rattle.answer_path.specs.Answered.{HasWorthIn, outcome_reply, granted_record, IsAnswered}
-use Rattle.answer_path.proofs.Answering.{money_says}
-use Rattle.session_core.specs.Code.{AreServed, GoesOn, IsClosedWith, found_by, fresh_pass, pass_at}
-use Rattle.session_core.specs.Meant.{meant_by}
-use Rattle.session_core.specs.Exchanges.{Exchange}
-use Rattle.session_core.specs.Gathered.{part_of, IsAnsweredOn, AreGathered, StillShut, AreShut}
-use Rattle.session_core.specs.Served.{AnswersOn, ShutsFor, ShutsOn}
-use Rattle.session_core.specs.Transcript.{Journals, LeadExactly}
-use Rattle.session_core.proofs.Exactly.{answers_on}
-use Rattle.session_core.proofs.Examples.{three_rows, the_owner, a_query, an_ask, a_grant, made, only, outcome_with, settled_with, size_asked, three_value, turn, quiet, ask_line}
-use Rattle.held_sessions.specs.Lines.{AreKnown}
-use Rattle.held_sessions.specs.Session.{IsSession}
-use Rattle.held_sessions.specs.SessionEnds.{Bye, WriteFault}
+use Rattle.successive_runs.specs.AnswerPath.Demand.{asks}
+use Rattle.successive_runs.specs.AnswerPath.Met.{IsMetExactly}
+use Rattle.successive_runs.specs.AnswerPath.Noise.{noise_at}
+use Rattle.successive_runs.specs.AnswerPath.Shut.{unshut, StaysShut, ShutsBy}
+use Rattle.successive_runs.specs.AnswerPath.Verdict.{granted}
+use Rattle.successive_runs.specs.AnswerPath.Answered.{HasWorthIn, outcome_reply, granted_record, IsAnswered}
+use Rattle.successive_runs.proofs.AnswerPath.Answering.{money_says}
+use Rattle.successive_runs.specs.SessionCore.Code.{AreServed, GoesOn, IsClosedWith, found_by, fresh_pass, pass_at}
+use Rattle.successive_runs.specs.SessionCore.Meant.{meant_by}
+use Rattle.successive_runs.specs.SessionCore.Exchanges.{Exchange}
+use Rattle.successive_runs.specs.SessionCore.Gathered.{part_of, IsAnsweredOn, AreGathered, StillShut, AreShut}
+use Rattle.successive_runs.specs.SessionCore.Served.{AnswersOn, ShutsFor, ShutsOn}
+use Rattle.successive_runs.specs.SessionCore.Transcript.{Journals, LeadExactly}
+use Rattle.successive_runs.proofs.SessionCore.Exactly.{answers_on}
+use Rattle.successive_runs.proofs.SessionCore.Examples.{three_rows, the_owner, a_query, an_ask, a_grant, made, only, outcome_with, settled_with, size_asked, three_value, turn, quiet, ask_line}
+use Rattle.successive_runs.specs.HeldSessions.Lines.{AreKnown}
+use Rattle.successive_runs.specs.HeldSessions.Session.{IsSession}
+use Rattle.successive_runs.specs.HeldSessions.SessionEnds.{Bye, WriteFault}
 use Rattle.successive_runs.specs.Life.{Run, IsRun, AreRuns}
-use Rattle.held_sessions.specs.Sittings.{Sitting, FollowOn, all_exchanges, is_sent, whole_count}
-use Rattle.held_sessions.specs.Kept.{AreHeld, IsKept, IsShift, AreShifts}
+use Rattle.successive_runs.specs.HeldSessions.Sittings.{Sitting, FollowOn, all_exchanges, is_sent, whole_count}
+use Rattle.successive_runs.specs.HeldSessions.Kept.{AreHeld, IsKept, IsShift, AreShifts}
 use Rattle.served_sessions.specs.Runs.{IsStoppedBehind, AreStopped, MayAllFollow, run_of, IsServiceRun, AreServiceRuns}
 use Rattle.served_sessions.proofs.Runs.{ended_run, stopped_run, crew_run}
 

@@ -17,32 +17,32 @@ use Rattle.owner_house.specs.Owner.{Owner}
 use Rattle.owner_house.specs.House.{House}
 use Rattle.owner_desk.specs.Passes.{Pass, Told, records_told}
 use Rattle.owner_desk.proofs.Own.{records_numbered}
-use Rattle.owner_history.proofs.Prefixes.{prefix_self, prefix_by, prefix_trans}
-use Rattle.answer_path.specs.Demand.{Demand}
-use Rattle.session_core.specs.Meant.{wants}
-use Rattle.session_core.specs.Turns.{meant_at}
-use Rattle.session_core.specs.Exchanges.{Exchange, is_of, told_of}
-use Rattle.session_core.specs.Served.{AnswersOn}
-use Rattle.session_core.specs.Transcript.{Journals, first_new, MeetsExactly, LeadExactly}
-use Rattle.session_core.specs.Gathered.{one_worker, part_of, AreGathered, AreShut}
-use Rattle.session_core.specs.Code.{found_by}
-use Rattle.session_core.proofs.Exactly.{answers_on, adds_in_order}
-use Rattle.held_sessions.specs.Growing.{IsMetOn}
-use Rattle.held_sessions.proofs.Comes.{slice_take}
-use Rattle.held_sessions.proofs.Exact.{exact}
-use Rattle.held_sessions.proofs.Growing.{growing_from}
-use Rattle.held_sessions.proofs.Locals.{part_has}
+use Rattle.successive_runs.proofs.OwnerHistory.Prefixes.{prefix_self, prefix_by, prefix_trans}
+use Rattle.successive_runs.specs.AnswerPath.Demand.{Demand}
+use Rattle.successive_runs.specs.SessionCore.Meant.{wants}
+use Rattle.successive_runs.specs.SessionCore.Turns.{meant_at}
+use Rattle.successive_runs.specs.SessionCore.Exchanges.{Exchange, is_of, told_of}
+use Rattle.successive_runs.specs.SessionCore.Served.{AnswersOn}
+use Rattle.successive_runs.specs.SessionCore.Transcript.{Journals, first_new, MeetsExactly, LeadExactly}
+use Rattle.successive_runs.specs.SessionCore.Gathered.{one_worker, part_of, AreGathered, AreShut}
+use Rattle.successive_runs.specs.SessionCore.Code.{found_by}
+use Rattle.successive_runs.proofs.SessionCore.Exactly.{answers_on, adds_in_order}
+use Rattle.successive_runs.specs.HeldSessions.Growing.{IsMetOn}
+use Rattle.successive_runs.proofs.HeldSessions.Comes.{slice_take}
+use Rattle.successive_runs.proofs.HeldSessions.Exact.{exact}
+use Rattle.successive_runs.proofs.HeldSessions.Growing.{growing_from}
+use Rattle.successive_runs.proofs.HeldSessions.Locals.{part_has}
 use Rattle.successive_runs.specs.Left.{IsLeft}
 use Rattle.successive_runs.specs.Life.{Run, IsRun, AreRuns}
 use Rattle.successive_runs.proofs.Files.{moment_stands}
 use Rattle.successive_runs.proofs.Fronts.{prefix_front}
-use Rattle.held_sessions.specs.Sittings.{Sitting, all_exchanges, is_sent}
-use Rattle.held_sessions.specs.Kept.{AreHeld, AreShifts}
+use Rattle.successive_runs.specs.HeldSessions.Sittings.{Sitting, all_exchanges, is_sent}
+use Rattle.successive_runs.specs.HeldSessions.Kept.{AreHeld, AreShifts}
 use Rattle.served_sessions.specs.Runs.{MayAllFollow, records_upto, IsStoppedBehind, AreStopped, run_of, IsServiceRun, AreServiceRuns}
-use Rattle.held_sessions.proofs.Lists.{prefix_map, prefix_behind}
+use Rattle.successive_runs.proofs.HeldSessions.Lists.{prefix_map, prefix_behind}
 use Rattle.served_sessions.proofs.Splits.{lead_split}
-use Rattle.held_sessions.proofs.Written.{sent_within}
-use Rattle.held_sessions.proofs.Promises.{row_speaker, crew_speaker, row_gathered}
+use Rattle.successive_runs.proofs.HeldSessions.Written.{sent_within}
+use Rattle.successive_runs.proofs.HeldSessions.Promises.{row_speaker, crew_speaker, row_gathered}
 
 module _ (house : House) (draws : ℕ → ℕ → ℕ → ℕ) (o : ℕ) (found : List Record) (xs : List Exchange) (records : List Record) (all : AreGathered house draws 1 one_worker o found xs records) where
   abbrev start : ℕ

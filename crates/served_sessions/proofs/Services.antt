@@ -14,18 +14,18 @@ use Rattle.wire_lines.specs.declared.refusal.DiskRefusal.TheVariants.{Closed, Fa
 use Rattle.owner_house.specs.Owner.{Owner}
 use Rattle.owner_house.specs.House.{House, house_of, owner_at}
 use Rattle.owner_house.proofs.Owners.{owner_there, owners_length, register_owners}
-use Rattle.owner_history.specs.Sound.{IsFound}
-use Rattle.answer_path.specs.Demand.{asks}
-use Rattle.answer_path.specs.Query.{Query}
-use Rattle.answer_path.specs.Shut.{IsPendingOf, disk_word}
-use Rattle.session_core.specs.Code.{IsAnalyst}
-use Rattle.session_core.specs.Meant.{wants}
-use Rattle.session_core.specs.Turns.{meant_at}
-use Rattle.session_core.specs.Exchanges.{Exchange}
-use Rattle.session_core.specs.Gathered.{AreGathered, AreShut}
-use Rattle.session_core.specs.Transcript.{Journals}
-use Rattle.held_sessions.specs.Causes.{AreCaused}
-use Rattle.held_sessions.proofs.Causes.{caused}
+use Rattle.successive_runs.specs.OwnerHistory.Sound.{IsFound}
+use Rattle.successive_runs.specs.AnswerPath.Demand.{asks}
+use Rattle.successive_runs.specs.AnswerPath.Query.{Query}
+use Rattle.successive_runs.specs.AnswerPath.Shut.{IsPendingOf, disk_word}
+use Rattle.successive_runs.specs.SessionCore.Code.{IsAnalyst}
+use Rattle.successive_runs.specs.SessionCore.Meant.{wants}
+use Rattle.successive_runs.specs.SessionCore.Turns.{meant_at}
+use Rattle.successive_runs.specs.SessionCore.Exchanges.{Exchange}
+use Rattle.successive_runs.specs.SessionCore.Gathered.{AreGathered, AreShut}
+use Rattle.successive_runs.specs.SessionCore.Transcript.{Journals}
+use Rattle.successive_runs.specs.HeldSessions.Causes.{AreCaused}
+use Rattle.successive_runs.proofs.HeldSessions.Causes.{caused}
 use Rattle.catalog_loading.specs.Loaded.{IsLoading, Loading, header_of, owners_in}
 use Rattle.successive_runs.specs.Shelves.{Shelf}
 use Rattle.successive_runs.specs.Serve.{WereHeld}
@@ -33,9 +33,9 @@ use Rattle.successive_runs.specs.Run.{WentOn}
 use Rattle.successive_runs.specs.Life.{none_sent}
 use Rattle.successive_runs.specs.Kept.{MayBeGoneOnFrom}
 use Rattle.successive_runs.proofs.Files.{its_disk, lines_are_runs, lines_may_be_gone_on}
-use Rattle.held_sessions.specs.Kept.{AreShifts}
-use Rattle.held_sessions.proofs.Promises.{crew_speaker}
-use Rattle.held_sessions.proofs.Together.{together}
+use Rattle.successive_runs.specs.HeldSessions.Kept.{AreShifts}
+use Rattle.successive_runs.proofs.HeldSessions.Promises.{crew_speaker}
+use Rattle.successive_runs.proofs.HeldSessions.Together.{together}
 use Rattle.served_sessions.specs.Services.{IsLeftOfService, ItsDiskFailed}
 
 module _ (loading : Loading) (key : List ℕ) (workers : ℕ) (old new : Shelf) (found : Journals) (lawful : IsLoading loading) (were : WereHeld loading key workers old new found) where

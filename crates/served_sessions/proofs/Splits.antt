@@ -3,10 +3,10 @@ use Rattle.std.proofs.Common.{ℕ, ◌==◌, Bool, true, false, List, [], ◌∷
 use Rattle.std.specs.Prelude.{MatchBool}
 use Rattle.owner_house.specs.Owner.{Owner}
 use Rattle.owner_house.specs.House.{House}
-use Rattle.answer_path.specs.Demand.{Demand}
-use Rattle.session_core.specs.Meant.{Meant, says, wants}
-use Rattle.session_core.specs.Turns.{meant_at}
-use Rattle.session_core.specs.Exchanges.{Exchange, TurnLeads, Lead}
+use Rattle.successive_runs.specs.AnswerPath.Demand.{Demand}
+use Rattle.successive_runs.specs.SessionCore.Meant.{Meant, says, wants}
+use Rattle.successive_runs.specs.SessionCore.Turns.{meant_at}
+use Rattle.successive_runs.specs.SessionCore.Exchanges.{Exchange, TurnLeads, Lead}
 
 module _ {S : Type 0} (house : House) (o : ℕ) (M : Owner → Demand → S → Exchange → S → Type 0) where
   turn_split : (m : Meant) (seen : S) (x : Exchange) (Whole : S → Type 0) (Front : S → S → Type 0) (Rest : S → Type 0)

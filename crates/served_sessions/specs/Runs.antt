@@ -7,15 +7,15 @@ use Rattle.budget_ledger.specs.declared.failure.Failure.{Failure}
 use Rattle.owner_desk.specs.Passes.{Pass, records_told}
 use Rattle.owner_house.specs.Owner.{Owner}
 use Rattle.owner_house.specs.House.{House}
-use Rattle.session_core.specs.Exchanges.{Exchange, told_of}
-use Rattle.session_core.specs.Gathered.{one_worker, part_of}
-use Rattle.session_core.specs.Served.{AnswersOn}
-use Rattle.session_core.specs.Transcript.{Journals, first_new}
-use Rattle.session_core.specs.Code.{found_by}
+use Rattle.successive_runs.specs.SessionCore.Exchanges.{Exchange, told_of}
+use Rattle.successive_runs.specs.SessionCore.Gathered.{one_worker, part_of}
+use Rattle.successive_runs.specs.SessionCore.Served.{AnswersOn}
+use Rattle.successive_runs.specs.SessionCore.Transcript.{Journals, first_new}
+use Rattle.successive_runs.specs.SessionCore.Code.{found_by}
 use Rattle.successive_runs.specs.Left.{IsLeft}
 use Rattle.successive_runs.specs.Life.{Run, MayHaveGranted}
-use Rattle.held_sessions.specs.Sittings.{Sitting, all_exchanges}
-use Rattle.held_sessions.specs.Kept.{AreHeld}
+use Rattle.successive_runs.specs.HeldSessions.Sittings.{Sitting, all_exchanges}
+use Rattle.successive_runs.specs.HeldSessions.Kept.{AreHeld}
 
 -- A record that couldn't be appended to an owner's journal may follow those that are there.
 abbrev pub MayAllFollow : House → (records : Journals) → (closed : ℕ → Option Failure) → Type 0

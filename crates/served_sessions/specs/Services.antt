@@ -7,7 +7,7 @@ use Rattle.journal_records.specs.declared.records.Record.{Record}
 use Rattle.budget_journal.specs.Journals.{Stands}
 use Rattle.owner_house.specs.Owner.{Owner}
 use Rattle.owner_house.specs.House.{house_of}
-use Rattle.session_core.specs.Transcript.{Journals}
+use Rattle.successive_runs.specs.SessionCore.Transcript.{Journals}
 use Rattle.catalog_loading.specs.Loaded.{Loading, header_of, in_versions}
 use Rattle.successive_runs.specs.ServiceOver.{Door}
 use Rattle.successive_runs.specs.PostedService.{Service}

@@ -9,12 +9,12 @@ use Rattle.outside_links.specs.Links.{Connection, shown}
 use Rattle.outside_doors.specs.Doors.{HasCome, HasServed}
 use Rattle.owner_house.specs.House.{House}
 use Rattle.owner_desk.specs.Passes.{Pass}
-use Rattle.session_core.specs.Turns.{blocks_of, session_turns, turns_of}
-use Rattle.session_core.specs.Exchanges.{Exchange}
-use Rattle.session_core.proofs.Exchanges.{all_append}
-use Rattle.session_serve.specs.Session.{IsSession, reply_texts}
-use Rattle.session_serve.specs.declared.serve.SessionEnd.{SessionEnd}
-use Rattle.session_serve.specs.declared.serve.SessionEnd.TheVariants.{NoMemory as HadNoMemory}
+use Rattle.held_sessions.specs.SessionCore.Turns.{blocks_of, session_turns, turns_of}
+use Rattle.held_sessions.specs.SessionCore.Exchanges.{Exchange}
+use Rattle.held_sessions.proofs.SessionCore.Exchanges.{all_append}
+use Rattle.held_sessions.specs.Session.{IsSession, reply_texts}
+use Rattle.held_sessions.specs.SessionEndType.{SessionEnd}
+use Rattle.held_sessions.specs.SessionEnds.{NoMemory as HadNoMemory}
 use Rattle.held_sessions.specs.Sittings.{Sitting, FollowOn}
 use Rattle.service_workers.specs.declared.posting.Service.{Service}
 use Rattle.service_workers.specs.declared.posting.Service.TheVariants.{Served, DoorFault, NoMemory}

@@ -7,11 +7,11 @@ use mathlib.Core.List.{IsPrefix}
 use Rattle.owner_house.specs.Owner.{Owner}
 use Rattle.owner_house.specs.House.{House}
 use Rattle.owner_desk.specs.Passes.{Pass}
-use Rattle.session_core.specs.Exchanges.{Exchange}
-use Rattle.session_core.specs.Gathered.{StillShut, added_below, part_of}
-use Rattle.session_core.specs.Bundles.{Bundle, handed_on}
-use Rattle.session_core.specs.Code.{GoesOn, no_pass, pass_at}
-use Rattle.session_core.specs.Worked.{IsBroughtIn}
+use Rattle.held_sessions.specs.SessionCore.Exchanges.{Exchange}
+use Rattle.held_sessions.specs.SessionCore.Gathered.{StillShut, added_below, part_of}
+use Rattle.held_sessions.specs.SessionCore.Bundles.{Bundle, handed_on}
+use Rattle.held_sessions.specs.SessionCore.Code.{GoesOn, no_pass, pass_at}
+use Rattle.held_sessions.specs.SessionCore.Worked.{IsBroughtIn}
 use Rattle.held_sessions.proofs.Assembles.{added_same}
 use Rattle.held_sessions.proofs.Dealing.{in_some_order}
 use Rattle.held_sessions.specs.Sittings.{Sitting, FollowOn, all_exchanges}

@@ -2,8 +2,8 @@
 use Rattle.std.specs.Prelude.{◌≡◌, ℕ, List, [], ◌∷◌}
 use Rattle.owner_desk.specs.Passes.{Pass}
 use Rattle.owner_house.specs.House.{House}
-use Rattle.session_serve.specs.declared.serve.SessionEnd.{SessionEnd}
-use Rattle.session_serve.specs.declared.serve.SessionEnd.TheVariants.{NoMemory}
+use Rattle.held_sessions.specs.SessionEndType.{SessionEnd}
+use Rattle.held_sessions.specs.SessionEnds.{NoMemory}
 use Rattle.held_sessions.specs.Sittings.{Sitting, FollowOn}
 use Rattle.service_workers.specs.declared.posting.Service.{Service}
 use Rattle.service_workers.specs.declared.posting.Service.TheVariants.{Served, DoorFault, NoMemory as WantsMemory}

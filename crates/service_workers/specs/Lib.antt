@@ -1,6 +1,7 @@
 pub mod Services
 pub mod Code
 -- passed on to the crates above
-pub use Rattle.held_sessions.specs.Sittings
-pub use Rattle.held_sessions.specs.Kept
+pub mod HeldSessions
 pub use Rattle.held_sessions.specs.Crews
+pub use Rattle.held_sessions.specs.Kept
+pub use Rattle.held_sessions.specs.Sittings

@@ -5,7 +5,7 @@ use Rattle.fz_outside.specs.Faults.{HasRisen}
 use Rattle.outside_links.specs.Links.{Connection}
 use Rattle.owner_house.specs.House.{House}
 use Rattle.owner_desk.specs.Passes.{Pass}
-use Rattle.session_serve.specs.declared.serve.SessionEnd.TheVariants.{NoMemory as HadNoMemory}
+use Rattle.held_sessions.specs.SessionEnds.{NoMemory as HadNoMemory}
 use Rattle.held_sessions.specs.Sittings.{Sitting}
 use Rattle.held_sessions.specs.Crews.{AreHeldBy}
 use Rattle.service_workers.specs.declared.posting.Service.{Service}

@@ -4,21 +4,19 @@ ghost use Rattle.std.specs.Prelude.{◌≡◌, ◌+◌, ◌++◌, ◌^◌, ◌<�
 ghost use Rattle.std.specs.Prelude.{map, sum_by, All, IfErr, IfOk, OnOk, get_or, slice_index_or, vec_capacity};
 ghost use Rattle.word_streams.specs.Draws.{draws_of};
 ghost use Rattle.owner_house.specs.House.{house_of};
-ghost use Rattle.session_core.specs.Bundles.{given_halves, handed_on, kept_halves};
-ghost use Rattle.session_core.specs.Code.{ArePasses, pass_at};
+ghost use Rattle.held_sessions.specs.SessionCore.Bundles.{given_halves, handed_on, kept_halves};
+ghost use Rattle.held_sessions.specs.SessionCore.Code.{ArePasses, pass_at};
 ghost use Rattle.script_workers.specs.Crews.{HasTakenAll, needed};
 ghost use Rattle.service_workers.specs.Services.{door_of};
 ghost use Rattle.service_workers.specs.Code.{HasAttended, worse_of, worst_of};
 
 use crate::posting::{Posting, Service};
 use crate::worker::{Place, Worker, attend_own};
-use answer_path::Desk;
 use outside_disks::disk::Disk;
 use outside_doors::door::Doors;
 use outside_links::gate::Gate;
 use owner_house::house::House;
-use session_core::passes::{Passes, Token};
-use session_core::server::Server;
+use script_workers::{Desk, Passes, Server, Token};
 use std::alloc::{AllocError, Global};
 use std::sync::Wait;
 use std::thread::{self, Threads};

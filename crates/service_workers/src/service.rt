@@ -4,18 +4,17 @@ ghost use Rattle.std.specs.Prelude.{◌≡◌, ◌+◌, ◌^◌, ◌<◌, ◌≤
 ghost use Rattle.owner_lock.specs.Known.{whole_share};
 ghost use Rattle.word_streams.specs.Draws.{draws_of};
 ghost use Rattle.owner_house.specs.House.{house_of};
-ghost use Rattle.session_core.specs.Code.{AreFresh, ArePasses};
-ghost use Rattle.session_core.specs.Worked.{HaveAddedNone};
+ghost use Rattle.held_sessions.specs.SessionCore.Code.{AreFresh, ArePasses};
+ghost use Rattle.held_sessions.specs.SessionCore.Worked.{HaveAddedNone};
 ghost use Rattle.service_workers.specs.Services.{IsService, door_of};
 
 use crate::crew::{bring_in, hire_all, work};
 use crate::posting::{Posting, Service};
-use answer_path::Desk;
 use outside_disks::disk::Disk;
 use outside_doors::door::Doors;
 use outside_links::gate::Gate;
 use owner_house::house::House;
-use session_core::passes::Passes;
+use script_workers::{Desk, Passes};
 use std::alloc::{AllocError, Global};
 use std::sync::Wait;
 use std::thread::Threads;

@@ -3,21 +3,20 @@
 ghost use Rattle.std.specs.Prelude.{◌≡◌, ◌≢◌, ◌+◌, ◌*◌, ◌-◌, ◌^◌, ◌<◌, ◌≤◌, min, IsErr, IfOk, MatchBool, OnErr};
 ghost use Rattle.fz_outside.specs.Faults.{HasCause};
 ghost use Rattle.owner_house.specs.House.{house_of};
-ghost use Rattle.session_core.specs.Code.{ArePasses};
-ghost use Rattle.session_serve.specs.declared.serve.SessionEnd.TheVariants.{NoMemory};
+ghost use Rattle.held_sessions.specs.SessionCore.Code.{ArePasses};
+ghost use Rattle.held_sessions.specs.SessionEnds.{NoMemory};
 ghost use Rattle.service_workers.specs.Services.{door_of};
 ghost use Rattle.service_workers.specs.Code.{HasAttended, HasHeld};
 
 use crate::posting::{Posting, Service};
 use fz_outside::Failed;
 use fz_outside::words::Streams;
+use held_sessions::{SessionEnd, serve};
 use outside_disks::disk::Disk;
 use outside_doors::door::Doors;
 use outside_links::gate::Gate;
 use owner_desk::Knows;
-use session_core::passes::{Bundle, Passes, Token};
-use session_core::server::Server;
-use session_serve::serve::{SessionEnd, serve};
+use script_workers::{Bundle, Passes, Server, Token};
 use std::sync::Wait;
 
 /// A worker's passes, its door, and how its work ended. It is generic in what its passes hold, so that it may go to a thread of its own.

@@ -5,9 +5,9 @@ use Rattle.std.proofs.lemmas.Option.{slice_get-get_or}
 use Rattle.std.proofs.lemmas.Simd.{map-map}
 use Rattle.std.proofs.Math.Seq.{map-set_same}
 use Rattle.atomic_table.specs.Seated.{TableId}
-use Rattle.owner_house.specs.House.{House, owner_at}
-use Rattle.owner_desk.specs.Passes.{Pass}
-use Rattle.owner_desk.specs.Shared.{IsKept, Shared}
+use Rattle.owner_history.specs.OwnerHouse.House.{House, owner_at}
+use Rattle.owner_history.specs.OwnerDesk.Passes.{Pass}
+use Rattle.owner_history.specs.OwnerDesk.Shared.{IsKept, Shared}
 use Rattle.session_core.specs.Bundles.{Bundle, bundle_of, given_halves, handed_on, kept_halves}
 use Rattle.session_core.specs.Code.{ArePasses, no_pass, pass_at}
 

@@ -2,7 +2,7 @@
 use Rattle.std.proofs.Common.{◌≡◌, ℕ, zero, suc, ◌+◌, ◌-◌, ◌%◌, ◌<◌, ◌==◌, Bool, true, false, List, [], ◌∷◌, ◌++◌, length, Option, refl, sym, ◌∙◌, ap, arith, nat_lt, mod-lt, lt-ltb, le-ltb}
 use Rattle.std.specs.Prelude.{if◌then◌else◌}
 use Rattle.std.specs.List.{flat_map}
-use Rattle.owner_house.specs.House.{House}
+use Rattle.owner_history.specs.OwnerHouse.House.{House}
 use Rattle.session_core.specs.Meant.{meant_by, next_who}
 use Rattle.session_core.specs.Turns.{session_turns}
 use Rattle.session_core.specs.Blocks.{own_blocks, crew_of}

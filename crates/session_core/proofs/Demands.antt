@@ -20,29 +20,29 @@ use Rattle.fz_ast.specs.Signature.{Signature}
 use Rattle.budget_ledger.specs.declared.failure.Failure.{Failure}
 use Rattle.wire_lines.specs.Reply.{Replied, refused}
 use Rattle.wire_lines.specs.Refusal.{by_program, by_money, no_memory}
-use Rattle.owner_catalog.specs.Entries.{PartitionEntry}
-use Rattle.part_views.specs.Holding.{Holding}
-use Rattle.part_views.specs.Views.{signature_in}
-use Rattle.owner_house.specs.Owner.{IsOwnerOf, Owner, signature_of_view, rows_of_view, HasData}
-use Rattle.owner_desk.specs.Passes.{Told, closing, records_told}
-use Rattle.answer_path.specs.Query.{Query}
-use Rattle.answer_path.specs.Demand.{Demand, asks, recalls, balances}
-use Rattle.answer_path.specs.Reading.{Reading, IsReading}
-use Rattle.answer_path.specs.Code.{AsksTooManyWalks}
-use Rattle.answer_path.specs.Judgement.{HasTooManyWalks, Judgement, refused_for, accepted, judgement_of}
-use Rattle.answer_path.specs.Program.{IsCharged}
-use Rattle.answer_path.specs.Noise.{noise_at}
-use Rattle.answer_path.specs.Verdict.{Verdict, program_refused, money_refused, granted, money_refusal, ask_for, verdict_by_money, IsVerdictBy, IsVerdict}
-use Rattle.answer_path.specs.Answered.{outcome_reply, granted_record, grant_records, HasWorthIn, IsSettledAt, IsSettledBy, IsUnrecorded, IsAnsweredBy, IsAnswered, IsAskedBy, IsAsked}
-use Rattle.answer_path.specs.Standing.{IsRecalled, IsBalance, recall_reply, left_reply}
-use Rattle.answer_path.specs.Met.{IsMet, IsMetExactly}
-use Rattle.answer_path.specs.Laws.{OnePassCloses}
-use Rattle.answer_path.specs.Shut.{Shut, StaysShut, disk_word, IsPendingOf, FailsBy, ShutsBy}
-use Rattle.answer_path.proofs.Alone.{alone_is_met, exactly_is_met}
-use Rattle.answer_path.proofs.Readings.{one_reading}
-use Rattle.answer_path.proofs.Programs.{one_value}
-use Rattle.answer_path.proofs.Charged.{charged_have_values, accepted_finite}
-use Rattle.answer_path.proofs.Existing.{every_reading}
+use Rattle.owner_history.specs.OwnerCatalog.Entries.{PartitionEntry}
+use Rattle.owner_history.specs.PartViews.Holding.{Holding}
+use Rattle.owner_history.specs.PartViews.Views.{signature_in}
+use Rattle.owner_history.specs.OwnerHouse.Owner.{IsOwnerOf, Owner, signature_of_view, rows_of_view, HasData}
+use Rattle.owner_history.specs.OwnerDesk.Passes.{Told, closing, records_told}
+use Rattle.owner_history.specs.AnswerPath.Query.{Query}
+use Rattle.owner_history.specs.AnswerPath.Demand.{Demand, asks, recalls, balances}
+use Rattle.owner_history.specs.AnswerPath.Reading.{Reading, IsReading}
+use Rattle.owner_history.specs.AnswerPath.Code.{AsksTooManyWalks}
+use Rattle.owner_history.specs.AnswerPath.Judgement.{HasTooManyWalks, Judgement, refused_for, accepted, judgement_of}
+use Rattle.owner_history.specs.AnswerPath.Program.{IsCharged}
+use Rattle.owner_history.specs.AnswerPath.Noise.{noise_at}
+use Rattle.owner_history.specs.AnswerPath.Verdict.{Verdict, program_refused, money_refused, granted, money_refusal, ask_for, verdict_by_money, IsVerdictBy, IsVerdict}
+use Rattle.owner_history.specs.AnswerPath.Answered.{outcome_reply, granted_record, grant_records, HasWorthIn, IsSettledAt, IsSettledBy, IsUnrecorded, IsAnsweredBy, IsAnswered, IsAskedBy, IsAsked}
+use Rattle.owner_history.specs.AnswerPath.Standing.{IsRecalled, IsBalance, recall_reply, left_reply}
+use Rattle.owner_history.specs.AnswerPath.Met.{IsMet, IsMetExactly}
+use Rattle.owner_history.specs.AnswerPath.Laws.{OnePassCloses}
+use Rattle.owner_history.specs.AnswerPath.Shut.{Shut, StaysShut, disk_word, IsPendingOf, FailsBy, ShutsBy}
+use Rattle.owner_history.proofs.AnswerPath.Alone.{alone_is_met, exactly_is_met}
+use Rattle.owner_history.proofs.AnswerPath.Readings.{one_reading}
+use Rattle.owner_history.proofs.AnswerPath.Programs.{one_value}
+use Rattle.owner_history.proofs.AnswerPath.Charged.{charged_have_values, accepted_finite}
+use Rattle.owner_history.proofs.AnswerPath.Existing.{every_reading}
 use Rattle.owner_history.specs.Granted.{IsRecallBorneOut}
 use Rattle.owner_history.proofs.Prefixes.{prefix_self, prefix_by, prefix_trans, prefix_length}
 use Rattle.owner_history.proofs.Recalls.{recall_borne}

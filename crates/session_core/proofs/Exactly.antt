@@ -5,9 +5,9 @@ use Rattle.std.specs.List.{enumerate_from}
 use Rattle.journal_records.specs.declared.records.Outcome.{Outcome}
 use Rattle.journal_records.specs.declared.records.Record.{Record}
 use Rattle.budget_core.specs.declared.entry.Grant.{Grant}
-use Rattle.owner_house.specs.House.{House}
-use Rattle.owner_desk.specs.Passes.{Told}
-use Rattle.answer_path.specs.Answered.{outcome_reply}
+use Rattle.owner_history.specs.OwnerHouse.House.{House}
+use Rattle.owner_history.specs.OwnerDesk.Passes.{Told}
+use Rattle.owner_history.specs.AnswerPath.Answered.{outcome_reply}
 use Rattle.owner_history.specs.Granted.{told_settlement}
 use Rattle.session_core.specs.Meant.{Meant, says, wants}
 use Rattle.session_core.specs.Turns.{meant_at}

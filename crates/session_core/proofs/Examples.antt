@@ -15,7 +15,7 @@ use Rattle.budget_core.specs.Cost.{cost_of, budget_of}
 use Rattle.partition_charge.specs.Cost.{cost_of_charges, partition_cost}
 use Rattle.budget_core.specs.Ledger.{money_verdict}
 use Rattle.fz_frac.specs.Lowest.{gcd, gcd_in}
-use Rattle.shape_law.specs.Walk.{depth_limit}
+use Rattle.owner_history.specs.ShapeLaw.Walk.{depth_limit}
 use Rattle.wire_lines.specs.Lines.{lines_of}
 use Rattle.wire_lines.specs.Request.{request_of}
 use Rattle.wire_lines.specs.Reply.{Replied, greeted, answered, ended, refused, reply_text}
@@ -29,26 +29,26 @@ use Rattle.fz_ast.specs.declared.row.Column.TheVariants.{Num}
 use Rattle.fz_ast.specs.Signature.{TableType}
 use Rattle.fz_ast.specs.Types.{NumT}
 use Rattle.metric_values.specs.Values.{NumF}
-use Rattle.owner_catalog.specs.Entries.{TableEntry, OwnerEntry}
+use Rattle.owner_history.specs.OwnerCatalog.Entries.{TableEntry, OwnerEntry}
 use Rattle.sha2.specs.Sha256.{sha256}
-use Rattle.part_views.specs.Holding.{Holding}
-use Rattle.part_views.specs.Views.{signature_in, rows_in}
-use Rattle.owner_house.specs.Owner.{Owner, signature_of_view}
-use Rattle.answer_path.specs.Met.{IsMet, IsMetExactly}
-use Rattle.answer_path.specs.Query.{Query}
-use Rattle.answer_path.specs.Judgement.{judgement_of, HasValue}
-use Rattle.answer_path.specs.Program.{IsCharged}
-use Rattle.answer_path.specs.Noise.{noise_at}
-use Rattle.answer_path.specs.Verdict.{program_refused, money_refused, granted, ask_for, IsVerdict}
-use Rattle.answer_path.specs.Answered.{outcome_reply, granted_record, grant_records, HasWorthIn, IsSettledAt, IsAnswered, IsAsked}
-use Rattle.answer_path.specs.Demand.{asks, balances, recalls}
-use Rattle.answer_path.specs.Reading.{IsReading, read}
-use Rattle.answer_path.proofs.Answering.{money_says}
-use Rattle.answer_path.proofs.Limits.{seven_walk_too_much, six_have_a_plan, unweighed}
-use Rattle.answer_path.proofs.SizePeople.{size_people, size_term, size_reads}
-use Rattle.answer_path.proofs.Told.{planned_walks_little}
+use Rattle.owner_history.specs.PartViews.Holding.{Holding}
+use Rattle.owner_history.specs.PartViews.Views.{signature_in, rows_in}
+use Rattle.owner_history.specs.OwnerHouse.Owner.{Owner, signature_of_view}
+use Rattle.owner_history.specs.AnswerPath.Met.{IsMet, IsMetExactly}
+use Rattle.owner_history.specs.AnswerPath.Query.{Query}
+use Rattle.owner_history.specs.AnswerPath.Judgement.{judgement_of, HasValue}
+use Rattle.owner_history.specs.AnswerPath.Program.{IsCharged}
+use Rattle.owner_history.specs.AnswerPath.Noise.{noise_at}
+use Rattle.owner_history.specs.AnswerPath.Verdict.{program_refused, money_refused, granted, ask_for, IsVerdict}
+use Rattle.owner_history.specs.AnswerPath.Answered.{outcome_reply, granted_record, grant_records, HasWorthIn, IsSettledAt, IsAnswered, IsAsked}
+use Rattle.owner_history.specs.AnswerPath.Demand.{asks, balances, recalls}
+use Rattle.owner_history.specs.AnswerPath.Reading.{IsReading, read}
+use Rattle.owner_history.proofs.AnswerPath.Answering.{money_says}
+use Rattle.owner_history.proofs.AnswerPath.Limits.{seven_walk_too_much, six_have_a_plan, unweighed}
+use Rattle.owner_history.proofs.AnswerPath.SizePeople.{size_people, size_term, size_reads}
+use Rattle.owner_history.proofs.AnswerPath.Told.{planned_walks_little}
 use Rattle.owner_history.specs.Granted.{told_settlement}
-use Rattle.owner_house.specs.House.{Register, house_of, owner_at}
+use Rattle.owner_history.specs.OwnerHouse.House.{Register, house_of, owner_at}
 use Rattle.session_core.specs.Code.{WantsTooManyWalks}
 use Rattle.session_core.specs.Meant.{Meant, meant_by, wants}
 use Rattle.session_core.specs.Turns.{Turn, turns_of}

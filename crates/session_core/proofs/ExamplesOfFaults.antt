@@ -15,16 +15,16 @@ use Rattle.wire_lines.specs.Refusal.{by_line, by_disk, by_number}
 use Rattle.wire_lines.specs.declared.refusal.LineRefusal.TheVariants.{Unknown, NoHello}
 use Rattle.wire_lines.specs.declared.refusal.DiskRefusal.TheVariants.{Closed, Fault}
 use Rattle.wire_lines.specs.declared.refusal.NumberRefusal.TheVariants.{Unknown as NoSuchNumber, NotYours}
-use Rattle.part_views.specs.Views.{signature_in, rows_in}
-use Rattle.owner_house.specs.Owner.{Owner}
-use Rattle.answer_path.specs.Met.{IsMetExactly}
-use Rattle.answer_path.specs.Noise.{noise_at}
-use Rattle.answer_path.specs.Shut.{Shut, unshut, StaysShut, ShutsBy}
-use Rattle.answer_path.specs.Verdict.{granted}
-use Rattle.answer_path.specs.Answered.{granted_record, IsAnswered}
-use Rattle.answer_path.proofs.Answering.{money_says}
-use Rattle.owner_house.specs.House.{house_of}
-use Rattle.answer_path.specs.Demand.{asks, recalls, balances}
+use Rattle.owner_history.specs.PartViews.Views.{signature_in, rows_in}
+use Rattle.owner_history.specs.OwnerHouse.Owner.{Owner}
+use Rattle.owner_history.specs.AnswerPath.Met.{IsMetExactly}
+use Rattle.owner_history.specs.AnswerPath.Noise.{noise_at}
+use Rattle.owner_history.specs.AnswerPath.Shut.{Shut, unshut, StaysShut, ShutsBy}
+use Rattle.owner_history.specs.AnswerPath.Verdict.{granted}
+use Rattle.owner_history.specs.AnswerPath.Answered.{granted_record, IsAnswered}
+use Rattle.owner_history.proofs.AnswerPath.Answering.{money_says}
+use Rattle.owner_history.specs.OwnerHouse.House.{house_of}
+use Rattle.owner_history.specs.AnswerPath.Demand.{asks, recalls, balances}
 use Rattle.session_core.specs.Meant.{says, wants, meant_by}
 use Rattle.session_core.specs.Exchanges.{Exchange}
 use Rattle.session_core.specs.Transcript.{LeadExactly, ClosesBy, ClosesOn}

@@ -4,7 +4,7 @@ use Rattle.wire_lines.specs.Request.{request_of}
 use Rattle.wire_lines.specs.Reply.{greeted, refused}
 use Rattle.wire_lines.specs.Refusal.{by_line}
 use Rattle.wire_lines.specs.declared.refusal.LineRefusal.TheVariants.{Malformed, Unknown}
-use Rattle.owner_house.specs.House.{house_of}
+use Rattle.owner_history.specs.OwnerHouse.House.{house_of}
 use Rattle.session_core.specs.Meant.{Meant, says, meant_by, next_who}
 use Rattle.session_core.proofs.Examples.{three_rows}
 use Rattle.session_core.proofs.ExamplesOfParts.{two_owners}

@@ -14,7 +14,7 @@ use Rattle.fz_ast.specs.Signature.{Signature, TableType, IsSignature}
 use Rattle.fz_ast.specs.declared.row.Column.TheVariants.{Text}
 use Rattle.fz_ast.specs.Rows.{row_type}
 use Rattle.fz_ast.specs.Types.{NumT, TextT}
-use Rattle.shape_law.specs.Walk.{depth_limit}
+use Rattle.owner_history.specs.ShapeLaw.Walk.{depth_limit}
 use Rattle.wire_lines.specs.Lines.{lines_of}
 use Rattle.wire_lines.specs.Request.{request_of}
 use Rattle.wire_lines.specs.Reply.{Replied, greeted, refused, reply_text}
@@ -22,20 +22,20 @@ use Rattle.wire_lines.specs.Refusal.{by_money}
 use Rattle.wire_lines.specs.declared.refusal.MoneyRefusal.TheVariants.{OverBudget as NoBudget}
 use Rattle.metric_values.specs.Typed.{TypedFlat}
 use Rattle.metric_values.specs.Values.{NumF, TextF}
-use Rattle.owner_catalog.specs.Entries.{TableEntry, OwnerEntry}
-use Rattle.part_views.specs.Holding.{Holding}
-use Rattle.part_views.specs.Partitions.{ArePartitions}
-use Rattle.part_views.specs.Views.{signature_in, rows_in}
-use Rattle.owner_house.specs.Owner.{Owner}
-use Rattle.answer_path.specs.Met.{IsMetExactly}
-use Rattle.answer_path.specs.Judgement.{judgement_of, HasValue}
-use Rattle.answer_path.specs.Program.{IsCharged}
-use Rattle.answer_path.specs.Noise.{noise_at}
-use Rattle.answer_path.specs.Verdict.{money_refused}
-use Rattle.answer_path.specs.Answered.{Told, outcome_reply, IsAnswered}
-use Rattle.answer_path.proofs.Answering.{money_says}
-use Rattle.answer_path.proofs.SizePeople.{size_people, size_term, size_reads}
-use Rattle.owner_house.specs.House.{Register, IsHeldBy, IsRegister, house_of, entry_of, owner_named, owner_at}
+use Rattle.owner_history.specs.OwnerCatalog.Entries.{TableEntry, OwnerEntry}
+use Rattle.owner_history.specs.PartViews.Holding.{Holding}
+use Rattle.owner_history.specs.PartViews.Partitions.{ArePartitions}
+use Rattle.owner_history.specs.PartViews.Views.{signature_in, rows_in}
+use Rattle.owner_history.specs.OwnerHouse.Owner.{Owner}
+use Rattle.owner_history.specs.AnswerPath.Met.{IsMetExactly}
+use Rattle.owner_history.specs.AnswerPath.Judgement.{judgement_of, HasValue}
+use Rattle.owner_history.specs.AnswerPath.Program.{IsCharged}
+use Rattle.owner_history.specs.AnswerPath.Noise.{noise_at}
+use Rattle.owner_history.specs.AnswerPath.Verdict.{money_refused}
+use Rattle.owner_history.specs.AnswerPath.Answered.{Told, outcome_reply, IsAnswered}
+use Rattle.owner_history.proofs.AnswerPath.Answering.{money_says}
+use Rattle.owner_history.proofs.AnswerPath.SizePeople.{size_people, size_term, size_reads}
+use Rattle.owner_history.specs.OwnerHouse.House.{Register, IsHeldBy, IsRegister, house_of, entry_of, owner_named, owner_at}
 use Rattle.session_core.specs.Meant.{meant_by}
 use Rattle.session_core.specs.Exchanges.{Exchange, told_of}
 use Rattle.session_core.specs.Transcript.{Journals, LeadExactly, IsScriptRun, IsScriptWritten, IsTranscript}

@@ -13,7 +13,7 @@ use Rattle.fz_frac.specs.Lowest.{gcd, gcd_in}
 use Rattle.fz_ast.specs.declared.row.Column.TheVariants.{Num, Text}
 use Rattle.fz_ast.specs.Signature.{TableType}
 use Rattle.fz_ast.specs.Types.{NumT, TextT, TensorT}
-use Rattle.shape_law.specs.Walk.{depth_limit}
+use Rattle.owner_history.specs.ShapeLaw.Walk.{depth_limit}
 use Rattle.wire_lines.specs.Lines.{lines_of}
 use Rattle.wire_lines.specs.Request.{request_of}
 use Rattle.wire_lines.specs.Reply.{Replied, greeted, refused, reply_text}
@@ -22,22 +22,22 @@ use Rattle.wire_lines.specs.declared.refusal.LineRefusal.{LineRefusal}
 use Rattle.wire_lines.specs.declared.refusal.LineRefusal.TheVariants.{Malformed, Unknown, NoEpsilon, NoHello}
 use Rattle.wire_lines.specs.declared.refusal.MoneyRefusal.TheVariants.{OverBudget as NoBudget}
 use Rattle.metric_values.specs.Values.{Flat, NumF, TextF, PairF}
-use Rattle.owner_catalog.specs.Entries.{TableEntry, PartitionEntry, OwnerEntry, partition_name}
-use Rattle.part_views.specs.Holding.{Holding}
-use Rattle.part_views.specs.Views.{signature_in, rows_in}
+use Rattle.owner_history.specs.OwnerCatalog.Entries.{TableEntry, PartitionEntry, OwnerEntry, partition_name}
+use Rattle.owner_history.specs.PartViews.Holding.{Holding}
+use Rattle.owner_history.specs.PartViews.Views.{signature_in, rows_in}
 use Rattle.sha2.specs.Sha256.{sha256}
-use Rattle.owner_house.specs.Owner.{Owner}
-use Rattle.answer_path.specs.Met.{IsMetExactly}
-use Rattle.answer_path.specs.Query.{Query}
-use Rattle.answer_path.specs.Judgement.{judgement_of, HasValue}
-use Rattle.answer_path.specs.Program.{IsCharged}
-use Rattle.answer_path.specs.Noise.{noise_at}
-use Rattle.answer_path.specs.Verdict.{money_refused}
-use Rattle.answer_path.specs.Answered.{Told, HasWorthIn, outcome_reply, IsAnswered}
-use Rattle.answer_path.proofs.Answering.{money_says}
-use Rattle.answer_path.proofs.SizePeople.{size_people, size_term, size_reads}
-use Rattle.owner_house.specs.House.{Register, IsHeldBy, house_of, owner_at}
-use Rattle.answer_path.specs.Demand.{asks}
+use Rattle.owner_history.specs.OwnerHouse.Owner.{Owner}
+use Rattle.owner_history.specs.AnswerPath.Met.{IsMetExactly}
+use Rattle.owner_history.specs.AnswerPath.Query.{Query}
+use Rattle.owner_history.specs.AnswerPath.Judgement.{judgement_of, HasValue}
+use Rattle.owner_history.specs.AnswerPath.Program.{IsCharged}
+use Rattle.owner_history.specs.AnswerPath.Noise.{noise_at}
+use Rattle.owner_history.specs.AnswerPath.Verdict.{money_refused}
+use Rattle.owner_history.specs.AnswerPath.Answered.{Told, HasWorthIn, outcome_reply, IsAnswered}
+use Rattle.owner_history.proofs.AnswerPath.Answering.{money_says}
+use Rattle.owner_history.proofs.AnswerPath.SizePeople.{size_people, size_term, size_reads}
+use Rattle.owner_history.specs.OwnerHouse.House.{Register, IsHeldBy, house_of, owner_at}
+use Rattle.owner_history.specs.AnswerPath.Demand.{asks}
 use Rattle.session_core.specs.Meant.{says, wants, meant_by}
 use Rattle.session_core.specs.Exchanges.{Exchange}
 use Rattle.session_core.specs.Transcript.{LeadExactly, IsScriptRun}

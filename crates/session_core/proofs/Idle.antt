@@ -4,14 +4,14 @@ use Rattle.std.specs.Prelude.{MatchBool, if◌then◌else◌}
 use mathlib.Core.Logic.{◌⊎◌, inl, inr}
 use Rattle.journal_records.specs.declared.records.Record.{Record}
 use Rattle.wire_lines.specs.Reply.{Replied}
-use Rattle.owner_house.specs.Owner.{Owner}
-use Rattle.owner_house.specs.House.{House}
-use Rattle.owner_desk.specs.Passes.{Pass, Told, first_of_run}
-use Rattle.answer_path.specs.Demand.{Demand}
-use Rattle.answer_path.specs.Idle.{AddsNone, IsAlone, IsIdle, IsShutOut, LeavesBook}
-use Rattle.answer_path.specs.Met.{IsMet}
-use Rattle.answer_path.specs.Shut.{Shut, ShutsBy, shut_of}
-use Rattle.answer_path.proofs.Idle.{add_nothing, leave_pass}
+use Rattle.owner_history.specs.OwnerHouse.Owner.{Owner}
+use Rattle.owner_history.specs.OwnerHouse.House.{House}
+use Rattle.owner_history.specs.OwnerDesk.Passes.{Pass, Told, first_of_run}
+use Rattle.owner_history.specs.AnswerPath.Demand.{Demand}
+use Rattle.owner_history.specs.AnswerPath.Idle.{AddsNone, IsAlone, IsIdle, IsShutOut, LeavesBook}
+use Rattle.owner_history.specs.AnswerPath.Met.{IsMet}
+use Rattle.owner_history.specs.AnswerPath.Shut.{Shut, ShutsBy, shut_of}
+use Rattle.owner_history.proofs.AnswerPath.Idle.{add_nothing, leave_pass}
 use Rattle.session_core.specs.Meant.{Meant, says, wants}
 use Rattle.session_core.specs.Turns.{meant_at}
 use Rattle.session_core.specs.Exchanges.{Exchange, TurnLeads, is_of}

@@ -4,8 +4,8 @@ use Rattle.std.proofs.Common.{eqb-true, get_or-set_same, get_or-set_other}
 use Rattle.std.proofs.lemmas.Bool.{eqb-false}
 use Rattle.std.proofs.lemmas.List.{get_or_past, length-map}
 use Rattle.std.proofs.Math.Seq.{get_or-append_seam}
-use Rattle.owner_desk.specs.Passes.{Pass}
-use Rattle.owner_desk.specs.Shared.{Shared}
+use Rattle.owner_history.specs.OwnerDesk.Passes.{Pass}
+use Rattle.owner_history.specs.OwnerDesk.Shared.{Shared}
 use Rattle.session_core.specs.Bundles.{Bundle, HasTakenIn, bundle_of}
 use Rattle.session_core.specs.Code.{no_pass, pass_at}
 use Rattle.session_core.proofs.Bundles.{bundle_put, knows_at, share_at}

@@ -19,3 +19,7 @@ pub mod ExamplesOfOwners
 mod ExamplesOfFaults
 mod ExamplesOfParts
 mod ExamplesOfNames
+-- passed on to the crates above
+pub mod OwnerHistory
+pub use Rattle.owner_history.proofs.AnswerPath
+pub use Rattle.owner_history.proofs.OwnerDesk

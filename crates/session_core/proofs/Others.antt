@@ -1,11 +1,11 @@
 -- lines that ask other owners
 use Rattle.std.proofs.Common.{◌≡◌, ℕ, Bool, false, List, [], ◌∷◌, ◌++◌, slice_get, Some, refl, ◌∙◌, ap, subst, append-nil}
 use Rattle.std.specs.Prelude.{MatchBool, if◌then◌else◌}
-use Rattle.owner_house.specs.Owner.{Owner}
-use Rattle.owner_house.specs.House.{House}
-use Rattle.owner_desk.specs.Passes.{Pass, Told, first_of_run}
-use Rattle.answer_path.specs.Demand.{Demand}
-use Rattle.answer_path.specs.Shut.{shut_of}
+use Rattle.owner_history.specs.OwnerHouse.Owner.{Owner}
+use Rattle.owner_history.specs.OwnerHouse.House.{House}
+use Rattle.owner_history.specs.OwnerDesk.Passes.{Pass, Told, first_of_run}
+use Rattle.owner_history.specs.AnswerPath.Demand.{Demand}
+use Rattle.owner_history.specs.AnswerPath.Shut.{shut_of}
 use Rattle.session_core.specs.Meant.{Meant, says, wants}
 use Rattle.session_core.specs.Turns.{meant_at}
 use Rattle.session_core.specs.Exchanges.{Exchange, TurnLeads, Lead, is_of, told_of, AskOthers}

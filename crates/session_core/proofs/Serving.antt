@@ -7,11 +7,11 @@ use Rattle.std.proofs.lemmas.List.{map-append}
 use Rattle.std.proofs.lemmas.List.Concat.{flat_map-append}
 use Rattle.budget_ledger.specs.Account.{Account}
 use Rattle.wire_lines.specs.Reply.{Replied, reply_text}
-use Rattle.owner_house.specs.Owner.{Owner}
-use Rattle.owner_house.specs.House.{House}
-use Rattle.owner_desk.specs.Passes.{Pass, Told, first_of_run}
-use Rattle.answer_path.specs.Demand.{Demand}
-use Rattle.answer_path.specs.Shut.{shut_of}
+use Rattle.owner_history.specs.OwnerHouse.Owner.{Owner}
+use Rattle.owner_history.specs.OwnerHouse.House.{House}
+use Rattle.owner_history.specs.OwnerDesk.Passes.{Pass, Told, first_of_run}
+use Rattle.owner_history.specs.AnswerPath.Demand.{Demand}
+use Rattle.owner_history.specs.AnswerPath.Shut.{shut_of}
 use Rattle.budget_core.specs.Ledger.{start_of}
 use Rattle.session_core.specs.Meant.{Meant, says, wants, meant_by, next_who}
 use Rattle.session_core.specs.Turns.{Turn, meant_at, session_turns}

@@ -9,7 +9,7 @@ use Rattle.wire_lines.specs.Request.{Asked, hello, ask, askpart, recall, left, r
 use Rattle.wire_lines.specs.declared.refusal.LineRefusal.{LineRefusal}
 use Rattle.wire_lines.specs.declared.refusal.LineRefusal.TheVariants.{Malformed, TooLong, Unknown, NoEpsilon, NoHello}
 use Rattle.wire_lines.proofs.Requests.{grammar_from}
-use Rattle.owner_house.specs.House.{House}
+use Rattle.owner_history.specs.OwnerHouse.House.{House}
 use Rattle.session_core.specs.Meant.{meant_by, meant_by_request}
 use Rattle.session_core.specs.Code.{short_reply_limit}
 

@@ -5,9 +5,9 @@ use Rattle.partition_charge.specs.declared.view.View.TheVariants.{Whole, Part}
 use Rattle.wire_lines.specs.Request.{◌>>=◌}
 use Rattle.wire_lines.specs.declared.refusal.LineRefusal.{LineRefusal}
 use Rattle.wire_lines.specs.declared.refusal.LineRefusal.TheVariants.{Unknown}
-use Rattle.part_views.specs.Partitions.{HasPart}
-use Rattle.owner_house.specs.House.{House, owner_named, partition_named, partition_at, key_named}
-use Rattle.owner_house.proofs.Found.{owner_stands, part_there}
+use Rattle.owner_history.specs.PartViews.Partitions.{HasPart}
+use Rattle.owner_history.specs.OwnerHouse.House.{House, owner_named, partition_named, partition_at, key_named}
+use Rattle.owner_history.proofs.OwnerHouse.Found.{owner_stands, part_there}
 use Rattle.session_core.specs.Meant.{Subject, whole_named, part_named}
 
 -- the subject's owner is one of the house's, and its view one of that owner's

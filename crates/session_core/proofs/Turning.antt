@@ -2,7 +2,7 @@
 use Rattle.std.proofs.Common.{◌≡◌, ℕ, Bool, true, false, cond, List, [], ◌∷◌, Option, None, refl, sym, ◌∙◌, ap}
 use Rattle.std.specs.List.{flat_map, onto_first}
 use Rattle.wire_lines.specs.Lines.{lines_of}
-use Rattle.owner_house.specs.House.{House}
+use Rattle.owner_history.specs.OwnerHouse.House.{House}
 use Rattle.session_core.specs.Meant.{Meant, says, wants, meant_by, next_who}
 use Rattle.session_core.specs.Turns.{Turn, session_turns, blocks_of, turns_of, is_bye}
 use Rattle.session_core.specs.Code.{turns_behind, turns_left, who_behind, is_ended}

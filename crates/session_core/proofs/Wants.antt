@@ -10,18 +10,18 @@ use Rattle.wire_lines.specs.declared.refusal.LineRefusal.{LineRefusal}
 use Rattle.wire_lines.specs.declared.refusal.LineRefusal.TheVariants.{Unknown, NoEpsilon, NoHello}
 use Rattle.wire_lines.specs.Reply.{greeted, ended, refused}
 use Rattle.wire_lines.specs.Refusal.{by_line}
-use Rattle.part_views.specs.Partitions.{HasPart}
-use Rattle.owner_house.specs.Owner.{Owner}
-use Rattle.answer_path.specs.Query.{Query}
-use Rattle.answer_path.specs.Demand.{Demand, asks, recalls, balances}
-use Rattle.answer_path.specs.Code.{IsQueryOf}
-use Rattle.owner_house.specs.House.{House, IsOwnerIn, analyst_named, owner_named}
+use Rattle.owner_history.specs.PartViews.Partitions.{HasPart}
+use Rattle.owner_history.specs.OwnerHouse.Owner.{Owner}
+use Rattle.owner_history.specs.AnswerPath.Query.{Query}
+use Rattle.owner_history.specs.AnswerPath.Demand.{Demand, asks, recalls, balances}
+use Rattle.owner_history.specs.AnswerPath.Code.{IsQueryOf}
+use Rattle.owner_history.specs.OwnerHouse.House.{House, IsOwnerIn, analyst_named, owner_named}
 use Rattle.session_core.specs.Meant.{Meant, Subject, says, wants, whole_named, part_named, meant_by, meant_by_request, meant_by_hello, meant_by_ask, meant_by_recall, meant_by_left}
 use Rattle.session_core.specs.Turns.{is_bye, is_bye_request}
 use Rattle.session_core.specs.Served.{IsAskFor}
 use Rattle.session_core.specs.Code.{IsAnalyst}
 use Rattle.session_core.proofs.Subjects.{IsSubjectOf, whole_stands, part_stands}
-use Rattle.owner_house.proofs.Found.{owner_stands, part_has_view}
+use Rattle.owner_history.proofs.OwnerHouse.Found.{owner_stands, part_has_view}
 
 -- A query that a line makes is of one of the house's owners, in one of its views, by an analyst of the house, at an epsilon in
 -- its range, for the line's program.

@@ -4,8 +4,8 @@ use mathlib.Core.List.{IsPrefix}
 use Rattle.atomic_table.specs.Seated.{TableId}
 use Rattle.budget_ledger.specs.declared.failure.Failure.{Failure}
 use Rattle.owner_lock.specs.Entries.{Ascends}
-use Rattle.owner_desk.specs.Passes.{Pass, Told}
-use Rattle.owner_desk.specs.Shared.{Shared}
+use Rattle.owner_history.specs.OwnerDesk.Passes.{Pass, Told}
+use Rattle.owner_history.specs.OwnerDesk.Shared.{Shared}
 use Rattle.session_core.specs.Code.{pass_at}
 
 -- Which locks they are of, their shares, and what they know of the owners' books.

@@ -11,12 +11,12 @@ use Rattle.budget_ledger.specs.Account.{Account, Storage}
 use Rattle.budget_ledger.specs.declared.failure.Failure.{Failure}
 use Rattle.wire_lines.specs.Reply.{Replied, ended, replied, reply_text}
 use Rattle.wire_lines.specs.declared.refusal.LineRefusal.{LineRefusal}
-use Rattle.part_views.specs.Partitions.{HasPart}
-use Rattle.owner_house.specs.Owner.{Owner}
-use Rattle.owner_desk.specs.Passes.{Pass, Told, first_of_run, records_told, closing}
-use Rattle.answer_path.specs.Shut.{shut_of}
-use Rattle.answer_path.specs.Code.{AsksTooManyWalks, demand_of, IsDemandOf, HasPartFor}
-use Rattle.owner_house.specs.House.{House, owner_at, no_entry}
+use Rattle.owner_history.specs.PartViews.Partitions.{HasPart}
+use Rattle.owner_history.specs.OwnerHouse.Owner.{Owner}
+use Rattle.owner_history.specs.OwnerDesk.Passes.{Pass, Told, first_of_run, records_told, closing}
+use Rattle.owner_history.specs.AnswerPath.Shut.{shut_of}
+use Rattle.owner_history.specs.AnswerPath.Code.{AsksTooManyWalks, demand_of, IsDemandOf, HasPartFor}
+use Rattle.owner_history.specs.OwnerHouse.House.{House, owner_at, no_entry}
 use Rattle.session_core.specs.Meant.{Meant, Subject, says, wants, meant_by, next_who}
 use Rattle.session_core.specs.Turns.{Turn, session_turns, blocks_of, is_bye}
 use Rattle.session_core.specs.Exchanges.{Exchange, ArePlain, told_of}

@@ -2,10 +2,10 @@
 use Rattle.std.specs.Prelude.{◌≡◌, ℕ, ◌==◌, Bool, false, List, [], ◌∷◌, ⊤, MatchBool, if◌then◌else◌}
 use Rattle.std.specs.List.{AllByRecursion, flat_map}
 use Rattle.wire_lines.specs.Reply.{Replied}
-use Rattle.owner_house.specs.Owner.{Owner}
-use Rattle.owner_desk.specs.Passes.{Told}
-use Rattle.answer_path.specs.Demand.{Demand}
-use Rattle.owner_house.specs.House.{House}
+use Rattle.owner_history.specs.OwnerHouse.Owner.{Owner}
+use Rattle.owner_history.specs.OwnerDesk.Passes.{Told}
+use Rattle.owner_history.specs.AnswerPath.Demand.{Demand}
+use Rattle.owner_history.specs.OwnerHouse.House.{House}
 use Rattle.session_core.specs.Meant.{Meant, says, wants}
 use Rattle.session_core.specs.Turns.{Turn, meant_at}
 

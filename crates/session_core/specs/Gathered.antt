@@ -3,10 +3,10 @@ use Rattle.std.specs.Prelude.{◌≡◌, ℕ, zero, suc, ◌+◌, ◌<◌, ◌==
 use mathlib.Core.List.{IsPrefix}
 use Rattle.journal_records.specs.declared.records.Record.{Record}
 use Rattle.budget_ledger.specs.declared.failure.Failure.{Failure}
-use Rattle.owner_house.specs.Owner.{Owner}
-use Rattle.owner_house.specs.House.{House}
-use Rattle.owner_desk.specs.Passes.{Told, told_behind, closing}
-use Rattle.answer_path.specs.Shut.{Shut, unshut}
+use Rattle.owner_history.specs.OwnerHouse.Owner.{Owner}
+use Rattle.owner_history.specs.OwnerHouse.House.{House}
+use Rattle.owner_history.specs.OwnerDesk.Passes.{Told, told_behind, closing}
+use Rattle.owner_history.specs.AnswerPath.Shut.{Shut, unshut}
 use Rattle.session_core.specs.Turns.{turns_of}
 use Rattle.session_core.specs.Exchanges.{Exchange, ArePlain, told_of}
 use Rattle.session_core.specs.Served.{AnswersOn, ShutsOn}

@@ -7,9 +7,9 @@ use Rattle.wire_lines.specs.Request.{Asked, hello, ask, askpart, recall, left, b
 use Rattle.wire_lines.specs.Refusal.{by_line}
 use Rattle.wire_lines.specs.declared.refusal.LineRefusal.{LineRefusal}
 use Rattle.wire_lines.specs.declared.refusal.LineRefusal.TheVariants.{Unknown, NoEpsilon, NoHello}
-use Rattle.owner_house.specs.Owner.{Owner}
-use Rattle.answer_path.specs.Demand.{Demand, asks, recalls, balances}
-use Rattle.owner_house.specs.House.{House, analyst_named, owner_named, partition_named, partition_at, key_named}
+use Rattle.owner_history.specs.OwnerHouse.Owner.{Owner}
+use Rattle.owner_history.specs.AnswerPath.Demand.{Demand, asks, recalls, balances}
+use Rattle.owner_history.specs.OwnerHouse.House.{House, analyst_named, owner_named, partition_named, partition_at, key_named}
 
 -- What a line comes to by itself, by the house's names and by who speaks: a reply and who speaks then, or a demand of an
 -- owner. Refusals are looked for in the order of their codes.

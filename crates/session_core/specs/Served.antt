@@ -10,14 +10,14 @@ use Rattle.wire_lines.specs.Reply.{Replied, refused}
 use Rattle.wire_lines.specs.Refusal.{by_disk}
 use Rattle.wire_lines.specs.declared.refusal.DiskRefusal.{DiskRefusal}
 use Rattle.wire_lines.specs.Request.{ask, askpart, request_of}
-use Rattle.owner_house.specs.Owner.{Owner}
-use Rattle.answer_path.specs.Query.{Query}
-use Rattle.owner_desk.specs.Passes.{Told}
-use Rattle.answer_path.specs.Demand.{Demand, asks, recalls, balances}
-use Rattle.answer_path.specs.Met.{IsMet}
-use Rattle.answer_path.specs.Shut.{Shut, ShutsBy}
+use Rattle.owner_history.specs.OwnerHouse.Owner.{Owner}
+use Rattle.owner_history.specs.AnswerPath.Query.{Query}
+use Rattle.owner_history.specs.OwnerDesk.Passes.{Told}
+use Rattle.owner_history.specs.AnswerPath.Demand.{Demand, asks, recalls, balances}
+use Rattle.owner_history.specs.AnswerPath.Met.{IsMet}
+use Rattle.owner_history.specs.AnswerPath.Shut.{Shut, ShutsBy}
 use Rattle.owner_history.specs.Granted.{told_settlement, IsBorneOut, IsRecallBorneOut}
-use Rattle.owner_house.specs.House.{House}
+use Rattle.owner_history.specs.OwnerHouse.House.{House}
 use Rattle.session_core.specs.Meant.{Meant, wants}
 use Rattle.session_core.specs.Turns.{Turn, meant_at}
 use Rattle.session_core.specs.Exchanges.{Exchange, Lead}

@@ -5,11 +5,11 @@ use Rattle.journal_records.specs.declared.records.Record.{Record}
 use Rattle.budget_core.specs.Counts.{reservations_of}
 use Rattle.budget_ledger.specs.declared.failure.Failure.{Failure}
 use Rattle.wire_lines.specs.Reply.{Replied, reply_text}
-use Rattle.owner_house.specs.Owner.{Owner}
-use Rattle.answer_path.specs.Demand.{Demand, asks, recalls, balances}
-use Rattle.answer_path.specs.Closing.{Closes}
-use Rattle.answer_path.specs.Met.{IsMetExactly}
-use Rattle.owner_house.specs.House.{House}
+use Rattle.owner_history.specs.OwnerHouse.Owner.{Owner}
+use Rattle.owner_history.specs.AnswerPath.Demand.{Demand, asks, recalls, balances}
+use Rattle.owner_history.specs.AnswerPath.Closing.{Closes}
+use Rattle.owner_history.specs.AnswerPath.Met.{IsMetExactly}
+use Rattle.owner_history.specs.OwnerHouse.House.{House}
 use Rattle.session_core.specs.Turns.{turns_of}
 use Rattle.session_core.specs.Exchanges.{Exchange, ArePlain, Lead}
 

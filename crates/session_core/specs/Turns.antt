@@ -4,7 +4,7 @@ use Rattle.std.specs.List.{flat_map, onto_first}
 use Rattle.wire_lines.specs.Lines.{lines_of}
 use Rattle.wire_lines.specs.Request.{Asked, bye, request_of}
 use Rattle.wire_lines.specs.declared.refusal.LineRefusal.{LineRefusal}
-use Rattle.owner_house.specs.House.{House}
+use Rattle.owner_history.specs.OwnerHouse.House.{House}
 use Rattle.session_core.specs.Meant.{Meant, meant_by, next_who}
 
 abbrev pub is_bye_request : Result Asked LineRefusal → Bool

@@ -5,9 +5,9 @@ use mathlib.Core.List.{IsPrefix}
 use Rattle.budget_ledger.specs.declared.failure.Failure.{Failure}
 use Rattle.owner_lock.specs.Entries.{Ascends}
 use Rattle.wire_lines.specs.Reply.{reply_text}
-use Rattle.owner_house.specs.Owner.{Owner}
-use Rattle.owner_house.specs.House.{House}
-use Rattle.owner_desk.specs.Passes.{Pass, Told}
+use Rattle.owner_history.specs.OwnerHouse.Owner.{Owner}
+use Rattle.owner_history.specs.OwnerHouse.House.{House}
+use Rattle.owner_history.specs.OwnerDesk.Passes.{Pass, Told}
 use Rattle.session_core.specs.Exchanges.{Exchange, ArePlain}
 use Rattle.session_core.specs.Gathered.{AreOfScript, StillShut, added_below, part_of}
 use Rattle.session_core.specs.Blocks.{crew_of, script_blocks}

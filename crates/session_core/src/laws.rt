@@ -2,10 +2,10 @@
 
 ghost use Rattle.std.specs.Prelude.{ℕ, List, ◌≡◌, ◌⊎◌, slice_get, Option, Some};
 ghost use Rattle.wire_lines.specs.Reply.{Replied};
-ghost use Rattle.owner_house.specs.Owner.{Owner};
-ghost use Rattle.owner_house.specs.House.{Register, IsRegister, House, AreOwners, house_of};
-ghost use Rattle.owner_desk.specs.Passes.{Pass, Told};
-ghost use Rattle.answer_path.specs.Idle.{AddsNone, IsAlone, IsIdle, IsShutOut, LeavesBook};
+ghost use Rattle.owner_history.specs.OwnerHouse.Owner.{Owner};
+ghost use Rattle.owner_history.specs.OwnerHouse.House.{Register, IsRegister, House, AreOwners, house_of};
+ghost use Rattle.owner_history.specs.OwnerDesk.Passes.{Pass, Told};
+ghost use Rattle.owner_history.specs.AnswerPath.Idle.{AddsNone, IsAlone, IsIdle, IsShutOut, LeavesBook};
 ghost use Rattle.session_core.specs.Exchanges.{Exchange, AskOthers};
 ghost use Rattle.session_core.specs.Code.{AreServed, one_line, pass_at};
 

@@ -7,3 +7,8 @@ pub mod line;
 pub mod passes;
 pub mod script;
 pub mod server;
+
+// The crates above hold an owner's desk and the last program by these, and judge programs.
+pub use owner_history::{
+    Desk, House, Judged, Knows, LastProgram, check_program, judge, read_program,
+};

@@ -2,12 +2,11 @@
 
 ghost use Rattle.std.specs.Prelude.{◌≡◌, IfSome, IfOk, Some, ◌<◌, length};
 ghost use Rattle.budget_core.specs.Entries.{IsEpsilon};
-ghost use Rattle.owner_house.specs.House.{house_of, analyst_named, owner_named};
+ghost use Rattle.owner_history.specs.OwnerHouse.House.{house_of, analyst_named, owner_named};
 ghost use Rattle.session_core.specs.Meant.{meant_by, meant_by_ask, meant_by_hello, meant_by_left, meant_by_recall, part_named, whole_named};
 ghost use Rattle.session_core.specs.Code.{found_in, meaning_of, IsAnalyst, IsMeaningIn, IsShort, IsSubjectIn};
 
-use answer_path::{Demand, Query};
-use owner_house::house::House;
+use owner_history::{Demand, House, Query};
 use partition_charge::view::View;
 use wire_lines::{LineRefusal, Name, Refusal, Reply, Request, read_request};
 

@@ -1,13 +1,12 @@
 //! A pass for each owner.
 
 ghost use Rattle.std.specs.Prelude.{◌≡◌, ◌≤◌, length, All, IfErr, IfOk};
-ghost use Rattle.owner_desk.specs.Shared.{Shared};
+ghost use Rattle.owner_history.specs.OwnerDesk.Shared.{Shared};
 ghost use Rattle.session_core.specs.Bundles.{HaveTakenIn, bundle_of, given_halves, kept_halves};
 
-use answer_path::{Desk, Pass};
 use budget_ledger::book::Book;
 use outside_disks::disk::Disk;
-use owner_desk::{Guarded, Held, Knows, Noted};
+use owner_history::{Desk, Guarded, Held, Knows, Noted, Pass};
 use owner_lock::Ticket;
 use std::alloc::{AllocError, Global};
 use std::marker::Model;

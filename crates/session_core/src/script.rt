@@ -5,9 +5,9 @@ ghost use Rattle.std.specs.Prelude.{None, if◌then◌else◌, vec_capacity, Lis
 ghost use Rattle.wire_lines.specs.Lines.{lines_of};
 ghost use Rattle.wire_lines.specs.Refusal.{no_memory};
 ghost use Rattle.wire_lines.specs.Reply.{refused, replied, reply_text};
-ghost use Rattle.owner_desk.specs.Passes.{Told};
-ghost use Rattle.answer_path.specs.Answered.{IsUnasked};
-ghost use Rattle.owner_house.specs.House.{house_of};
+ghost use Rattle.owner_history.specs.OwnerDesk.Passes.{Told};
+ghost use Rattle.owner_history.specs.AnswerPath.Answered.{IsUnasked};
+ghost use Rattle.owner_history.specs.OwnerHouse.House.{house_of};
 ghost use Rattle.session_core.specs.Meant.{meant_by};
 ghost use Rattle.session_core.specs.Turns.{is_bye, session_turns};
 ghost use Rattle.session_core.specs.Blocks.{behind_block, first_block};
@@ -17,10 +17,10 @@ ghost use Rattle.session_core.specs.Code.{ArePasses, AreServed, HasServed, Wants
 use crate::line::{LineMeaning, read_line};
 use crate::passes::Passes;
 use crate::server::Server;
-use answer_path::{LastProgram, meet};
 use fz_outside::words::Streams;
 use outside_disks::disk::Disk;
 use outside_links::gate::Gate;
+use owner_history::{LastProgram, meet};
 use std::sync::Wait;
 use wire_lines::{REPLY_LIMIT, Reply, next_line, write_reply};
 

@@ -1,8 +1,7 @@
 //! By what lines are answered.
 
-use answer_path::Desk;
 use outside_disks::disk::Disk;
-use owner_house::house::House;
+use owner_history::{Desk, House};
 use std::alloc::Global;
 
 /// The runtime, by which a worker waits for an owner's lock; the house; its owners' desks, in order; the words of noise; and the gate.

@@ -12,20 +12,20 @@ use Rattle.budget_core.proofs.LegalLemmas.{granted as money_granted}
 use Rattle.wire_lines.specs.Reply.{refused}
 use Rattle.wire_lines.specs.Refusal.{by_disk}
 use Rattle.wire_lines.specs.declared.refusal.DiskRefusal.{DiskRefusal}
-use Rattle.owner_house.specs.Owner.{Owner, signature_of_view}
-use Rattle.answer_path.specs.Query.{Query}
-use Rattle.answer_path.specs.Verdict.{Verdict, program_refused, money_refused, granted, ask_for, IsVerdict}
-use Rattle.owner_history.specs.Granted.{told_settlement}
-use Rattle.owner_history.proofs.Grants.{verdict_grants}
-use Rattle.owner_history.proofs.Prefixes.{prefix_by, prefix_trans, prefix_length}
+use Rattle.session_core.specs.OwnerHouse.Owner.{Owner, signature_of_view}
+use Rattle.session_core.specs.AnswerPath.Query.{Query}
+use Rattle.session_core.specs.AnswerPath.Verdict.{Verdict, program_refused, money_refused, granted, ask_for, IsVerdict}
+use Rattle.session_core.specs.OwnerHistory.Granted.{told_settlement}
+use Rattle.session_core.proofs.OwnerHistory.Grants.{verdict_grants}
+use Rattle.session_core.proofs.OwnerHistory.Prefixes.{prefix_by, prefix_trans, prefix_length}
 use Rattle.session_core.proofs.Demands.{met_kind}
-use Rattle.answer_path.specs.Demand.{Demand, asks}
+use Rattle.session_core.specs.AnswerPath.Demand.{Demand, asks}
 use Rattle.session_core.specs.Exchanges.{Exchange}
 use Rattle.session_core.specs.Transcript.{first_new}
 use Rattle.session_laws.proofs.Places.{below, prefix_seam}
-use Rattle.owner_desk.specs.Passes.{Told}
-use Rattle.owner_desk.specs.Answers.{Has}
-use Rattle.answer_path.specs.Answered.{IsSettledBy, outcome_reply, granted_record, IsAskedBy, IsAsked}
+use Rattle.session_core.specs.OwnerDesk.Passes.{Told}
+use Rattle.session_core.specs.OwnerDesk.Answers.{Has}
+use Rattle.session_core.specs.AnswerPath.Answered.{IsSettledBy, outcome_reply, granted_record, IsAskedBy, IsAsked}
 use Rattle.session_core.specs.Served.{MeetsOnSome, IsBorneOutTo}
 
 module _ (draws : ℕ → ℕ → ℕ) (owner : Owner) (found records : List Record) where

@@ -5,7 +5,7 @@ use Rattle.std.specs.List.{flat_map}
 use Rattle.std.proofs.lemmas.List.Sums.{sum_by-append}
 use mathlib.Core.Logic.{dite}
 use native.Mathlib.Decide.{ℕ_discrete}
-use Rattle.owner_desk.specs.Passes.{Told}
+use Rattle.session_core.specs.OwnerDesk.Passes.{Told}
 use Rattle.session_core.specs.Gathered.{part_of, added_below}
 
 -- one list, in the order of ts, in which each worker finds its own again

@@ -8,18 +8,18 @@ use Rattle.journal_records.specs.declared.records.Record.{Record}
 use Rattle.budget_core.specs.declared.entry.Ask.{Ask}
 use Rattle.budget_core.specs.declared.entry.Grant.{Grant}
 use Rattle.budget_core.specs.Ledger.{settlement_for}
-use Rattle.owner_house.specs.Owner.{Owner}
-use Rattle.answer_path.specs.Query.{Query}
-use Rattle.answer_path.specs.Verdict.{granted}
-use Rattle.owner_house.specs.House.{House}
-use Rattle.answer_path.specs.Demand.{Demand, asks}
+use Rattle.session_core.specs.OwnerHouse.Owner.{Owner}
+use Rattle.session_core.specs.AnswerPath.Query.{Query}
+use Rattle.session_core.specs.AnswerPath.Verdict.{granted}
+use Rattle.session_core.specs.OwnerHouse.House.{House}
+use Rattle.session_core.specs.AnswerPath.Demand.{Demand, asks}
 use Rattle.session_core.specs.Meant.{Meant, wants}
 use Rattle.session_core.specs.Turns.{meant_at}
 use Rattle.session_core.specs.Exchanges.{Exchange, TurnLeads, is_of, told_of}
 use Rattle.session_laws.specs.Between.{two_workers, IsSettledLater, three_records, four_records}
-use Rattle.owner_desk.specs.Passes.{Told}
-use Rattle.answer_path.specs.Answered.{granted_record, IsAsked}
-use Rattle.answer_path.specs.Met.{IsMet}
+use Rattle.session_core.specs.OwnerDesk.Passes.{Told}
+use Rattle.session_core.specs.AnswerPath.Answered.{granted_record, IsAsked}
+use Rattle.session_core.specs.AnswerPath.Met.{IsMet}
 use Rattle.session_core.specs.Served.{MeetsOnSome}
 use Rattle.session_core.specs.Gathered.{part_of, IsAnsweredOn, AreGathered}
 

@@ -8,18 +8,18 @@ use mathlib.Core.Logic.{inl, inr}
 use Rattle.journal_records.specs.declared.records.Outcome.TheVariants.{Lost}
 use Rattle.journal_records.specs.Records.{settling}
 use Rattle.budget_ledger.specs.declared.failure.Failure.{Failure}
-use Rattle.owner_house.specs.Owner.{Owner}
-use Rattle.answer_path.specs.Query.{Query}
-use Rattle.owner_house.specs.House.{House}
-use Rattle.answer_path.specs.Demand.{Demand, asks}
+use Rattle.session_core.specs.OwnerHouse.Owner.{Owner}
+use Rattle.session_core.specs.AnswerPath.Query.{Query}
+use Rattle.session_core.specs.OwnerHouse.House.{House}
+use Rattle.session_core.specs.AnswerPath.Demand.{Demand, asks}
 use Rattle.session_core.specs.Meant.{Meant, says, wants}
 use Rattle.session_core.specs.Turns.{meant_at}
 use Rattle.session_core.specs.Exchanges.{Exchange, TurnLeads}
 use Rattle.session_laws.proofs.Counting.{found_in, two_in}
 use Rattle.session_laws.proofs.Locals.{part_has}
 use Rattle.session_laws.proofs.Assembles.{added_same, parts_weigh}
-use Rattle.owner_desk.specs.Passes.{Told, closing}
-use Rattle.answer_path.specs.Shut.{Shut, unshut, StaysShut, disk_word, FailsBy, ShutsBy}
+use Rattle.session_core.specs.OwnerDesk.Passes.{Told, closing}
+use Rattle.session_core.specs.AnswerPath.Shut.{Shut, unshut, StaysShut, disk_word, FailsBy, ShutsBy}
 use Rattle.session_core.specs.Served.{ShutsFor, ShutsOn}
 use Rattle.session_core.proofs.Demands.{tells_fault, FailsNow, demand_shuts, fault_told}
 use Rattle.session_core.specs.Gathered.{part_of, StillShut, AreShut}

@@ -3,12 +3,12 @@ use Rattle.std.proofs.Common.{◌≡◌, ℕ, ◌==◌, Bool, true, false, List,
 use Rattle.std.specs.Prelude.{MatchBool}
 use Rattle.journal_records.specs.declared.records.Record.{Record}
 use Rattle.budget_ledger.specs.declared.failure.Failure.{Failure}
-use Rattle.owner_house.specs.Owner.{Owner}
-use Rattle.owner_house.specs.House.{House}
-use Rattle.owner_desk.specs.Passes.{closing}
-use Rattle.answer_path.specs.Demand.{Demand}
-use Rattle.answer_path.specs.Shut.{Shut, unshut, StaysShut}
-use Rattle.answer_path.specs.Laws.{OnePassCloses}
+use Rattle.session_core.specs.OwnerHouse.Owner.{Owner}
+use Rattle.session_core.specs.OwnerHouse.House.{House}
+use Rattle.session_core.specs.OwnerDesk.Passes.{closing}
+use Rattle.session_core.specs.AnswerPath.Demand.{Demand}
+use Rattle.session_core.specs.AnswerPath.Shut.{Shut, unshut, StaysShut}
+use Rattle.session_core.specs.AnswerPath.Laws.{OnePassCloses}
 use Rattle.session_core.specs.Meant.{Meant, says, wants}
 use Rattle.session_core.specs.Turns.{meant_at}
 use Rattle.session_core.specs.Exchanges.{Exchange, TurnLeads}

@@ -13,13 +13,13 @@ use Rattle.budget_core.specs.Legal.{IsHistory}
 use Rattle.budget_core.specs.Ledger.{IsUnsettled, returned_by}
 use Rattle.budget_core.proofs.Histories.{prefix_split, slice_get-append-seam}
 use Rattle.budget_core.proofs.Numbers.{reserved_below, reservations_of-append-Settle}
-use Rattle.owner_house.specs.Owner.{Owner}
-use Rattle.owner_history.specs.Explains.{Explains}
-use Rattle.owner_history.proofs.Steps.{IsWell, IsLawful, reserve, settle, well_reserved}
-use Rattle.owner_history.proofs.Explaining.{explains_settlement, outcome_explains}
-use Rattle.owner_history.proofs.Sound.{legal_self}
+use Rattle.session_core.specs.OwnerHouse.Owner.{Owner}
+use Rattle.session_core.specs.OwnerHistory.Explains.{Explains}
+use Rattle.session_core.proofs.OwnerHistory.Steps.{IsWell, IsLawful, reserve, settle, well_reserved}
+use Rattle.session_core.proofs.OwnerHistory.Explaining.{explains_settlement, outcome_explains}
+use Rattle.session_core.proofs.OwnerHistory.Sound.{legal_self}
 use Rattle.session_laws.specs.CameBy.{WasReserved, WasSettled, CameBy, CameAboutIsExplained}
-use Rattle.answer_path.specs.Answered.{granted_record}
+use Rattle.session_core.specs.AnswerPath.Answered.{granted_record}
 
 take_more : {X : Type 0} (xs : List X) (n : ℕ) (x : X) → slice_get xs n ≡ Some x → take (suc n) xs ≡ take n xs ++ x ∷ []
 take_more [] n x at = absurd cc

@@ -7,8 +7,8 @@ use Rattle.std.proofs.lemmas.Bool.{cases_lt}
 use mathlib.Core.Logic.{inl, inr, dite}
 use native.Mathlib.Decide.{ℕ_discrete}
 use Rattle.journal_records.specs.declared.records.Record.{Record}
-use Rattle.owner_desk.specs.Passes.{Told}
-use Rattle.owner_desk.specs.Answers.{Has}
+use Rattle.session_core.specs.OwnerDesk.Passes.{Told}
+use Rattle.session_core.specs.OwnerDesk.Answers.{Has}
 
 -- how often a place is told
 abbrev pub at_place : ℕ → Told → ℕ

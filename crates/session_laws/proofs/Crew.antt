@@ -8,8 +8,8 @@ use Rattle.std.proofs.Math.Seq.{drop-append_seam}
 use mathlib.Core.Logic.{inl, inr}
 use Rattle.journal_records.specs.declared.records.Record.{Record}
 use Rattle.wire_lines.specs.Reply.{Replied}
-use Rattle.owner_house.specs.Owner.{Owner}
-use Rattle.owner_house.specs.House.{House}
+use Rattle.session_core.specs.OwnerHouse.Owner.{Owner}
+use Rattle.session_core.specs.OwnerHouse.House.{House}
 use Rattle.session_core.specs.Turns.{meant_at, turns_of}
 use Rattle.session_core.specs.Exchanges.{Exchange, IsPlain, ArePlain, told_of}
 use Rattle.session_core.specs.Transcript.{Journals}
@@ -20,8 +20,8 @@ use Rattle.session_laws.proofs.Listed.{all_by_places, place_of_all}
 use Rattle.session_laws.proofs.Locals.{part_has}
 use Rattle.session_laws.proofs.Standing.{told_here, stand_by, told_at}
 use Rattle.session_laws.proofs.Assembles.{InOrder, in_order, added_same, parts_weigh}
-use Rattle.owner_desk.specs.Passes.{Told, told_behind}
-use Rattle.owner_desk.specs.Answers.{Has}
+use Rattle.session_core.specs.OwnerDesk.Passes.{Told, told_behind}
+use Rattle.session_core.specs.OwnerDesk.Answers.{Has}
 use Rattle.session_core.specs.Gathered.{part_of, IsAnsweredOn, AreAnsweredOn, AreGathered, AreOfScript}
 
 -- each place is below c

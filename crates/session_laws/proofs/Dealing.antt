@@ -4,7 +4,7 @@ use Rattle.std.proofs.Common.{append-nil, eqb-true, mod-eq_of_lt, ne_eqb}
 use Rattle.std.proofs.lemmas.Bool.{eqb-false}
 use Rattle.std.specs.Prelude.{if◌then◌else◌}
 use Rattle.std.specs.List.{flat_map}
-use Rattle.owner_house.specs.House.{House}
+use Rattle.session_core.specs.OwnerHouse.House.{House}
 use Rattle.session_core.specs.Turns.{session_turns}
 use Rattle.session_core.specs.Exchanges.{Exchange}
 use Rattle.session_core.specs.Blocks.{own_blocks, crew_of, script_blocks, AreDealt}

@@ -6,14 +6,14 @@ use Rattle.std.proofs.lemmas.List.{length-drop}
 use Rattle.std.proofs.lemmas.List.FromFn.{length-enumerate_from}
 use Rattle.std.proofs.lemmas.List.Sums.{sum_by-cons}
 use Rattle.journal_records.specs.declared.records.Record.{Record}
-use Rattle.owner_history.proofs.Prefixes.{prefix_length}
-use Rattle.owner_house.specs.House.{House}
+use Rattle.session_core.proofs.OwnerHistory.Prefixes.{prefix_length}
+use Rattle.session_core.specs.OwnerHouse.House.{House}
 use Rattle.session_core.specs.Meant.{Meant, says, wants}
 use Rattle.session_core.specs.Turns.{meant_at}
 use Rattle.session_core.specs.Exchanges.{Exchange, TurnLeads, is_of, told_of}
 use Rattle.session_core.specs.Transcript.{first_new, MeetsExactly, LeadExactly}
 use Rattle.session_core.proofs.Demands.{prefix_whole, met_least, met_exact}
-use Rattle.owner_desk.specs.Passes.{Told}
+use Rattle.session_core.specs.OwnerDesk.Passes.{Told}
 use Rattle.session_core.specs.Served.{MeetsOnSome, AnswersOn}
 use Rattle.session_core.specs.Gathered.{part_of, AreGathered}
 

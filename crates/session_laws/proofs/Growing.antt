@@ -2,10 +2,10 @@
 use Rattle.std.proofs.Common.{ℕ, List}
 use mathlib.Core.List.{IsPrefix}
 use Rattle.journal_records.specs.declared.records.Record.{Record}
-use Rattle.owner_house.specs.Owner.{Owner}
-use Rattle.owner_house.specs.House.{House}
-use Rattle.owner_history.proofs.Prefixes.{prefix_trans}
-use Rattle.answer_path.specs.Demand.{Demand}
+use Rattle.session_core.specs.OwnerHouse.Owner.{Owner}
+use Rattle.session_core.specs.OwnerHouse.House.{House}
+use Rattle.session_core.proofs.OwnerHistory.Prefixes.{prefix_trans}
+use Rattle.session_core.specs.AnswerPath.Demand.{Demand}
 use Rattle.session_core.specs.Exchanges.{Exchange}
 use Rattle.session_core.specs.Transcript.{first_new}
 use Rattle.session_core.specs.Served.{MeetsOnSome, AnswersOn}

@@ -14,17 +14,17 @@ use Rattle.budget_core.specs.Legal.{IsHistory}
 use Rattle.budget_core.specs.Ledger.{reservation_numbered, returned_by, settlement_for}
 use Rattle.budget_core.proofs.Histories.{history-front}
 use Rattle.budget_core.proofs.Numbers.{reservation_of-next, outcome_of-append-new}
-use Rattle.owner_house.specs.Owner.{Owner}
-use Rattle.answer_path.specs.Query.{Query}
-use Rattle.owner_history.specs.Explains.{Explains}
-use Rattle.owner_history.specs.Granted.{told_settlement, IsGranted, IsBorneOut}
-use Rattle.owner_history.specs.Sound.{IsFound, MayBeFound, IsOwed}
-use Rattle.owner_history.proofs.Grants.{verdict_grants}
-use Rattle.owner_history.proofs.Prefixes.{prefix_by, prefix_trans, reservation_prefix, outcome_prefix}
-use Rattle.owner_history.proofs.Steps.{IsLawful, IsWell}
-use Rattle.owner_history.proofs.Sound.{well_backed, lawful_owed}
-use Rattle.owner_house.specs.House.{House, IsOwnerIn}
-use Rattle.answer_path.specs.Demand.{Demand, asks}
+use Rattle.session_core.specs.OwnerHouse.Owner.{Owner}
+use Rattle.session_core.specs.AnswerPath.Query.{Query}
+use Rattle.session_core.specs.OwnerHistory.Explains.{Explains}
+use Rattle.session_core.specs.OwnerHistory.Granted.{told_settlement, IsGranted, IsBorneOut}
+use Rattle.session_core.specs.OwnerHistory.Sound.{IsFound, MayBeFound, IsOwed}
+use Rattle.session_core.proofs.OwnerHistory.Grants.{verdict_grants}
+use Rattle.session_core.proofs.OwnerHistory.Prefixes.{prefix_by, prefix_trans, reservation_prefix, outcome_prefix}
+use Rattle.session_core.proofs.OwnerHistory.Steps.{IsLawful, IsWell}
+use Rattle.session_core.proofs.OwnerHistory.Sound.{well_backed, lawful_owed}
+use Rattle.session_core.specs.OwnerHouse.House.{House, IsOwnerIn}
+use Rattle.session_core.specs.AnswerPath.Demand.{Demand, asks}
 use Rattle.session_core.specs.Meant.{wants}
 use Rattle.session_core.specs.Turns.{Turn, meant_at, turns_of}
 use Rattle.session_core.specs.Exchanges.{Exchange}
@@ -39,9 +39,9 @@ use Rattle.session_laws.proofs.Listed.{IsListed, stands_at, mapped_at, of_mapped
 use Rattle.session_laws.proofs.Added.{IsLeftOpen, IsSettledLater, IsReservedBy, IsKind, number_is, number_below, reserved_told, told_stands}
 use Rattle.session_laws.proofs.Once.{same_owner, kind_at}
 use Rattle.session_laws.proofs.Sources.{IsSource, sources, sources_count, behind_start, program_at, none_before, asked_of, came_at, reserve_told}
-use Rattle.owner_desk.specs.Passes.{Told}
-use Rattle.owner_desk.specs.Answers.{Has}
-use Rattle.answer_path.specs.Answered.{granted_record}
+use Rattle.session_core.specs.OwnerDesk.Passes.{Told}
+use Rattle.session_core.specs.OwnerDesk.Answers.{Has}
+use Rattle.session_core.specs.AnswerPath.Answered.{granted_record}
 use Rattle.session_core.specs.Served.{Sources, IsAskFor, IsAskedAt, AreAskedBy, StandIn, IsBorneOutTo, IsHeldTo, AreHeldTo, SpeaksOf, LeavesOpen, ArePlaced}
 use Rattle.session_core.specs.Gathered.{AreGathered, AreOfScript}
 use Rattle.session_core.specs.Headline.{IsHonoured}

@@ -21,3 +21,7 @@ pub mod Scripts
 pub mod Worked
 mod Orders
 mod ExamplesOfBlocks
+-- passed on to the crates above
+pub mod SessionCore
+pub use Rattle.session_core.proofs.AnswerPath
+pub use Rattle.session_core.proofs.OwnerHistory

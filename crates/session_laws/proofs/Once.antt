@@ -7,17 +7,17 @@ use Rattle.std.proofs.lemmas.Option.{slice_get_within}
 use Rattle.std.proofs.lemmas.List.{length-drop}
 use mathlib.Core.Logic.{inl, inr}
 use Rattle.journal_records.specs.declared.records.Record.{Record}
-use Rattle.owner_house.specs.Owner.{Owner}
-use Rattle.owner_history.proofs.Prefixes.{prefix_length}
-use Rattle.owner_house.specs.House.{House}
-use Rattle.answer_path.specs.Demand.{Demand}
+use Rattle.session_core.specs.OwnerHouse.Owner.{Owner}
+use Rattle.session_core.proofs.OwnerHistory.Prefixes.{prefix_length}
+use Rattle.session_core.specs.OwnerHouse.House.{House}
+use Rattle.session_core.specs.AnswerPath.Demand.{Demand}
 use Rattle.session_core.specs.Meant.{wants}
 use Rattle.session_core.specs.Turns.{meant_at}
 use Rattle.session_core.specs.Exchanges.{Exchange}
 use Rattle.session_laws.proofs.Counting.{at_place, found_in, two_in, numbered_in}
 use Rattle.session_laws.proofs.Added.{IsKind}
 use Rattle.session_laws.proofs.Standing.{Reserves, told_here, the_owner, kind_by, reserves_by, stand_by, told_at, weighs_at}
-use Rattle.owner_desk.specs.Passes.{Told}
+use Rattle.session_core.specs.OwnerDesk.Passes.{Told}
 use Rattle.session_core.specs.Gathered.{AreGathered}
 use Rattle.session_laws.specs.ToldOnce.{IsToldAt, AreToldOnce}
 

@@ -16,7 +16,7 @@ use Rattle.fz_ast.specs.Terms.{Term}
 use Rattle.linear_types.specs.Inferred.{Fault}
 use Rattle.linear_types.specs.Program.{Acceptance, Accepted, Faulty, sensitivity_of}
 use Rattle.fz_frac.specs.Lowest.{lowest}
-use Rattle.shape_law.specs.Walk.{ShapeFault, WalkOutcome, Shaped, Stops, TooManyWalks, shape}
+use Rattle.session_core.specs.ShapeLaw.Walk.{ShapeFault, WalkOutcome, Shaped, Stops, TooManyWalks, shape}
 use Rattle.wire_lines.specs.Codes.{code_of, line_code, program_code, money_code}
 use Rattle.wire_lines.specs.Refusal.{ProgramRefusal, no_token, no_term, too_nested}
 use Rattle.wire_lines.specs.Refusal.{Refusal, by_line, by_program, by_money, by_disk, by_number, no_memory}
@@ -26,16 +26,16 @@ use Rattle.wire_lines.specs.declared.refusal.LineRefusal.{LineRefusal}
 use Rattle.wire_lines.specs.declared.refusal.LineRefusal.TheVariants.{Unknown, NoEpsilon, NoHello}
 use Rattle.wire_lines.specs.declared.refusal.MoneyRefusal.{MoneyRefusal}
 use Rattle.wire_lines.specs.declared.refusal.MoneyRefusal.TheVariants.{OverBudget, JournalFull}
-use Rattle.owner_house.specs.Owner.{signature_of_view}
-use Rattle.owner_house.specs.House.{House, owner_named, partition_named, partition_at, key_named}
-use Rattle.answer_path.specs.Judgement.{Judgement, refused_for, accepted, judgement_of, judged_by, shaped_by, fault_refusal, shape_refusal}
-use Rattle.answer_path.specs.Query.{Query}
-use Rattle.answer_path.specs.Reading.{Reading, unlexed, stuck, nested, read, IsReading}
-use Rattle.answer_path.specs.Verdict.{Verdict, program_refused, money_refused, granted, ask_for, verdict_by_money, IsVerdictBy, IsVerdict}
-use Rattle.answer_path.proofs.Readings.{one_reading}
-use Rattle.owner_history.proofs.Grants.{accepted_as}
-use Rattle.answer_path.specs.Program.{IsCharged}
-use Rattle.answer_path.specs.Demand.{asks}
+use Rattle.session_core.specs.OwnerHouse.Owner.{signature_of_view}
+use Rattle.session_core.specs.OwnerHouse.House.{House, owner_named, partition_named, partition_at, key_named}
+use Rattle.session_core.specs.AnswerPath.Judgement.{Judgement, refused_for, accepted, judgement_of, judged_by, shaped_by, fault_refusal, shape_refusal}
+use Rattle.session_core.specs.AnswerPath.Query.{Query}
+use Rattle.session_core.specs.AnswerPath.Reading.{Reading, unlexed, stuck, nested, read, IsReading}
+use Rattle.session_core.specs.AnswerPath.Verdict.{Verdict, program_refused, money_refused, granted, ask_for, verdict_by_money, IsVerdictBy, IsVerdict}
+use Rattle.session_core.proofs.AnswerPath.Readings.{one_reading}
+use Rattle.session_core.proofs.OwnerHistory.Grants.{accepted_as}
+use Rattle.session_core.specs.AnswerPath.Program.{IsCharged}
+use Rattle.session_core.specs.AnswerPath.Demand.{asks}
 use Rattle.session_core.specs.Meant.{Meant, Subject, says, wants, whole_named, part_named, meant_by, meant_by_ask, meant_by_request}
 use Rattle.session_laws.specs.Order.{Question, IsQuestion, RefusesLine, RefusesBytes, RefusesTerm, RefusesProgram, IsAsking, RefusesAsk, CouldRefuse}
 use Rattle.session_laws.specs.Order.{IsJudgedAs}

@@ -13,7 +13,7 @@ use Rattle.journal_records.specs.declared.records.Record.TheVariants.{Reserve, S
 use Rattle.journal_records.specs.Records.{reservation_in, settling_back}
 use Rattle.budget_core.specs.Counts.{reservations_of, outcome_of}
 use Rattle.budget_core.proofs.Histories.{slice_get-append-seam}
-use Rattle.owner_desk.proofs.Settles.{counts_behind}
+use Rattle.session_core.proofs.OwnerDesk.Settles.{counts_behind}
 
 -- a list that is put first, and what stands behind it
 pub prefix_seam : {X : Type 0} (g : List X) (x : X) (all : List X) → IsPrefix (g ++ x ∷ []) all → (take (length g) all ≡ g) × (slice_get all (length g) ≡ Some x)

@@ -7,14 +7,14 @@ use Rattle.std.proofs.lemmas.List.{length-map}
 use Rattle.journal_records.specs.declared.records.Record.{Record}
 use Rattle.budget_ledger.specs.declared.failure.Failure.{Failure}
 use Rattle.wire_lines.specs.Reply.{Replied}
-use Rattle.owner_house.specs.Owner.{Owner}
-use Rattle.owner_house.specs.House.{House, IsOwnerIn, AreOwners}
-use Rattle.owner_desk.specs.Passes.{Pass, Told, records_told}
-use Rattle.answer_path.specs.Shut.{Shut, unshut, shut_of}
-use Rattle.owner_history.specs.Sound.{IsFound}
-use Rattle.owner_history.proofs.Prefixes.{prefix_self}
-use Rattle.owner_history.proofs.Steps.{IsWell}
-use Rattle.owner_history.proofs.Sound.{lawful_found, lawful_owed, well_found, well_backed}
+use Rattle.session_core.specs.OwnerHouse.Owner.{Owner}
+use Rattle.session_core.specs.OwnerHouse.House.{House, IsOwnerIn, AreOwners}
+use Rattle.session_core.specs.OwnerDesk.Passes.{Pass, Told, records_told}
+use Rattle.session_core.specs.AnswerPath.Shut.{Shut, unshut, shut_of}
+use Rattle.session_core.specs.OwnerHistory.Sound.{IsFound}
+use Rattle.session_core.proofs.OwnerHistory.Prefixes.{prefix_self}
+use Rattle.session_core.proofs.OwnerHistory.Steps.{IsWell}
+use Rattle.session_core.proofs.OwnerHistory.Sound.{lawful_found, lawful_owed, well_found, well_backed}
 use Rattle.session_core.specs.Turns.{turns_of}
 use Rattle.session_core.specs.Exchanges.{Exchange, told_of}
 use Rattle.session_core.specs.Transcript.{Journals, first_new, LeadExactly, IsScriptRun}

@@ -21,12 +21,12 @@ use Rattle.budget_core.specs.Legal.{IsHistory}
 use Rattle.budget_core.specs.Ledger.{reservation_numbered, settlement_of, settlement_for}
 use Rattle.budget_core.proofs.Histories.{slice_get-append-lt}
 use Rattle.budget_core.proofs.Numbers.{outcome_past}
-use Rattle.owner_house.specs.Owner.{Owner}
-use Rattle.answer_path.specs.Query.{Query}
-use Rattle.owner_history.proofs.Grants.{verdict_grants}
-use Rattle.owner_history.proofs.Prefixes.{prefix_by, prefix_trans, slice_get_prefix}
-use Rattle.owner_house.specs.House.{House, IsOwnerIn}
-use Rattle.answer_path.specs.Demand.{Demand, asks}
+use Rattle.session_core.specs.OwnerHouse.Owner.{Owner}
+use Rattle.session_core.specs.AnswerPath.Query.{Query}
+use Rattle.session_core.proofs.OwnerHistory.Grants.{verdict_grants}
+use Rattle.session_core.proofs.OwnerHistory.Prefixes.{prefix_by, prefix_trans, slice_get_prefix}
+use Rattle.session_core.specs.OwnerHouse.House.{House, IsOwnerIn}
+use Rattle.session_core.specs.AnswerPath.Demand.{Demand, asks}
 use Rattle.session_core.specs.Meant.{wants}
 use Rattle.session_core.specs.Turns.{Turn, meant_at}
 use Rattle.session_core.specs.Exchanges.{Exchange, is_of}
@@ -34,15 +34,15 @@ use Rattle.session_core.specs.Transcript.{first_new}
 use Rattle.session_core.proofs.Wants.{IsAskOf, AsksOnly, asks_only, query_within}
 use Rattle.session_laws.specs.CameBy.{WasReserved, WasSettled, CameBy}
 use Rattle.session_laws.specs.Lines.{AreKnown}
-use Rattle.owner_desk.proofs.Settles.{counts_behind}
+use Rattle.session_core.proofs.OwnerDesk.Settles.{counts_behind}
 use Rattle.session_laws.proofs.Places.{below, same_place, reservation_place, listed_below, settled_at, unsettled_nowhere, prefix_seam, prefix_take, reservations_on}
 use Rattle.session_laws.proofs.Listed.{IsListed, listed, stands_at, slice_behind, mapped_at, place_of_all}
 use Rattle.session_laws.proofs.Added.{IsSettledLater, IsReservedBy, number_is, number_below, reserved_told, told_by}
 use Rattle.session_laws.proofs.Standing.{Reserves}
 use Rattle.session_laws.proofs.Once.{told_once, reserves_at}
-use Rattle.owner_desk.specs.Passes.{Told}
-use Rattle.owner_desk.specs.Answers.{Has}
-use Rattle.answer_path.specs.Answered.{granted_record}
+use Rattle.session_core.specs.OwnerDesk.Passes.{Told}
+use Rattle.session_core.specs.OwnerDesk.Answers.{Has}
+use Rattle.session_core.specs.AnswerPath.Answered.{granted_record}
 use Rattle.session_core.specs.Served.{Sources}
 use Rattle.session_core.specs.Gathered.{AreGathered}
 use Rattle.session_laws.specs.ToldOnce.{IsToldAt, AreToldOnce}

@@ -3,11 +3,11 @@ use Rattle.std.proofs.Common.{◌≡◌, ℕ, ◌+◌, ◌<◌, ◌≤◌, Bool,
 use Rattle.std.specs.Prelude.{if◌then◌else◌, sum_by}
 use mathlib.Core.Logic.{inl, inr}
 use Rattle.journal_records.specs.declared.records.Record.{Record}
-use Rattle.owner_house.specs.Owner.{Owner}
-use Rattle.answer_path.specs.Query.{Query}
-use Rattle.owner_history.proofs.Prefixes.{prefix_trans}
-use Rattle.owner_house.specs.House.{House}
-use Rattle.answer_path.specs.Demand.{Demand, asks}
+use Rattle.session_core.specs.OwnerHouse.Owner.{Owner}
+use Rattle.session_core.specs.AnswerPath.Query.{Query}
+use Rattle.session_core.proofs.OwnerHistory.Prefixes.{prefix_trans}
+use Rattle.session_core.specs.OwnerHouse.House.{House}
+use Rattle.session_core.specs.AnswerPath.Demand.{Demand, asks}
 use Rattle.session_core.specs.Meant.{Meant, says, wants}
 use Rattle.session_core.specs.Turns.{meant_at}
 use Rattle.session_core.specs.Exchanges.{Exchange, is_of}
@@ -16,8 +16,8 @@ use Rattle.session_core.proofs.Wants.{wanted_stands}
 use Rattle.session_laws.proofs.Counting.{at_place, has_counted, counted_has}
 use Rattle.session_laws.proofs.Locals.{lead_at, meets_grow, part_has}
 use Rattle.session_laws.proofs.Added.{IsReservedBy, IsKind, kind_met, told_stands}
-use Rattle.owner_desk.specs.Passes.{Told}
-use Rattle.owner_desk.specs.Answers.{Has}
+use Rattle.session_core.specs.OwnerDesk.Passes.{Told}
+use Rattle.session_core.specs.OwnerDesk.Answers.{Has}
 use Rattle.session_core.specs.Served.{MeetsOnSome}
 use Rattle.session_core.specs.Gathered.{part_of, AreAnsweredOn}
 use Rattle.session_laws.specs.ToldOnce.{IsToldAt}

@@ -3,11 +3,11 @@ use Rattle.std.proofs.Common.{◌≡◌, ℕ, ◌<◌, List, ◌++◌, slice_get
 use Rattle.std.specs.Prelude.{sum_by}
 use Rattle.journal_records.specs.declared.records.Record.{Record}
 use Rattle.budget_ledger.specs.declared.failure.Failure.{Failure}
-use Rattle.owner_house.specs.Owner.{Owner}
-use Rattle.owner_house.specs.House.{House}
-use Rattle.owner_desk.specs.Passes.{Pass, records_told}
-use Rattle.answer_path.specs.Shut.{Shut, shut_of}
-use Rattle.owner_history.proofs.Prefixes.{prefix_trans}
+use Rattle.session_core.specs.OwnerHouse.Owner.{Owner}
+use Rattle.session_core.specs.OwnerHouse.House.{House}
+use Rattle.session_core.specs.OwnerDesk.Passes.{Pass, records_told}
+use Rattle.session_core.specs.AnswerPath.Shut.{Shut, shut_of}
+use Rattle.session_core.proofs.OwnerHistory.Prefixes.{prefix_trans}
 use Rattle.session_core.specs.Exchanges.{Exchange, told_of}
 use Rattle.session_core.specs.Transcript.{Journals, first_new}
 use Rattle.session_core.specs.Served.{AnswersOn, ShutsOn}

@@ -6,15 +6,15 @@ use Rattle.budget_core.specs.declared.entry.Ask.{Ask}
 use Rattle.budget_core.specs.declared.entry.Grant.{Grant}
 use Rattle.budget_core.specs.Entries.{Entry}
 use Rattle.budget_core.specs.Ledger.{settlement_for}
-use Rattle.owner_house.specs.Owner.{Owner, signature_of_view}
-use Rattle.answer_path.specs.Query.{Query}
-use Rattle.answer_path.specs.Verdict.{granted, IsVerdict}
-use Rattle.owner_house.specs.House.{House}
-use Rattle.answer_path.specs.Demand.{asks}
+use Rattle.session_core.specs.OwnerHouse.Owner.{Owner, signature_of_view}
+use Rattle.session_core.specs.AnswerPath.Query.{Query}
+use Rattle.session_core.specs.AnswerPath.Verdict.{granted, IsVerdict}
+use Rattle.session_core.specs.OwnerHouse.House.{House}
+use Rattle.session_core.specs.AnswerPath.Demand.{asks}
 use Rattle.session_core.specs.Meant.{wants}
 use Rattle.session_core.specs.Turns.{meant_at}
 use Rattle.session_core.specs.Exchanges.{Exchange}
-use Rattle.answer_path.specs.Answered.{IsSettledBy, outcome_reply, granted_record}
+use Rattle.session_core.specs.AnswerPath.Answered.{IsSettledBy, outcome_reply, granted_record}
 
 -- the first place is the first worker's, and all others are the second one's
 abbrev pub two_workers : ℕ → ℕ

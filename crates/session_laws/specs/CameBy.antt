@@ -10,12 +10,12 @@ use Rattle.budget_core.specs.declared.entry.Grant.{Grant}
 use Rattle.budget_core.specs.Counts.{reservations_of, outcome_of}
 use Rattle.budget_core.specs.Ledger.{returned_by}
 use Rattle.budget_core.specs.Legal.{IsHistory, IsLegal}
-use Rattle.owner_house.specs.Owner.{Owner, signature_of_view}
-use Rattle.answer_path.specs.Query.{Query}
-use Rattle.answer_path.specs.Code.{IsQueryOf}
-use Rattle.answer_path.specs.Verdict.{granted, IsVerdict}
-use Rattle.owner_history.specs.Explains.{Explains}
-use Rattle.answer_path.specs.Answered.{IsSettledBy, granted_record}
+use Rattle.session_core.specs.OwnerHouse.Owner.{Owner, signature_of_view}
+use Rattle.session_core.specs.AnswerPath.Query.{Query}
+use Rattle.session_core.specs.AnswerPath.Code.{IsQueryOf}
+use Rattle.session_core.specs.AnswerPath.Verdict.{granted, IsVerdict}
+use Rattle.session_core.specs.OwnerHistory.Explains.{Explains}
+use Rattle.session_core.specs.AnswerPath.Answered.{IsSettledBy, granted_record}
 
 -- A reservation was granted to a query of its program, on just the records before it.
 abbrev pub WasReserved : Owner → (start : ℕ) → (programs : List (List ℕ)) → (before : List Record) → Reservation → Type 0

@@ -1,11 +1,11 @@
 -- Why lines are refused for their owner's disk, where workers answer them in any order.
 use Rattle.std.specs.Prelude.{◌≡◌, ℕ, List, slice_get, Option, Some, None}
 use Rattle.budget_ledger.specs.declared.failure.Failure.{Failure}
-use Rattle.owner_house.specs.Owner.{Owner}
-use Rattle.owner_house.specs.House.{House}
-use Rattle.answer_path.specs.Query.{Query}
-use Rattle.answer_path.specs.Demand.{asks}
-use Rattle.answer_path.specs.Shut.{disk_word, IsPendingOf}
+use Rattle.session_core.specs.OwnerHouse.Owner.{Owner}
+use Rattle.session_core.specs.OwnerHouse.House.{House}
+use Rattle.session_core.specs.AnswerPath.Query.{Query}
+use Rattle.session_core.specs.AnswerPath.Demand.{asks}
+use Rattle.session_core.specs.AnswerPath.Shut.{disk_word, IsPendingOf}
 use Rattle.session_core.specs.Meant.{wants}
 use Rattle.session_core.specs.Turns.{meant_at}
 use Rattle.session_core.specs.Exchanges.{Exchange}

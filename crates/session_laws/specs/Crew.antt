@@ -2,10 +2,10 @@
 use Rattle.std.specs.Prelude.{◌≡◌, ℕ, ◌<◌, List, ◌++◌, length, map, sum_by, slice_get, Some}
 use Rattle.journal_records.specs.declared.records.Record.{Record}
 use Rattle.wire_lines.specs.Reply.{Replied}
-use Rattle.owner_house.specs.Owner.{Owner}
-use Rattle.owner_house.specs.House.{House}
+use Rattle.session_core.specs.OwnerHouse.Owner.{Owner}
+use Rattle.session_core.specs.OwnerHouse.House.{House}
 use Rattle.owner_lock.specs.Entries.{Ascends}
-use Rattle.owner_desk.specs.Passes.{Told, records_told}
+use Rattle.session_core.specs.OwnerDesk.Passes.{Told, records_told}
 use Rattle.session_core.specs.Turns.{turns_of}
 use Rattle.session_core.specs.Exchanges.{Exchange, ArePlain, told_of}
 use Rattle.session_core.specs.Transcript.{Journals}

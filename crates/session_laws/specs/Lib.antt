@@ -6,3 +6,9 @@ pub mod Crew
 pub mod Between
 pub mod Causes
 pub mod Order
+-- passed on to the crates above
+pub mod SessionCore
+pub use Rattle.session_core.specs.AnswerPath
+pub use Rattle.session_core.specs.OwnerDesk
+pub use Rattle.session_core.specs.OwnerHistory
+pub use Rattle.session_core.specs.OwnerHouse

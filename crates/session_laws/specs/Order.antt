@@ -11,7 +11,7 @@ use Rattle.fz_ast.specs.Signature.{Signature}
 use Rattle.fz_ast.specs.Terms.{Term}
 use Rattle.linear_types.specs.Inferred.{Fault}
 use Rattle.linear_types.specs.Program.{Faulty, sensitivity_of}
-use Rattle.shape_law.specs.Walk.{ShapeFault, Stops, shape}
+use Rattle.session_core.specs.ShapeLaw.Walk.{ShapeFault, Stops, shape}
 use Rattle.wire_lines.specs.Codes.{code_of}
 use Rattle.wire_lines.specs.Refusal.{ProgramRefusal, no_token, no_term, too_nested, Refusal, by_line, by_program, by_money, by_disk, by_number, no_memory}
 use Rattle.wire_lines.specs.Reply.{refused}
@@ -20,14 +20,14 @@ use Rattle.wire_lines.specs.declared.refusal.LineRefusal.{LineRefusal}
 use Rattle.wire_lines.specs.declared.refusal.LineRefusal.TheVariants.{NoEpsilon, NoHello}
 use Rattle.wire_lines.specs.declared.refusal.MoneyRefusal.{MoneyRefusal}
 use Rattle.wire_lines.specs.declared.refusal.MoneyRefusal.TheVariants.{OverBudget, JournalFull}
-use Rattle.owner_house.specs.Owner.{Owner, signature_of_view}
-use Rattle.owner_house.specs.House.{House}
-use Rattle.answer_path.specs.Judgement.{fault_refusal, shape_refusal}
-use Rattle.answer_path.specs.Program.{IsCharged}
-use Rattle.answer_path.specs.Query.{Query}
-use Rattle.answer_path.specs.Reading.{unlexed, stuck, nested, read, IsReading}
-use Rattle.answer_path.specs.Verdict.{Verdict, program_refused, money_refused, granted, ask_for, IsVerdict}
-use Rattle.answer_path.specs.Demand.{asks}
+use Rattle.session_core.specs.OwnerHouse.Owner.{Owner, signature_of_view}
+use Rattle.session_core.specs.OwnerHouse.House.{House}
+use Rattle.session_core.specs.AnswerPath.Judgement.{fault_refusal, shape_refusal}
+use Rattle.session_core.specs.AnswerPath.Program.{IsCharged}
+use Rattle.session_core.specs.AnswerPath.Query.{Query}
+use Rattle.session_core.specs.AnswerPath.Reading.{unlexed, stuck, nested, read, IsReading}
+use Rattle.session_core.specs.AnswerPath.Verdict.{Verdict, program_refused, money_refused, granted, ask_for, IsVerdict}
+use Rattle.session_core.specs.AnswerPath.Demand.{asks}
 use Rattle.session_core.specs.Meant.{Subject, says, wants, whole_named, part_named, meant_by}
 
 -- what a line that asks says: what it looks at, as far as its names are known; at which epsilon; and its program

@@ -1,11 +1,11 @@
 -- Each record behind those found is one line's.
 use Rattle.std.specs.Prelude.{◌≡◌, ℕ, ◌≤◌, true, List, length, slice_get, Some}
 use Rattle.journal_records.specs.declared.records.Record.{Record}
-use Rattle.owner_house.specs.House.{House}
+use Rattle.session_core.specs.OwnerHouse.House.{House}
 use Rattle.session_core.specs.Turns.{meant_at}
 use Rattle.session_core.specs.Exchanges.{Exchange, is_of}
-use Rattle.owner_desk.specs.Passes.{Told}
-use Rattle.owner_desk.specs.Answers.{Has}
+use Rattle.session_core.specs.OwnerDesk.Passes.{Told}
+use Rattle.session_core.specs.OwnerDesk.Answers.{Has}
 
 -- the exchange at a place of the script asks the owner, and was told this
 pub record IsToldAt (house : House) (o : ℕ) (xs : List Exchange) (place : ℕ) (told : Told) : Type 0 where

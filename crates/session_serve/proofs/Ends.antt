@@ -8,8 +8,8 @@ use Rattle.outside_links.specs.Links.{Connection, HasGiven, HasTaken}
 use Rattle.outside_links.proofs.Said.{given_none, given_further, taken_none, taken_further}
 use Rattle.wire_lines.specs.Lines.{lf, without_cr, lines_of}
 use Rattle.wire_lines.specs.Reply.{Replied, reply_text}
-use Rattle.owner_desk.specs.Passes.{Pass}
-use Rattle.owner_house.specs.House.{House}
+use Rattle.session_core.specs.OwnerDesk.Passes.{Pass}
+use Rattle.session_core.specs.OwnerHouse.House.{House}
 use Rattle.session_serve.specs.Session.{AreWhole, HasNoEnd, AreNoBye, EndsWithBye, HasAnswered, IsCutShort, reply_texts, HasEnded, IsSession, session_limit}
 use Rattle.session_serve.specs.Code.{Keeps, IsLineAnswered, GoesOnWith, HasParted, HasBroken, Leads}
 use Rattle.session_serve.specs.declared.serve.SessionEnd.TheVariants.{Bye, EndOfInput, ReadFault, WriteFault, TooLong, NoMemory}

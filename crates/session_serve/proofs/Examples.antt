@@ -7,8 +7,8 @@ use Rattle.wire_lines.specs.Reply.{Replied, ended, refused, reply_text}
 use Rattle.wire_lines.specs.Refusal.{by_line}
 use Rattle.wire_lines.specs.declared.refusal.LineRefusal.TheVariants.{Malformed}
 use Rattle.outside_links.specs.Links.{Connection, shown}
-use Rattle.owner_desk.specs.Passes.{Pass}
-use Rattle.owner_house.specs.House.{House}
+use Rattle.session_core.specs.OwnerDesk.Passes.{Pass}
+use Rattle.session_core.specs.OwnerHouse.House.{House}
 use Rattle.session_core.specs.Turns.{is_bye}
 use Rattle.session_serve.specs.Session.{AreWhole, HasNoEnd, AreNoBye, EndsWithBye, IsCutShort, EndsBy, IsSession, session_limit, reply_texts}
 use Rattle.session_serve.specs.declared.serve.SessionEnd.{SessionEnd}

@@ -7,9 +7,9 @@ use Rattle.wire_lines.specs.Request.{line_limit, request_of, request_from}
 use Rattle.wire_lines.specs.Reply.{refused}
 use Rattle.wire_lines.specs.Refusal.{by_line}
 use Rattle.wire_lines.specs.declared.refusal.LineRefusal.TheVariants.{TooLong}
-use Rattle.owner_desk.specs.Passes.{Told}
-use Rattle.owner_desk.specs.Passes.{Pass}
-use Rattle.owner_house.specs.House.{House}
+use Rattle.session_core.specs.OwnerDesk.Passes.{Told}
+use Rattle.session_core.specs.OwnerDesk.Passes.{Pass}
+use Rattle.session_core.specs.OwnerHouse.House.{House}
 use Rattle.session_core.specs.Meant.{says, meant_by, next_who}
 use Rattle.session_core.specs.Turns.{is_bye, is_bye_request}
 use Rattle.session_core.specs.Exchanges.{Exchange}

@@ -10,8 +10,8 @@ use Rattle.outside_links.specs.Links.{Connection, HasGiven, HasTaken}
 use Rattle.outside_links.proofs.Said.{given_none, taken_none, taken_further}
 use Rattle.wire_lines.specs.Lines.{lf, without_cr, lines_of}
 use Rattle.wire_lines.specs.Reply.{Replied, reply_text}
-use Rattle.owner_desk.specs.Passes.{Pass}
-use Rattle.owner_house.specs.House.{House}
+use Rattle.session_core.specs.OwnerDesk.Passes.{Pass}
+use Rattle.session_core.specs.OwnerHouse.House.{House}
 use Rattle.session_core.specs.Turns.{is_bye}
 use Rattle.session_core.specs.Exchanges.{Exchange}
 use Rattle.session_core.proofs.Exchanges.{all_append}

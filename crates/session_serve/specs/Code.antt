@@ -5,8 +5,8 @@ use Rattle.fz_outside.specs.declared.Failed.{Failed}
 use Rattle.outside_links.specs.Links.{Connection, HasTaken}
 use Rattle.wire_lines.specs.Lines.{lines_of}
 use Rattle.wire_lines.specs.Reply.{Replied, reply_text}
-use Rattle.owner_desk.specs.Passes.{Pass}
-use Rattle.owner_house.specs.House.{House}
+use Rattle.session_core.specs.OwnerDesk.Passes.{Pass}
+use Rattle.session_core.specs.OwnerHouse.House.{House}
 use Rattle.session_core.specs.Turns.{is_bye}
 use Rattle.session_core.specs.Exchanges.{Exchange}
 use Rattle.session_core.specs.Code.{AreServed, who_behind}

@@ -6,8 +6,8 @@ use Rattle.fz_outside.specs.Faults.{HasRisen}
 use Rattle.outside_links.specs.Links.{Connection, HasGiven, HasTaken}
 use Rattle.wire_lines.specs.Lines.{lf, lines_of}
 use Rattle.wire_lines.specs.Reply.{Replied, reply_text}
-use Rattle.owner_desk.specs.Passes.{Pass}
-use Rattle.owner_house.specs.House.{House}
+use Rattle.session_core.specs.OwnerDesk.Passes.{Pass}
+use Rattle.session_core.specs.OwnerHouse.House.{House}
 use Rattle.session_core.specs.Turns.{is_bye, turns_of}
 use Rattle.session_core.specs.Exchanges.{Exchange}
 use Rattle.session_core.specs.Code.{AreServed}

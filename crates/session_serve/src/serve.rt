@@ -3,10 +3,10 @@
 ghost use Rattle.std.specs.Prelude.{◌≡◌, ◌≤◌, ◌∷◌, [], List, ℕ, length};
 ghost use Rattle.outside_links.specs.Links.{Connection, HasGiven, shown};
 ghost use Rattle.wire_lines.specs.Lines.{lines_of};
-ghost use Rattle.owner_desk.specs.Passes.{Pass as Seen};
-ghost use Rattle.owner_desk.specs.Passes.{Told};
+ghost use Rattle.session_core.specs.OwnerDesk.Passes.{Pass as Seen};
+ghost use Rattle.session_core.specs.OwnerDesk.Passes.{Told};
 ghost use Rattle.wire_lines.specs.Reply.{replied};
-ghost use Rattle.owner_house.specs.House.{house_of};
+ghost use Rattle.session_core.specs.OwnerHouse.House.{house_of};
 ghost use Rattle.session_core.specs.Turns.{is_bye};
 ghost use Rattle.session_core.specs.Code.{IsAnalyst, ArePasses, AreServed, one_line, who_behind};
 ghost use Rattle.std.specs.Io.KnownBytes.{IsAtEnd};
@@ -15,12 +15,12 @@ ghost use Rattle.session_serve.specs.Code.{Keeps, IsLineAnswered, GoesOnWith, Le
 ghost use Rattle.session_serve.specs.declared.serve.SessionEnd.TheVariants.{NoMemory};
 
 use crate::line::Line;
-use answer_path::LastProgram;
 use fz_outside::Failed;
 use fz_outside::words::Streams;
 use outside_disks::disk::Disk;
 use outside_links::gate::Gate;
 use outside_links::link::{Link, send};
+use session_core::LastProgram;
 use session_core::passes::Passes;
 use session_core::script::{Answer, answer_line};
 use session_core::server::Server;

@@ -21,26 +21,26 @@ use Rattle.part_views.specs.Views.{signature_in, rows_in}
 use Rattle.owner_house.specs.Owner.{Owner}
 use Rattle.owner_house.specs.House.{House, house_of}
 use Rattle.owner_desk.specs.Passes.{Told}
-use Rattle.owner_history.specs.Granted.{told_settlement, IsGranted}
-use Rattle.answer_path.specs.Demand.{asks}
-use Rattle.answer_path.specs.Met.{IsMetExactly}
-use Rattle.answer_path.specs.Noise.{noise_at}
-use Rattle.answer_path.specs.Shut.{Shut, unshut, StaysShut, ShutsBy}
-use Rattle.answer_path.specs.Verdict.{granted}
-use Rattle.answer_path.specs.Answered.{HasWorthIn, outcome_reply, granted_record, IsAnswered}
-use Rattle.answer_path.proofs.Answering.{money_says}
-use Rattle.session_core.specs.Code.{IsAnalyst}
-use Rattle.session_core.specs.Meant.{wants, meant_by}
-use Rattle.session_core.specs.Turns.{Turn, meant_at}
-use Rattle.session_core.specs.Exchanges.{Exchange}
-use Rattle.session_core.specs.Gathered.{one_worker, part_of, IsAnsweredOn, AreGathered, StillShut, AreShut}
-use Rattle.session_core.specs.Served.{ShutsFor, ShutsOn}
-use Rattle.session_core.specs.Transcript.{LeadExactly}
-use Rattle.session_core.proofs.Exactly.{answers_on, outcome_said}
-use Rattle.session_core.proofs.Examples.{three_rows, the_owner, a_query, an_ask, a_grant, plain_records, made, outcome_with, settled_with, size_asked, three_value, turn, ask_line}
-use Rattle.session_laws.specs.Growing.{IsMetOn}
-use Rattle.session_laws.proofs.Added.{IsKind, kind_met, number_is, told_stands}
-use Rattle.session_laws.proofs.Once.{kind_at}
+use Rattle.query_server.specs.OwnerHistory.Granted.{told_settlement, IsGranted}
+use Rattle.query_server.specs.AnswerPath.Demand.{asks}
+use Rattle.query_server.specs.AnswerPath.Met.{IsMetExactly}
+use Rattle.query_server.specs.AnswerPath.Noise.{noise_at}
+use Rattle.query_server.specs.AnswerPath.Shut.{Shut, unshut, StaysShut, ShutsBy}
+use Rattle.query_server.specs.AnswerPath.Verdict.{granted}
+use Rattle.query_server.specs.AnswerPath.Answered.{HasWorthIn, outcome_reply, granted_record, IsAnswered}
+use Rattle.query_server.proofs.AnswerPath.Answering.{money_says}
+use Rattle.query_server.specs.SessionCore.Code.{IsAnalyst}
+use Rattle.query_server.specs.SessionCore.Meant.{wants, meant_by}
+use Rattle.query_server.specs.SessionCore.Turns.{Turn, meant_at}
+use Rattle.query_server.specs.SessionCore.Exchanges.{Exchange}
+use Rattle.query_server.specs.SessionCore.Gathered.{one_worker, part_of, IsAnsweredOn, AreGathered, StillShut, AreShut}
+use Rattle.query_server.specs.SessionCore.Served.{ShutsFor, ShutsOn}
+use Rattle.query_server.specs.SessionCore.Transcript.{LeadExactly}
+use Rattle.query_server.proofs.SessionCore.Exactly.{answers_on, outcome_said}
+use Rattle.query_server.proofs.SessionCore.Examples.{three_rows, the_owner, a_query, an_ask, a_grant, plain_records, made, outcome_with, settled_with, size_asked, three_value, turn, ask_line}
+use Rattle.query_server.specs.SessionLaws.Growing.{IsMetOn}
+use Rattle.query_server.proofs.SessionLaws.Added.{IsKind, kind_met, number_is, told_stands}
+use Rattle.query_server.proofs.SessionLaws.Once.{kind_at}
 use Rattle.successive_runs.specs.Left.{IsLeft}
 use Rattle.successive_runs.specs.Life.{Run, IsRun, AreGranted, AreRuns, none_sent, all_sent}
 use Rattle.successive_runs.proofs.Files.{met_on_all}

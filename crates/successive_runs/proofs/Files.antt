@@ -18,20 +18,20 @@ use Rattle.budget_ledger.specs.declared.failure.Failure.{Failure}
 use Rattle.owner_house.specs.Owner.{Owner}
 use Rattle.owner_house.specs.House.{House, IsOwnerIn, house_of}
 use Rattle.owner_house.proofs.Owners.{entry_said, in_catalog, register_owners}
-use Rattle.owner_history.specs.Sound.{IsFound}
-use Rattle.owner_history.proofs.Prefixes.{prefix_self, prefix_by, prefix_trans}
-use Rattle.answer_path.specs.Demand.{Demand}
-use Rattle.session_core.specs.Code.{IsAnalyst}
-use Rattle.session_core.specs.Meant.{wants}
-use Rattle.session_core.specs.Turns.{Turn, meant_at, turns_of}
-use Rattle.session_core.specs.Exchanges.{Exchange}
-use Rattle.session_core.specs.Gathered.{part_of, AreGathered, AreShut}
-use Rattle.session_core.specs.Transcript.{Journals, first_new}
-use Rattle.session_core.proofs.Turns.{turns_known}
-use Rattle.session_laws.specs.Growing.{IsMetOn}
-use Rattle.session_laws.proofs.Growing.{growing}
-use Rattle.session_laws.proofs.Listed.{mapped_at, place_of_all}
-use Rattle.session_laws.proofs.Locals.{part_has}
+use Rattle.query_server.specs.OwnerHistory.Sound.{IsFound}
+use Rattle.query_server.proofs.OwnerHistory.Prefixes.{prefix_self, prefix_by, prefix_trans}
+use Rattle.query_server.specs.AnswerPath.Demand.{Demand}
+use Rattle.query_server.specs.SessionCore.Code.{IsAnalyst}
+use Rattle.query_server.specs.SessionCore.Meant.{wants}
+use Rattle.query_server.specs.SessionCore.Turns.{Turn, meant_at, turns_of}
+use Rattle.query_server.specs.SessionCore.Exchanges.{Exchange}
+use Rattle.query_server.specs.SessionCore.Gathered.{part_of, AreGathered, AreShut}
+use Rattle.query_server.specs.SessionCore.Transcript.{Journals, first_new}
+use Rattle.query_server.proofs.SessionCore.Turns.{turns_known}
+use Rattle.query_server.specs.SessionLaws.Growing.{IsMetOn}
+use Rattle.query_server.proofs.SessionLaws.Growing.{growing}
+use Rattle.query_server.proofs.SessionLaws.Listed.{mapped_at, place_of_all}
+use Rattle.query_server.proofs.SessionLaws.Locals.{part_has}
 use Rattle.catalog_loading.specs.Loaded.{IsLoading, Loading, entry_at, header_of, owners_in}
 use Rattle.query_server.specs.Shelves.{Shelf, EachDisk}
 use Rattle.query_server.specs.Run.{IsScriptAnswered, WentOn}

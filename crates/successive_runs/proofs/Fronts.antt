@@ -12,9 +12,9 @@ use Rattle.budget_core.specs.Entries.{Entry}
 use Rattle.budget_core.specs.Legal.{IsHistory, IsSettlementAfter}
 use Rattle.budget_core.proofs.Histories.{history-front, history-seam, prefix_split}
 use Rattle.owner_house.specs.Owner.{Owner}
-use Rattle.owner_history.specs.Explains.{IsExplained, Explains}
-use Rattle.owner_history.proofs.Prefixes.{prefix_length, slice_get_prefix, outcome_prefix}
-use Rattle.session_laws.proofs.Places.{prefix_take, reservations_on}
+use Rattle.query_server.specs.OwnerHistory.Explains.{IsExplained, Explains}
+use Rattle.query_server.proofs.OwnerHistory.Prefixes.{prefix_length, slice_get_prefix, outcome_prefix}
+use Rattle.query_server.proofs.SessionLaws.Places.{prefix_take, reservations_on}
 
 -- what begins a list begins what is taken of it, if that is enough
 pub prefix_front : {X : Type 0} (xs all : List X) (m : ℕ) → IsPrefix xs all → length xs ≤ m → IsPrefix xs (take m all)

@@ -13,9 +13,9 @@ use Rattle.budget_core.proofs.Costs.{cost_of-append-Grant, budget_of-append}
 use Rattle.budget_core.proofs.Histories.{history-append}
 use Rattle.budget_core.proofs.Numbers.{reservations-granted, reservations_of-append-Grant, outcome_of-append-Grant}
 use Rattle.owner_house.specs.Owner.{Owner}
-use Rattle.owner_history.specs.Explains.{IsExplained}
-use Rattle.owner_history.specs.Sound.{IsFound}
-use Rattle.owner_history.proofs.Prefixes.{prefix_self, prefix_trans}
+use Rattle.query_server.specs.OwnerHistory.Explains.{IsExplained}
+use Rattle.query_server.specs.OwnerHistory.Sound.{IsFound}
+use Rattle.query_server.proofs.OwnerHistory.Prefixes.{prefix_self, prefix_trans}
 use Rattle.successive_runs.specs.Life.{AreGranted}
 
 granted_behind : (found : List Record) (amount : ℕ) → IsPrefix found (with_grant found amount)

@@ -8,3 +8,8 @@ pub mod Files
 mod Raised
 mod Agreed
 mod Examples
+-- passed on to the crates above
+pub use Rattle.query_server.proofs.AnswerPath
+pub use Rattle.query_server.proofs.HeldSessions
+pub use Rattle.query_server.proofs.OwnerHistory
+pub use Rattle.query_server.proofs.SessionCore

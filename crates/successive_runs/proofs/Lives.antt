@@ -10,17 +10,17 @@ use Rattle.budget_core.proofs.Histories.{history-nil}
 use Rattle.wire_lines.specs.Reply.{Replied, answered, recalled}
 use Rattle.owner_house.specs.Owner.{Owner}
 use Rattle.owner_house.specs.House.{House, IsOwnerIn}
-use Rattle.owner_history.specs.Granted.{told_settlement, IsGranted}
-use Rattle.owner_history.specs.Sound.{IsFound}
-use Rattle.owner_history.proofs.Bounded.{explained_bounded}
-use Rattle.owner_history.proofs.Explaining.{explains_none}
-use Rattle.owner_history.proofs.Prefixes.{prefix_self, prefix_trans}
-use Rattle.answer_path.specs.Query.{Query}
-use Rattle.answer_path.specs.Demand.{Demand, asks, recalls}
-use Rattle.session_core.specs.Meant.{wants}
-use Rattle.session_core.specs.Turns.{meant_at}
-use Rattle.session_core.specs.Exchanges.{Exchange}
-use Rattle.session_core.specs.Served.{IsBorneOutTo}
+use Rattle.query_server.specs.OwnerHistory.Granted.{told_settlement, IsGranted}
+use Rattle.query_server.specs.OwnerHistory.Sound.{IsFound}
+use Rattle.query_server.proofs.OwnerHistory.Bounded.{explained_bounded}
+use Rattle.query_server.proofs.OwnerHistory.Explaining.{explains_none}
+use Rattle.query_server.proofs.OwnerHistory.Prefixes.{prefix_self, prefix_trans}
+use Rattle.query_server.specs.AnswerPath.Query.{Query}
+use Rattle.query_server.specs.AnswerPath.Demand.{Demand, asks, recalls}
+use Rattle.query_server.specs.SessionCore.Meant.{wants}
+use Rattle.query_server.specs.SessionCore.Turns.{meant_at}
+use Rattle.query_server.specs.SessionCore.Exchanges.{Exchange}
+use Rattle.query_server.specs.SessionCore.Served.{IsBorneOutTo}
 use Rattle.query_server.proofs.Owed.{history_within}
 use Rattle.successive_runs.specs.Life.{Run, IsRun, AreRuns, WasSent}
 use Rattle.successive_runs.specs.Kept.{KeepThePromise}

@@ -18,14 +18,14 @@ use Rattle.budget_core.proofs.Histories.{history-induction, slice_get-append-lt,
 use Rattle.budget_core.proofs.Numbers.{reservation_of-append, option_or-None, reservations-granted}
 use Rattle.wire_lines.specs.Reply.{Replied}
 use Rattle.owner_house.specs.Owner.{Owner}
-use Rattle.owner_history.specs.Explains.{IsNoisedValue, ExplainsOutcome}
-use Rattle.owner_history.specs.Granted.{IsGranted, IsSettledFor}
-use Rattle.owner_history.specs.Sound.{IsFound}
-use Rattle.owner_history.proofs.Steps.{granted_on, settled_for_on}
-use Rattle.answer_path.specs.Query.{Query}
-use Rattle.answer_path.specs.Demand.{Demand, asks, recalls, balances}
-use Rattle.session_core.specs.Served.{IsBorneOutTo}
-use Rattle.session_laws.proofs.Listed.{stands_at}
+use Rattle.query_server.specs.OwnerHistory.Explains.{IsNoisedValue, ExplainsOutcome}
+use Rattle.query_server.specs.OwnerHistory.Granted.{IsGranted, IsSettledFor}
+use Rattle.query_server.specs.OwnerHistory.Sound.{IsFound}
+use Rattle.query_server.proofs.OwnerHistory.Steps.{granted_on, settled_for_on}
+use Rattle.query_server.specs.AnswerPath.Query.{Query}
+use Rattle.query_server.specs.AnswerPath.Demand.{Demand, asks, recalls, balances}
+use Rattle.query_server.specs.SessionCore.Served.{IsBorneOutTo}
+use Rattle.query_server.proofs.SessionLaws.Listed.{stands_at}
 use Rattle.successive_runs.specs.Kept.{StandsAnswered, StandsRecalled}
 
 -- The reservation of a number stands at it.

@@ -14,32 +14,32 @@ use Rattle.budget_ledger.specs.declared.failure.Failure.{Failure}
 use Rattle.owner_house.specs.Owner.{Owner}
 use Rattle.owner_house.specs.House.{House, IsOwnerIn}
 use Rattle.owner_desk.specs.Passes.{Told}
-use Rattle.owner_history.specs.Explains.{Explains}
-use Rattle.owner_history.specs.Sound.{IsFound}
-use Rattle.owner_history.proofs.Explaining.{explains_reservation, explains_settlement, outcome_explains}
-use Rattle.owner_history.proofs.Grants.{verdict_grants}
-use Rattle.owner_history.proofs.Prefixes.{prefix_self, prefix_by, prefix_trans, slice_get_prefix}
-use Rattle.owner_history.proofs.Steps.{IsWell}
-use Rattle.answer_path.specs.Query.{Query}
-use Rattle.answer_path.specs.Demand.{Demand, asks}
-use Rattle.answer_path.specs.Answered.{granted_record}
-use Rattle.answer_path.specs.Shut.{IsPendingOf}
-use Rattle.answer_path.specs.Verdict.{ask_for}
-use Rattle.session_core.specs.Code.{IsAnalyst}
-use Rattle.session_core.specs.Meant.{wants}
-use Rattle.session_core.specs.Turns.{Turn, meant_at}
-use Rattle.session_core.specs.Exchanges.{Exchange}
-use Rattle.session_core.specs.Served.{Sources}
-use Rattle.session_laws.specs.Lines.{AreKnown}
-use Rattle.session_laws.proofs.Added.{IsLeftOpen, IsSettledLater, IsReservedBy, IsKind, number_below}
-use Rattle.session_laws.proofs.Causes.{caused}
-use Rattle.session_laws.proofs.Comes.{slice_take}
-use Rattle.session_laws.proofs.Kept.{well}
-use Rattle.session_laws.proofs.Listed.{all_by_places, of_mapped}
-use Rattle.session_laws.proofs.Once.{kind_at}
-use Rattle.session_laws.proofs.Places.{listed_below, prefix_seam}
-use Rattle.session_laws.proofs.Sources.{sources, program_at}
-use Rattle.session_laws.proofs.Standing.{the_owner}
+use Rattle.query_server.specs.OwnerHistory.Explains.{Explains}
+use Rattle.query_server.specs.OwnerHistory.Sound.{IsFound}
+use Rattle.query_server.proofs.OwnerHistory.Explaining.{explains_reservation, explains_settlement, outcome_explains}
+use Rattle.query_server.proofs.OwnerHistory.Grants.{verdict_grants}
+use Rattle.query_server.proofs.OwnerHistory.Prefixes.{prefix_self, prefix_by, prefix_trans, slice_get_prefix}
+use Rattle.query_server.proofs.OwnerHistory.Steps.{IsWell}
+use Rattle.query_server.specs.AnswerPath.Query.{Query}
+use Rattle.query_server.specs.AnswerPath.Demand.{Demand, asks}
+use Rattle.query_server.specs.AnswerPath.Answered.{granted_record}
+use Rattle.query_server.specs.AnswerPath.Shut.{IsPendingOf}
+use Rattle.query_server.specs.AnswerPath.Verdict.{ask_for}
+use Rattle.query_server.specs.SessionCore.Code.{IsAnalyst}
+use Rattle.query_server.specs.SessionCore.Meant.{wants}
+use Rattle.query_server.specs.SessionCore.Turns.{Turn, meant_at}
+use Rattle.query_server.specs.SessionCore.Exchanges.{Exchange}
+use Rattle.query_server.specs.SessionCore.Served.{Sources}
+use Rattle.query_server.specs.SessionLaws.Lines.{AreKnown}
+use Rattle.query_server.proofs.SessionLaws.Added.{IsLeftOpen, IsSettledLater, IsReservedBy, IsKind, number_below}
+use Rattle.query_server.proofs.SessionLaws.Causes.{caused}
+use Rattle.query_server.proofs.SessionLaws.Comes.{slice_take}
+use Rattle.query_server.proofs.SessionLaws.Kept.{well}
+use Rattle.query_server.proofs.SessionLaws.Listed.{all_by_places, of_mapped}
+use Rattle.query_server.proofs.SessionLaws.Once.{kind_at}
+use Rattle.query_server.proofs.SessionLaws.Places.{listed_below, prefix_seam}
+use Rattle.query_server.proofs.SessionLaws.Sources.{sources, program_at}
+use Rattle.query_server.proofs.SessionLaws.Standing.{the_owner}
 use Rattle.query_server.proofs.Owed.{history_within}
 use Rattle.successive_runs.specs.Left.{IsLeft}
 use Rattle.successive_runs.specs.Life.{Run, IsRun}

@@ -16,23 +16,23 @@ use Rattle.owner_house.specs.Owner.{Owner}
 use Rattle.owner_house.specs.House.{House, IsOwnerIn}
 use Rattle.owner_desk.specs.Passes.{Told}
 use Rattle.owner_desk.specs.Answers.{Has}
-use Rattle.owner_history.specs.Granted.{told_settlement, IsGranted, IsBorneOut}
-use Rattle.owner_history.specs.Sound.{IsFound}
-use Rattle.owner_history.proofs.Grants.{verdict_grants}
-use Rattle.owner_history.proofs.Prefixes.{prefix_by, prefix_trans, reservation_prefix, outcome_prefix}
-use Rattle.answer_path.specs.Query.{Query}
-use Rattle.answer_path.specs.Demand.{Demand, asks}
-use Rattle.answer_path.specs.Answered.{granted_record}
-use Rattle.session_core.specs.Meant.{wants}
-use Rattle.session_core.specs.Turns.{meant_at}
-use Rattle.session_core.specs.Exchanges.{Exchange}
-use Rattle.session_core.specs.Served.{IsBorneOutTo}
-use Rattle.session_core.specs.Transcript.{first_new}
-use Rattle.session_core.proofs.Exactly.{outcome_said}
-use Rattle.session_laws.specs.Growing.{IsMetOn}
-use Rattle.session_laws.proofs.Added.{IsLeftOpen, IsSettledLater, IsReservedBy, IsKind, kind_met, number_is, number_below, reserved_told}
-use Rattle.session_laws.proofs.Places.{below, listed_below, prefix_seam}
-use Rattle.session_laws.proofs.Sources.{reserve_told, number_new, same_line}
+use Rattle.query_server.specs.OwnerHistory.Granted.{told_settlement, IsGranted, IsBorneOut}
+use Rattle.query_server.specs.OwnerHistory.Sound.{IsFound}
+use Rattle.query_server.proofs.OwnerHistory.Grants.{verdict_grants}
+use Rattle.query_server.proofs.OwnerHistory.Prefixes.{prefix_by, prefix_trans, reservation_prefix, outcome_prefix}
+use Rattle.query_server.specs.AnswerPath.Query.{Query}
+use Rattle.query_server.specs.AnswerPath.Demand.{Demand, asks}
+use Rattle.query_server.specs.AnswerPath.Answered.{granted_record}
+use Rattle.query_server.specs.SessionCore.Meant.{wants}
+use Rattle.query_server.specs.SessionCore.Turns.{meant_at}
+use Rattle.query_server.specs.SessionCore.Exchanges.{Exchange}
+use Rattle.query_server.specs.SessionCore.Served.{IsBorneOutTo}
+use Rattle.query_server.specs.SessionCore.Transcript.{first_new}
+use Rattle.query_server.proofs.SessionCore.Exactly.{outcome_said}
+use Rattle.query_server.specs.SessionLaws.Growing.{IsMetOn}
+use Rattle.query_server.proofs.SessionLaws.Added.{IsLeftOpen, IsSettledLater, IsReservedBy, IsKind, kind_met, number_is, number_below, reserved_told}
+use Rattle.query_server.proofs.SessionLaws.Places.{below, listed_below, prefix_seam}
+use Rattle.query_server.proofs.SessionLaws.Sources.{reserve_told, number_new, same_line}
 use Rattle.successive_runs.specs.Life.{Run, IsRun}
 use Rattle.successive_runs.proofs.Fronts.{history_on, unsettled_before}
 use Rattle.successive_runs.proofs.Ran.{spoken, known, By, whole, kind_here, program_here, IsGoneOn}

@@ -9,12 +9,12 @@ use Rattle.budget_journal.specs.Journals.{Stands}
 use Rattle.wire_lines.specs.Reply.{Replied, answered, recalled}
 use Rattle.owner_house.specs.Owner.{Owner}
 use Rattle.owner_house.specs.House.{House}
-use Rattle.owner_history.specs.Explains.{IsNoisedValue}
-use Rattle.owner_history.specs.Granted.{IsGranted, IsSettledFor, told_settlement}
-use Rattle.owner_history.specs.Sound.{IsFound, IsDisplacementBounded}
-use Rattle.answer_path.specs.Query.{Query}
-use Rattle.answer_path.specs.Demand.{Demand, asks, recalls}
-use Rattle.session_core.specs.Served.{IsBorneOutTo}
+use Rattle.query_server.specs.OwnerHistory.Explains.{IsNoisedValue}
+use Rattle.query_server.specs.OwnerHistory.Granted.{IsGranted, IsSettledFor, told_settlement}
+use Rattle.query_server.specs.OwnerHistory.Sound.{IsFound, IsDisplacementBounded}
+use Rattle.query_server.specs.AnswerPath.Query.{Query}
+use Rattle.query_server.specs.AnswerPath.Demand.{Demand, asks, recalls}
+use Rattle.query_server.specs.SessionCore.Served.{IsBorneOutTo}
 use Rattle.successive_runs.specs.Life.{Run, WasSent}
 
 -- A file stands for records that programs explain, which begin with these.

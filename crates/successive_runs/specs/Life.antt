@@ -9,14 +9,14 @@ use Rattle.budget_ledger.specs.declared.failure.Failure.{Failure}
 use Rattle.wire_lines.specs.Reply.{Replied}
 use Rattle.owner_house.specs.Owner.{Owner}
 use Rattle.owner_house.specs.House.{House}
-use Rattle.answer_path.specs.Demand.{Demand}
-use Rattle.session_core.specs.Code.{IsAnalyst}
-use Rattle.session_core.specs.Meant.{wants}
-use Rattle.session_core.specs.Turns.{meant_at}
-use Rattle.session_core.specs.Exchanges.{Exchange}
-use Rattle.session_core.specs.Gathered.{AreGathered, AreShut}
-use Rattle.session_core.specs.Transcript.{first_new}
-use Rattle.session_laws.specs.Growing.{IsMetOn}
+use Rattle.query_server.specs.AnswerPath.Demand.{Demand}
+use Rattle.query_server.specs.SessionCore.Code.{IsAnalyst}
+use Rattle.query_server.specs.SessionCore.Meant.{wants}
+use Rattle.query_server.specs.SessionCore.Turns.{meant_at}
+use Rattle.query_server.specs.SessionCore.Exchanges.{Exchange}
+use Rattle.query_server.specs.SessionCore.Gathered.{AreGathered, AreShut}
+use Rattle.query_server.specs.SessionCore.Transcript.{first_new}
+use Rattle.query_server.specs.SessionLaws.Growing.{IsMetOn}
 use Rattle.successive_runs.specs.Left.{IsLeft}
 
 -- A run: the lines of a script, or of sessions, that workers answered, with what that made of one owner's records and book; at which

@@ -5,7 +5,7 @@ use Rattle.journal_records.specs.declared.records.Record.{Record}
 use Rattle.budget_journal.specs.Journals.{Stands}
 use Rattle.owner_house.specs.Owner.{Owner}
 use Rattle.owner_house.specs.House.{house_of}
-use Rattle.session_core.specs.Transcript.{Journals}
+use Rattle.query_server.specs.SessionCore.Transcript.{Journals}
 use Rattle.catalog_loading.specs.Loaded.{Loading, header_of}
 use Rattle.query_server.specs.Shelves.{Shelf}
 use Rattle.query_server.specs.Run.{IsScriptAnswered}

@@ -11,7 +11,7 @@ use Rattle.exact_bernoulli.specs.Readers.{read_bernoulli_exp, read_run, read_ber
 use Rattle.discrete_laplace.specs.Readers.{read_sample, read_attempt, read_geometric}
 use Rattle.discrete_laplace.specs.Noise.{noise_of}
 use Rattle.discrete_laplace.proofs.Fewer.{noise_of_first}
-use Rattle.answer_path.specs.Noise.{noise_at, scale_numerator, scale_denominator}
+use Rattle.query_server.specs.AnswerPath.Noise.{noise_at, scale_numerator, scale_denominator}
 use Rattle.worked_row.specs.Held.{zeros}
 
 -- the first draws, which suffice

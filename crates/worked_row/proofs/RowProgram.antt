@@ -4,10 +4,10 @@ use Rattle.std.specs.Prelude.{ℤ, pos}
 use Rattle.fz_frac.specs.Distance.{Fin}
 use Rattle.fz_frac.specs.Lowest.{gcd, gcd_in}
 use Rattle.shape_law.specs.Walk.{depth_limit}
-use Rattle.answer_path.specs.Reading.{read}
-use Rattle.answer_path.specs.Judgement.{accepted, judgement_of, HasValue}
-use Rattle.answer_path.proofs.Programs.{one_value}
-use Rattle.answer_path.proofs.SizePeople.{size_people, size_term, size_reads}
+use Rattle.query_server.specs.AnswerPath.Reading.{read}
+use Rattle.query_server.specs.AnswerPath.Judgement.{accepted, judgement_of, HasValue}
+use Rattle.query_server.proofs.AnswerPath.Programs.{one_value}
+use Rattle.query_server.proofs.AnswerPath.SizePeople.{size_people, size_term, size_reads}
 use Rattle.fz_ast.specs.Signature.{Signature}
 use Rattle.metric_values.specs.Tables.{Dataset}
 use Rattle.owner_catalog.specs.Catalog.{owner_signature}

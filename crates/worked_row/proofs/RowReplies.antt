@@ -23,27 +23,27 @@ use Rattle.wire_lines.specs.declared.refusal.DiskRefusal.TheVariants.{Closed, Fa
 use Rattle.wire_lines.specs.Request.{request_of}
 use Rattle.wire_lines.specs.declared.refusal.NumberRefusal.TheVariants.{Lost as NoAnswer}
 use Rattle.wire_lines.specs.Reply.{Replied, greeted, answered, ended, refused, reply_text}
-use Rattle.answer_path.specs.Reading.{Reading, read}
-use Rattle.answer_path.specs.Judgement.{Judgement, accepted, judgement_of}
+use Rattle.query_server.specs.AnswerPath.Reading.{Reading, read}
+use Rattle.query_server.specs.AnswerPath.Judgement.{Judgement, accepted, judgement_of}
 use Rattle.owner_house.specs.Owner.{Owner, signature_of_view}
-use Rattle.answer_path.specs.Query.{Query}
-use Rattle.answer_path.specs.Noise.{noise_at}
-use Rattle.answer_path.specs.Verdict.{Verdict, granted, IsVerdict, IsVerdictBy}
-use Rattle.answer_path.specs.Answered.{HasWorthIn, IsAnswered, IsAnsweredBy, IsSettledAt, outcome_reply}
-use Rattle.answer_path.proofs.Readings.{one_reading}
-use Rattle.answer_path.proofs.SizePeople.{size_people, size_term, size_reads}
+use Rattle.query_server.specs.AnswerPath.Query.{Query}
+use Rattle.query_server.specs.AnswerPath.Noise.{noise_at}
+use Rattle.query_server.specs.AnswerPath.Verdict.{Verdict, granted, IsVerdict, IsVerdictBy}
+use Rattle.query_server.specs.AnswerPath.Answered.{HasWorthIn, IsAnswered, IsAnsweredBy, IsSettledAt, outcome_reply}
+use Rattle.query_server.proofs.AnswerPath.Readings.{one_reading}
+use Rattle.query_server.proofs.AnswerPath.SizePeople.{size_people, size_term, size_reads}
 use Rattle.owner_house.specs.House.{House, house_of, owner_of}
 use Rattle.owner_desk.specs.Passes.{closing}
-use Rattle.answer_path.specs.Demand.{Demand, asks}
-use Rattle.answer_path.specs.Met.{IsMetExactly}
-use Rattle.answer_path.specs.Shut.{FailsBy, Shut, ShutsBy, disk_word, unshut}
-use Rattle.session_core.specs.Meant.{Meant, says, wants, meant_by}
-use Rattle.session_core.specs.Served.{ShutsFor, ShutsOn}
-use Rattle.session_core.specs.Gathered.{StillShut}
-use Rattle.session_laws.proofs.Exact.{exact, one_part}
-use Rattle.session_core.specs.Turns.{Turn, turns_of, meant_at}
-use Rattle.session_core.specs.Exchanges.{Exchange, IsPlain, ArePlain, TurnLeads, Lead}
-use Rattle.session_core.specs.Transcript.{Journals, MeetsExactly, LeadExactly, first_new}
+use Rattle.query_server.specs.AnswerPath.Demand.{Demand, asks}
+use Rattle.query_server.specs.AnswerPath.Met.{IsMetExactly}
+use Rattle.query_server.specs.AnswerPath.Shut.{FailsBy, Shut, ShutsBy, disk_word, unshut}
+use Rattle.query_server.specs.SessionCore.Meant.{Meant, says, wants, meant_by}
+use Rattle.query_server.specs.SessionCore.Served.{ShutsFor, ShutsOn}
+use Rattle.query_server.specs.SessionCore.Gathered.{StillShut}
+use Rattle.query_server.proofs.SessionLaws.Exact.{exact, one_part}
+use Rattle.query_server.specs.SessionCore.Turns.{Turn, turns_of, meant_at}
+use Rattle.query_server.specs.SessionCore.Exchanges.{Exchange, IsPlain, ArePlain, TurnLeads, Lead}
+use Rattle.query_server.specs.SessionCore.Transcript.{Journals, MeetsExactly, LeadExactly, first_new}
 use Rattle.catalog_loading.specs.Loaded.{in_versions}
 use Rattle.query_server.specs.Run.{IsScriptAnswered}
 use Rattle.query_server.specs.Shelves.{Shelf}

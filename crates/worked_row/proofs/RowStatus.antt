@@ -9,7 +9,7 @@ use Rattle.budget_journal.proofs.One.{stands-one}
 use Rattle.budget_core.specs.Entries.{Entry}
 use Rattle.budget_core.specs.Legal.{IsHistory}
 use Rattle.query_server.proofs.Unopened.{not_refused as never_refused}
-use Rattle.session_core.specs.Transcript.{Journals}
+use Rattle.query_server.specs.SessionCore.Transcript.{Journals}
 use Rattle.query_server.specs.Work.{Work, to_answer}
 use Rattle.query_server.specs.Run.{IsScriptAnswered, IsScriptDue}
 use Rattle.catalog_loading.specs.Loaded.{header_in, in_versions, new_entry, new_header, owner_name_at}

@@ -3,7 +3,7 @@ use Rattle.word_streams.specs.Draws.{draws_of}
 use Rattle.std.specs.List.{All}
 use Rattle.owner_lock.specs.Known.{whole_share}
 use Rattle.owner_house.specs.House.{house_of}
-use Rattle.session_core.specs.Bundles.{Bundle}
+use Rattle.session_laws.specs.SessionCore.Bundles.{Bundle}
 use Rattle.generated_run.proofs.Closing.{answered_over, are_fresh, are_passes, is_first, one_whole, worked_as}
 use Rattle.generated_run.proofs.run.answer.Goals as goal
 

@@ -1,6 +1,6 @@
 use Rattle.std.proofs.Common.{sym, subst, arith}
 use Rattle.owner_desk.specs.Passes.{Pass}
-use Rattle.session_core.specs.Code.{IsClosedWith}
+use Rattle.session_laws.specs.SessionCore.Code.{IsClosedWith}
 use Rattle.generated_run.proofs.Closing.{many_passes, only_pass, own_desk, own_knows, own_share}
 use Rattle.generated_run.proofs.run.close.Goals as goal
 

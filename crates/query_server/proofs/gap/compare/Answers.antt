@@ -5,10 +5,10 @@ use Rattle.fz_frac.specs.Sens.{distance_of}
 use Rattle.metric_law.specs.Means.{Means}
 use Rattle.metric_values.specs.Tables.{apart, rows_of}
 use Rattle.metric_values.specs.Values.{NumV}
-use Rattle.answer_path.specs.Reading.{read}
-use Rattle.answer_path.specs.Judgement.{accepted, judgement_of}
-use Rattle.answer_path.specs.Code.{IsJudged}
-use Rattle.answer_path.proofs.Told.{judged_walks_little}
+use Rattle.generated_run.specs.AnswerPath.Reading.{read}
+use Rattle.generated_run.specs.AnswerPath.Judgement.{accepted, judgement_of}
+use Rattle.generated_run.specs.AnswerPath.Code.{IsJudged}
+use Rattle.generated_run.proofs.AnswerPath.Told.{judged_walks_little}
 use Rattle.query_server.specs.Gap.{gap_text}
 use Rattle.query_server.proofs.Judged.{gap_accepted}
 use Rattle.query_server.proofs.gap.compare.Goals as goal

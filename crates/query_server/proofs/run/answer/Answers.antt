@@ -1,8 +1,8 @@
 use Rattle.std.proofs.Common.{◌≡◌, ◌∙◌, length, sym, ap, subst, arith}
 use Rattle.word_streams.specs.Draws.{draws_of}
 use Rattle.owner_house.specs.House.{Register, house_of}
-use Rattle.session_core.specs.Bundles.{Bundle, bundle_of}
-use Rattle.session_core.specs.Code.{AreFresh, ArePasses}
+use Rattle.generated_run.specs.SessionCore.Bundles.{Bundle, bundle_of}
+use Rattle.generated_run.specs.SessionCore.Code.{AreFresh, ArePasses}
 use Rattle.catalog_loading.specs.Loaded.{owners_in}
 use Rattle.query_server.specs.Ends.{IsScriptEnd}
 use Rattle.owner_books.proofs.Bundled.{AreWholeIn, many_known}

@@ -3,8 +3,8 @@ use Rattle.std.specs.Prelude.{Err}
 use Rattle.std.proofs.lemmas.List.{length-map}
 use Rattle.word_streams.specs.Draws.{draws_of}
 use Rattle.owner_house.specs.House.{Register, house_of}
-use Rattle.session_core.specs.Bundles.{Bundle, bundle_of}
-use Rattle.session_core.specs.Code.{AreFresh, ArePasses}
+use Rattle.generated_run.specs.SessionCore.Bundles.{Bundle, bundle_of}
+use Rattle.generated_run.specs.SessionCore.Code.{AreFresh, ArePasses}
 use Rattle.service_workers.specs.Services.{door_of}
 use Rattle.catalog_loading.specs.Loaded.{IsLoading, KeyedHouse, Loading, in_versions, keyed, owners_in}
 use Rattle.query_server.specs.Outside.{doors_in}

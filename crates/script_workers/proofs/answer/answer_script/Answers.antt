@@ -1,7 +1,7 @@
 use Rattle.std.proofs.Common.{rules, ◌≡◌, ◌+◌, ◌++◌, ◌<◌, ◌≤◌, ℕ, List, [], length, get_or, map, take, drop, take_at, sym, refl, ap, ◌∙◌, subst, arith}
 use Rattle.std.specs.Prelude.{sum_by}
-use Rattle.owner_house.specs.House.{house_of}
-use Rattle.owner_desk.specs.Passes.{Pass}
+use Rattle.session_core.specs.OwnerHouse.House.{house_of}
+use Rattle.session_core.specs.OwnerDesk.Passes.{Pass}
 use Rattle.session_core.specs.Blocks.{own_blocks, script_blocks}
 use Rattle.session_core.specs.Bundles.{Bundle}
 use Rattle.session_core.specs.Code.{pass_at}

@@ -1,5 +1,5 @@
 use Rattle.std.proofs.Common.{◌≡◌, length}
-use Rattle.owner_house.specs.House.{house_of}
+use Rattle.session_core.specs.OwnerHouse.House.{house_of}
 use Rattle.session_core.specs.Code.{ArePasses}
 use Rattle.script_workers.proofs.Served.{IsServing}
 use Rattle.script_workers.proofs.worker.serve.Given as goal

@@ -1,6 +1,6 @@
 use Rattle.std.proofs.Common.{◌≡◌, length, get_or, sym, ap, ◌∙◌, arith}
 use Rattle.std.proofs.lemmas.List.{length_push}
-use Rattle.session_core.specs.Code.{pass_at}
+use Rattle.held_sessions.specs.SessionCore.Code.{pass_at}
 use Rattle.script_workers.proofs.Taking.{popped, shares_taken, taken_next}
 use Rattle.service_workers.proofs.Posted.{doors_back, worst_step}
 use Rattle.service_workers.proofs.crew.bring_in.Goals as goal

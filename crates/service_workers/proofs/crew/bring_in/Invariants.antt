@@ -1,6 +1,6 @@
 use Rattle.std.proofs.Common.{◌≡◌, ◌+◌, ◌++◌, ◌<◌, ◌≤◌, ℕ, length, get_or, drop, map}
 use Rattle.std.specs.Prelude.{sum_by, vec_capacity}
-use Rattle.session_core.specs.Code.{pass_at}
+use Rattle.held_sessions.specs.SessionCore.Code.{pass_at}
 use Rattle.script_workers.specs.Crews.{HasTakenAll}
 use Rattle.service_workers.specs.Code.{worst_of}
 use Rattle.service_workers.proofs.crew.bring_in.Given as goal

@@ -1,7 +1,7 @@
 use Rattle.std.proofs.Common.{◌≡◌, ◌+◌, ◌-◌, ◌≤◌, ℕ, List, length, get_or, map, sym, ap, ◌∙◌, subst, arith, length-append}
 use Rattle.std.specs.Prelude.{All}
 use Rattle.std.proofs.lemmas.List.{length_push, length-map}
-use Rattle.session_core.specs.Bundles.{Bundle, handed_on}
+use Rattle.held_sessions.specs.SessionCore.Bundles.{Bundle, handed_on}
 use Rattle.script_workers.specs.Crews.{needed}
 use Rattle.script_workers.proofs.Shares.{two_needed, half_needed, shares_step, push_cases}
 use Rattle.service_workers.proofs.Posted.{doors_step}

@@ -1,6 +1,6 @@
 use Rattle.std.proofs.Common.{◌≡◌, ◌+◌, ◌++◌, ◌-◌, ◌<◌, ◌≤◌, ℕ, length, get_or, map}
 use Rattle.std.specs.Prelude.{All, sum_by, vec_capacity}
-use Rattle.session_core.specs.Bundles.{handed_on}
+use Rattle.held_sessions.specs.SessionCore.Bundles.{handed_on}
 use Rattle.script_workers.specs.Crews.{needed}
 use Rattle.service_workers.proofs.crew.hire_all.Given as goal
 

@@ -3,8 +3,8 @@ use Rattle.std.specs.Prelude.{sum_by}
 use Rattle.word_streams.specs.Draws.{draws_of}
 use Rattle.owner_house.specs.House.{house_of}
 use Rattle.owner_desk.specs.Passes.{Pass}
-use Rattle.session_core.specs.Bundles.{Bundle}
-use Rattle.session_core.specs.Code.{pass_at}
+use Rattle.held_sessions.specs.SessionCore.Bundles.{Bundle}
+use Rattle.held_sessions.specs.SessionCore.Code.{pass_at}
 use Rattle.script_workers.specs.Crews.{HasTakenAll}
 use Rattle.script_workers.proofs.Brought.{sum_same}
 use Rattle.script_workers.proofs.Back.{all_back, handed_passes, none_brought, owner_within, passes_back, same_locks, some_of, whole_enough}

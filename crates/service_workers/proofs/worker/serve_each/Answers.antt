@@ -1,6 +1,6 @@
 use Rattle.std.proofs.Common.{refl, ap, arith}
-use Rattle.session_core.specs.Bundles.{Bundle}
-use Rattle.session_serve.proofs.Steps.{bundle_goes, still_here}
+use Rattle.held_sessions.specs.SessionCore.Bundles.{Bundle}
+use Rattle.held_sessions.proofs.Steps.{bundle_goes, still_here}
 use Rattle.service_workers.proofs.Attending.{attending_first, attending_next, attended_all, attended_failing, attended_wanting, was_served, was_wanting}
 use Rattle.service_workers.proofs.worker.serve_each.Goals as goal
 

@@ -1,6 +1,6 @@
 use Rattle.std.proofs.Common.{◌≡◌}
 use Rattle.owner_house.specs.House.{house_of}
-use Rattle.session_core.specs.Code.{ArePasses}
+use Rattle.held_sessions.specs.SessionCore.Code.{ArePasses}
 use Rattle.service_workers.specs.Services.{door_of}
 use Rattle.service_workers.proofs.Attending.{IsAttending}
 use Rattle.service_workers.proofs.worker.serve_each.Given as goal

@@ -1,5 +1,5 @@
 use Rattle.std.proofs.Common.{ap}
-use Rattle.session_core.specs.Bundles.{Bundle}
+use Rattle.held_sessions.specs.SessionCore.Bundles.{Bundle}
 use Rattle.service_workers.proofs.Attending.{held_one}
 use Rattle.service_workers.proofs.worker.serve_next.Goals as goal
 

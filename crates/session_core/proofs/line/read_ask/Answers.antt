@@ -2,10 +2,10 @@ use Rattle.std.proofs.Common.{◌<◌, ℕ, Option, sym, subst}
 use Rattle.std.specs.Prelude.{IfSome, IfOk, Result}
 use Rattle.budget_core.specs.Entries.{IsEpsilon}
 use Rattle.wire_lines.specs.declared.refusal.LineRefusal.{LineRefusal}
-use Rattle.owner_house.specs.House.{house_of}
+use Rattle.owner_history.specs.OwnerHouse.House.{house_of}
 use Rattle.session_core.specs.Code.{IsAnalyst, IsSubjectIn}
 use Rattle.session_core.specs.declared.line.Subject.{Subject}
-use Rattle.owner_house.proofs.Owners.{owner_counts}
+use Rattle.owner_history.proofs.OwnerHouse.Owners.{owner_counts}
 use Rattle.session_core.proofs.line.read_ask.Goals as goal
 
 pub returns-in-Ok-Some-Some-clause-proper : goal.returns-in-Ok-Some-Some-clause-proper

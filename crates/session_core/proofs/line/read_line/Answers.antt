@@ -1,6 +1,6 @@
 use Rattle.std.proofs.Common.{◌≡◌, ◌∙◌, sym, ap, subst, Ok, Err}
 use Rattle.wire_lines.specs.Request.{request_of, reading, hello, ask, askpart, recall, left, bye}
-use Rattle.owner_house.specs.House.{house_of}
+use Rattle.owner_history.specs.OwnerHouse.House.{house_of}
 use Rattle.session_core.specs.Meant.{meant_by_ask}
 use Rattle.session_core.specs.Code.{meaning_of, IsShort}
 use Rattle.session_core.specs.declared.line.LineMeaning.{LineMeaning}

@@ -1,7 +1,7 @@
 use Rattle.std.proofs.Common.{◌∙◌, cond, Bool, List, [], ◌++◌, ℕ, None, Option, refl, sym, ap, subst, arith, append-nil, append_assoc}
 use Rattle.wire_lines.specs.Lines.{lines_of}
 use Rattle.wire_lines.specs.Reply.{replied, reply_text}
-use Rattle.owner_house.specs.House.{house_of}
+use Rattle.owner_history.specs.OwnerHouse.House.{house_of}
 use Rattle.session_core.specs.Meant.{meant_by, next_who}
 use Rattle.session_core.specs.Turns.{session_turns}
 use Rattle.session_core.specs.Exchanges.{Exchange}

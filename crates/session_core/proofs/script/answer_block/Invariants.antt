@@ -1,7 +1,7 @@
 use Rattle.std.proofs.Common.{◌≡◌, ◌++◌, ◌≤◌, ℕ, List, length}
 use Rattle.std.specs.Prelude.{vec_capacity}
 use Rattle.wire_lines.specs.Lines.{lines_of}
-use Rattle.owner_house.specs.House.{house_of}
+use Rattle.owner_history.specs.OwnerHouse.House.{house_of}
 use Rattle.session_core.specs.Blocks.{behind_block, first_block}
 use Rattle.session_core.specs.Code.{IsAnalyst, ArePasses}
 use Rattle.session_core.proofs.Serving.{IsUpTo}

@@ -2,15 +2,15 @@ use Rattle.std.proofs.lemmas.List.{length-map}
 use Rattle.std.proofs.Common.{◌≡◌, ◌<◌, ◌∙◌, List, [], ◌∷◌, length, get_or, set, refl, sym, ap, subst}
 use Rattle.budget_core.specs.declared.entry.Entry.{Entry}
 use Rattle.wire_lines.specs.Reply.{replied}
-use Rattle.owner_catalog.specs.Entries.{PartitionEntry}
-use Rattle.owner_house.specs.House.{house_of, owner_at}
-use Rattle.owner_desk.specs.Shared.{Shared}
-use Rattle.answer_path.specs.Code.{demand_of, HasPartFor, IsDemandOf}
+use Rattle.owner_history.specs.OwnerCatalog.Entries.{PartitionEntry}
+use Rattle.owner_history.specs.OwnerHouse.House.{house_of, owner_at}
+use Rattle.owner_history.specs.OwnerDesk.Shared.{Shared}
+use Rattle.owner_history.specs.AnswerPath.Code.{demand_of, HasPartFor, IsDemandOf}
 use Rattle.session_core.specs.Exchanges.{Exchange}
 use Rattle.session_core.specs.Bundles.{Bundle, bundle_of}
 use Rattle.session_core.specs.Code.{meaning_of, ArePasses, AreServed, WantsTooManyWalks}
 use Rattle.session_core.specs.declared.line.LineMeaning.TheVariants.{Says, Wants}
-use Rattle.owner_house.proofs.Owners.{owner_holds, tables_named}
+use Rattle.owner_history.proofs.OwnerHouse.Owners.{owner_holds, tables_named}
 use Rattle.session_core.proofs.Bundles.{bundle_set, entry_at, knows_at, pass_within}
 use Rattle.session_core.proofs.Demands.{walks_held}
 use Rattle.session_core.proofs.Serving.{served_plain, served_wants}

@@ -1,4 +1,4 @@
-use Rattle.answer_path.proofs.Sole.{one_pass_closes}
+use Rattle.session_core.proofs.AnswerPath.Sole.{one_pass_closes}
 use Rattle.session_laws.proofs.Closings.{one_worker_closes}
 use Rattle.session_laws.proofs.laws.one_worker_shuts_books.Goals as goal
 

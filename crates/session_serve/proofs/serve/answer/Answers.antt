@@ -1,5 +1,5 @@
 use Rattle.std.proofs.Common.{◌∙◌, ap}
-use Rattle.owner_house.specs.House.{house_of}
+use Rattle.session_core.specs.OwnerHouse.House.{house_of}
 use Rattle.session_core.specs.Code.{who_behind}
 use Rattle.session_serve.proofs.Long.{long_no_bye, long_who, long_served}
 use Rattle.session_serve.proofs.serve.answer.Goals as goal

@@ -3,7 +3,7 @@ use Rattle.std.specs.Prelude.{Result, Ok, Err, Bool}
 use Rattle.fz_outside.specs.declared.Failed.{Failed}
 use Rattle.outside_links.specs.Links.{Connection, shown}
 use Rattle.wire_lines.specs.Lines.{without_cr}
-use Rattle.owner_house.specs.House.{house_of}
+use Rattle.session_core.specs.OwnerHouse.House.{house_of}
 use Rattle.session_serve.specs.Code.{IsLineAnswered}
 use Rattle.session_serve.proofs.Whole.{line_at_end}
 use Rattle.session_serve.proofs.Ends.{some_left, ends_last, ends_bye, ends_unsent}

@@ -4,7 +4,7 @@ use Rattle.std.specs.Prelude.{Result, Bool}
 use Rattle.fz_outside.specs.declared.Failed.{Failed}
 use Rattle.outside_links.specs.Links.{Connection, HasGiven, shown}
 use Rattle.outside_links.proofs.Said.{given_none, given_further}
-use Rattle.owner_house.specs.House.{house_of}
+use Rattle.session_core.specs.OwnerHouse.House.{house_of}
 use Rattle.session_serve.specs.Session.{session_limit}
 use Rattle.session_serve.specs.Code.{Leads}
 use Rattle.session_serve.proofs.Steps.{bundle_goes, still_here, goes_first, goes_link}

@@ -1,7 +1,7 @@
 use Rattle.std.proofs.Common.{◌≡◌, ◌≤◌, ◌-◌, ℕ, List, length}
 use Rattle.outside_links.specs.Links.{Connection, HasGiven, shown}
-use Rattle.owner_desk.specs.Passes.{Pass}
-use Rattle.owner_house.specs.House.{house_of}
+use Rattle.session_core.specs.OwnerDesk.Passes.{Pass}
+use Rattle.session_core.specs.OwnerHouse.House.{house_of}
 use Rattle.session_core.specs.Code.{IsAnalyst, ArePasses}
 use Rattle.session_serve.specs.Session.{session_limit}
 use Rattle.session_serve.specs.Code.{GoesOnWith}

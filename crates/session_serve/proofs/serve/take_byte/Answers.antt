@@ -1,7 +1,7 @@
 use Rattle.std.proofs.Common.{◌≡◌, ℕ, List, [], ◌∷◌, ◌++◌, sym, subst, arith}
 use Rattle.outside_links.specs.Links.{Connection, shown}
 use Rattle.wire_lines.specs.Lines.{lf, without_cr}
-use Rattle.owner_house.specs.House.{house_of}
+use Rattle.session_core.specs.OwnerHouse.House.{house_of}
 use Rattle.session_serve.specs.Code.{Keeps, Leads}
 use Rattle.session_serve.proofs.Whole.{line_ended}
 use Rattle.session_serve.proofs.Steps.{leads_line}

@@ -1,7 +1,7 @@
 use Rattle.std.proofs.Common.{◌≡◌, ◌<◌, ◌≤◌, ◌∙◌, ℕ, List, [], ◌++◌, length, take, true, false, Ok, refl, sym, ap, subst, arith, append-nil}
 use Rattle.std.proofs.lemmas.List.{take_all}
 use Rattle.outside_links.specs.Links.{Connection, shown}
-use Rattle.owner_house.specs.House.{house_of}
+use Rattle.session_core.specs.OwnerHouse.House.{house_of}
 use Rattle.session_serve.specs.Code.{GoesOnWith}
 use Rattle.session_serve.proofs.Steps.{bundle_goes, still_here, piece_parted, piece_broken, piece_goes}
 use Rattle.session_serve.proofs.serve.take_piece.Goals as goal

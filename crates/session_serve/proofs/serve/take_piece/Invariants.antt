@@ -1,7 +1,7 @@
 use Rattle.std.proofs.Common.{◌≡◌, ℕ, List, ◌++◌, take}
 use Rattle.outside_links.specs.Links.{Connection, shown}
-use Rattle.owner_desk.specs.Passes.{Pass}
-use Rattle.owner_house.specs.House.{house_of}
+use Rattle.session_core.specs.OwnerDesk.Passes.{Pass}
+use Rattle.session_core.specs.OwnerHouse.House.{house_of}
 use Rattle.session_core.specs.Code.{IsAnalyst, ArePasses}
 use Rattle.session_serve.specs.Code.{GoesOnWith}
 use Rattle.session_serve.proofs.serve.take_piece.Given as goal

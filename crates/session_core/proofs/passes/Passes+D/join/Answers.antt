@@ -1,5 +1,5 @@
 use Rattle.std.proofs.Common.{rules, ◌≡◌, ◌+◌, ◌<◌, ℕ, [], ◌∷◌, length, set, refl, sym, ◌∙◌, ap, subst, arith, append-nil}
-use Rattle.owner_desk.specs.Shared.{Shared}
+use Rattle.owner_history.specs.OwnerDesk.Shared.{Shared}
 use Rattle.session_core.specs.Bundles.{Bundle, HasTakenIn, bundle_of}
 use Rattle.session_core.proofs.Bundles.{bundle_length, lock_at}
 use Rattle.session_core.proofs.Joins.{HaveTakenFrom, popped_at, taken_next, taken_none}

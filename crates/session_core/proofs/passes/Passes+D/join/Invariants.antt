@@ -1,5 +1,5 @@
 use Rattle.std.proofs.Common.{◌≡◌, ◌++◌, List, length}
-use Rattle.owner_desk.specs.Shared.{Shared}
+use Rattle.owner_history.specs.OwnerDesk.Shared.{Shared}
 use Rattle.session_core.specs.Bundles.{bundle_of}
 use Rattle.session_core.proofs.Joins.{HaveTakenFrom}
 use Rattle.session_core.proofs.passes.Passes+D.join.Given as goal

@@ -2,7 +2,7 @@ use Rattle.std.proofs.Common.{◌≡◌, ◌+◌, ◌<◌, ◌≤◌, ℕ, suc, 
 use Rattle.std.proofs.lemmas.List.{get_or-map, length-map, map-append}
 use Rattle.std.proofs.lemmas.List.Elements.{All-get_or}
 use Rattle.std.proofs.Math.Seq.{take-length, take-suc}
-use Rattle.owner_desk.specs.Shared.{Shared}
+use Rattle.owner_history.specs.OwnerDesk.Shared.{Shared}
 use Rattle.session_core.specs.Bundles.{Bundle, bundle_of, given_halves, kept_halves}
 use Rattle.session_core.proofs.Bundles.{bundle_given, bundle_kept, bundle_length, given_half, kept_half, split_all, split_at, split_below, split_locks, split_set}
 use Rattle.session_core.proofs.passes.Passes+D.split.Goals as goal

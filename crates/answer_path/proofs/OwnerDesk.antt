@@ -1,0 +1,3 @@
+-- What the crates above read of owner_desk, passed on to them.
+
+pub use Rattle.owner_desk.proofs.Settles

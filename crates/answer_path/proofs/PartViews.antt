@@ -1,0 +1,3 @@
+-- What the crates above read of part_views, passed on to them.
+
+pub use Rattle.part_views.proofs.Laws
