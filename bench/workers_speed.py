@@ -11,7 +11,9 @@ wall time of both. Bars:
   second of four runs by one worker at once, each in a folder of its own;
 - on the disk, `size people`, at least 0.8 times those of four loops at once, each on a file of its own;
 - 16 workers at one owner take at most 1.5 times the processor time an answer of one worker, and give at least 0.8 times its answers a second,
-  on the disk and in memory.
+  on the disk, with 16 times as many answers in memory (some 30 ms), and with 160 times as many there, where the start of the workers is lost in the rest.
+
+2 and 4 workers at one owner stand below, without a bar.
 
 Times are of whole processes, but the loop's, which takes its own behind the making of its file. It ends with status 1 where a bar isn't met.
 """
@@ -143,8 +145,12 @@ def at_one_owner(table, rounds, answers, place, where):
     (many, used), (one, used_by_one) = in_turn(rounds, by(16), by(1))
     used, used_by_one = (seconds / answers * 10**6 for seconds in (used, used_by_one))
     many, one = answers / many, answers / one
-    table.row(f"16 workers at one owner {where}: processor time", f"{used:.1f} us an answer", f"1.5 * {used_by_one:.1f} us", used <= 1.5 * used_by_one)
+    where = f"{where}, {answers} answers"
+    table.row(f"16 workers at one owner {where}: time", f"{used:.1f} us an answer", f"1.5 * {used_by_one:.1f} us", used <= 1.5 * used_by_one)
     table.row(f"16 workers at one owner {where}: answers", f"{many:.0f} a second", f"0.8 * {one:.0f} a second", many >= 0.8 * one)
+    for few in (2, 4):
+        (wall, used), (one, used_by_one) = in_turn(rounds, by(few), by(1))
+        print(f"    {few} workers at one owner {where}: {used / used_by_one:.2f} times the processor time of one, {one / wall:.2f} times its answers")
 
 
 def main():
@@ -165,7 +171,8 @@ def main():
         four_on_disk(table, rounds, answers, disk, loop)
         at_one_owner(table, rounds, answers, disk, "on the disk")
         if os.path.isdir(MEMORY):
-            at_one_owner(table, rounds, 16 * answers, MEMORY, "in memory")
+            for times in (16, 160):
+                at_one_owner(table, rounds, times * answers, MEMORY, "in memory")
     sys.exit(1 if table.missed else 0)
 
 
