@@ -72,8 +72,9 @@ static void turn_by_watches(void)
         if (watches) {
             wait_on(&never, 0, nap);
             nap = nap < 400 ? 2 * nap : nap;
-        } else if (tries++ < 400) {
-            __builtin_ia32_pause();
+        } else if (tries++ < 100) {
+            for (int pause = 0; pause < 4; pause++)
+                __builtin_ia32_pause();
         } else if (found % 4 == TAKEN) {
             if (found & CALLED)
                 waiting += AWAKE - CALLED;

@@ -22,8 +22,10 @@ use std::snapshot::Snapshot;
 use std::sync::Wait;
 use std::time::Duration;
 
-// How often a caller that waits tries before it sleeps.
-const TRIES: u32 = 400;
+// How often a caller that waits tries before it sleeps, and how often it pauses behind each try.
+const TRIES: u32 = 100;
+
+const PAUSES: u32 = 4;
 
 // How long the one that is awake naps between two tries, in microseconds: at first, and at most.
 const FIRST_NAP: u64 = 100;
@@ -123,6 +125,13 @@ fn longer(nap: u64) -> u64 {
     }
 }
 
+// What a caller does behind a try that failed, so that the holder's word is asked for less often.
+fn pause() {
+    for _ in 0..PAUSES {
+        hint::spin_loop();
+    }
+}
+
 // The kernel compares 32 bits of a word, which are all that count fewer than 2^29 threads.
 fn low_half(word: u64) -> u32 {
     (word % 4_294_967_296) as u32
@@ -218,7 +227,7 @@ impl<T: StandsFor> Owned<T> {
                 nap = longer(nap);
             } else if tries < TRIES {
                 tries += 1;
-                hint::spin_loop();
+                pause();
             } else {
                 waiter = self.wait(rt, seat, waiter);
             }
