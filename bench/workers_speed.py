@@ -2,7 +2,7 @@
 """How fast several workers answer, beside one worker, beside processes of one worker each, and beside a plain C loop, in turn.
 
 usage: bench/workers_speed.py [ROUNDS [ANSWERS [FOLDER]]]    (PROGRAM=FILE measures another build)
-9 rounds, 500 answers an owner, and a folder on the disk of this repository, unless said. Needs cc.
+9 rounds, 500 answers an owner, and a folder on the disk of this repository, unless said. Needs cc; the last bar needs perf, and is left out without it.
 Each figure is the median of the rounds, in which what is beside each other is run in turn, in either order; above it stand the least and the most
 wall time of both. Bars:
 
@@ -11,13 +11,17 @@ wall time of both. Bars:
   second of four runs by one worker at once, each in a folder of its own;
 - on the disk, `size people`, at least 0.8 times those of four loops at once, each on a file of its own;
 - 16 workers at one owner take at most 1.5 times the processor time an answer of one worker, and give at least 0.8 times its answers a second,
-  on the disk, with 16 times as many answers in memory (some 30 ms), and with 160 times as many there, where the start of the workers is lost in the rest.
+  on the disk, with 16 times as many answers in memory (some 30 ms), and with 160 times as many there, where the start of the workers is lost in the rest;
+- a hold of an owner's lock that nobody else wants takes at most 1 us above the book's call: what a run by one worker spends in the lock's and
+  the desk's own code, by samples of the processor's clock, a hold. An answer takes two, for its reservation and for its settlement.
 
 2 and 4 workers at one owner stand below, without a bar.
 
 Times are of whole processes, but the loop's, which takes its own behind the making of its file. It ends with status 1 where a bar isn't met.
 """
 import os
+import re
+import shutil
 import subprocess
 import sys
 import tempfile
@@ -34,6 +38,9 @@ SHORT = "size people"
 # some 0.14 ms over 2^14 rows, seven times
 LONG = " + ".join(["sum[0,100] (map (fn (x : num) => x + 1) (filter (fn (x : num) => x <= 50) people))"] * 7)
 MEMORY = "/dev/shm"
+# Whose functions are the lock's and the desk's own, with the kit's loop in which a caller waits; and how often a second the clock is sampled.
+LOCKS = ("owner_lock::", "owner_desk::", "core::sync::")
+SAMPLES = 20000
 
 
 class Folder:
@@ -153,6 +160,23 @@ def at_one_owner(table, rounds, answers, place, where):
         print(f"    {few} workers at one owner {where}: {used / used_by_one:.2f} times the processor time of one, {one / wall:.2f} times its answers")
 
 
+def one_hold(table, rounds, answers, room):
+    folder = Folder(MEMORY, OWNERS[:1], 3, answers)
+    folder.script("script", [(OWNERS[0], answers, SHORT)])
+    found, kept = [], f"{room}/samples"
+    for _ in range(rounds):
+        folder.renew()
+        with open(f"{folder.name}/script") as given, open(f"{folder.name}/out", "w") as out:
+            record = ["perf", "record", "-q", "-e", "cpu-clock:u", "-F", str(SAMPLES), "-o", kept]
+            subprocess.run([*record, PROGRAM, "run", "cat.json", "key"], cwd=folder.name, stdin=given, stdout=out, stderr=subprocess.DEVNULL, check=True)
+        told = subprocess.run(["perf", "report", "-i", kept, "--stdio", "-n", "--sort", "symbol"], capture_output=True, text=True, check=True).stdout
+        samples = [(int(count), name) for count, name in re.findall(r"^ +[\d.]+% +(\d+) +\[\.\] (\S+)", told, re.M)]
+        if folder.answered() != answers or not any(name.startswith(LOCKS[0]) for _, name in samples):
+            sys.exit(f"not {answers} answers, or no function of the lock among the {len(samples)} that perf names")
+        found.append(sum(count for count, name in samples if name.startswith(LOCKS)) / SAMPLES / (2 * answers) * 10**6)
+    table.row(f"a hold that nobody else wants, {answers} answers", f"{median(found):.3f} us", "1 us", median(found) <= 1)
+
+
 def main():
     if not os.access(PROGRAM, os.X_OK):
         sys.exit(f"there is no {PROGRAM}: run 'rt run' in crates/hitchseason first, which proves and builds it")
@@ -173,6 +197,8 @@ def main():
         if os.path.isdir(MEMORY):
             for times in (16, 160):
                 at_one_owner(table, rounds, times * answers, MEMORY, "in memory")
+            if shutil.which("perf"):
+                one_hold(table, rounds, 160 * answers, built)
     sys.exit(1 if table.missed else 0)
 
 
