@@ -3,8 +3,8 @@
 
 usage: bench/workers_speed.py [ROUNDS [ANSWERS [FOLDER]]]    (PROGRAM=FILE measures another build)
 9 rounds, 500 answers an owner, and a folder on the disk of this repository, unless said. Needs cc; the last bar needs perf, and is left out without it.
-Each figure is the median of the rounds, in which what is beside each other is run in turn, in either order; above it stand the least and the most
-wall time of both. Bars:
+Each figure is the median of the rounds, in which what is beside each other is run in turn, in either order; what stands beside it is what it comes to
+by the median of the rounds' ratios. Above it stand the least and the most wall time of both. Bars:
 
 - a run by one worker takes at most 1.25 times the wall time of the loop that writes and syncs the same (bench/journal_loop.c);
 - 4 workers over 4 owners, the journals in memory and a program of about a millisecond over 2^14 rows, give at least 0.75 times the answers a
@@ -105,14 +105,19 @@ class Table:
 
 
 def in_turn(rounds, ours, theirs):
-    """The figures of both ways, each the median of the rounds. Every other round begins with the other way, since disks change their speed."""
+    """The figures of both ways: the medians of ours, and beside them theirs by the median of the rounds' ratios, since machines change their speed from
+    round to round. Every other round begins with the other way."""
     found = {ours: [], theirs: []}
     for number in range(rounds):
         for way in (ours, theirs) if number % 2 == 0 else (theirs, ours):
             found[way].append(way())
     walls = [sorted(wall for wall, _ in found[way]) for way in (ours, theirs)]
     print("    " + ", and beside it ".join(f"{wall[0]:.3f} to {wall[-1]:.3f} s" for wall in walls))
-    return [[median(column) for column in zip(*found[way])] for way in (ours, theirs)]
+    figures = []
+    for of_ours, of_theirs in zip(zip(*found[ours]), zip(*found[theirs])):
+        times = median(one / other if other else 1 for one, other in zip(of_ours, of_theirs))
+        figures.append((median(of_ours), median(of_ours) / times))
+    return list(zip(*figures))
 
 
 def one_worker(table, rounds, answers, disk, loop):
