@@ -1,6 +1,7 @@
-/* Two ways of waiting for an owner's lock, in plain C, beside one thread: each answer is two holds, each of which writes and syncs a record's body and its
+/* Three ways of waiting for an owner's lock, in plain C, beside one thread: each answer is two holds, each of which writes and syncs a record's body and its
    gate as a journal does, with some work before each. "wakes": each leave wakes one who sleeps, where none is on its way. "watches": of those who wait
-   one is awake, which naps between its tries; the others sleep until it has had its turn. Both as crates/owner_lock had them, or has them.
+   one is awake, which naps between its tries; the others sleep until it has had its turn. "leaves": so, too, but it leaves the turn to those who take
+   it again and again, for sixteen longer naps at most, and a thread that has ended wakes it. As crates/owner_lock had them, and the last as it has it.
    usage: lock_ways FILE [ANSWERS [ROUNDS [WORK]]]     8,000 answers, 9 rounds, and 250 turns of a loop before each hold, unless said.
    It prints for 2, 4 and 16 threads the medians of processor time and of answers a second, as times those of one thread, and sleeps a hold. */
 #define _GNU_SOURCE
@@ -17,8 +18,8 @@
 #include <time.h>
 #include <unistd.h>
 
-enum { TAKEN = 1, CALLED = 4, AWAKE = 8, MOST_ROUNDS = 99 };
-enum way { WAKES, WATCHES };
+enum { TAKEN = 1, CALLED = 4, AWAKE = 8, QUIET = 150, PATIENCE = 16, MOST_ROUNDS = 99 };
+enum way { WAKES, WATCHES, LEAVES };
 
 static enum way way;
 static int threads, answers, work, file;
@@ -63,18 +64,34 @@ static void turn_by_wakes(void)
     }
 }
 
+static void pause_often(void)
+{
+    for (int pause = 0; pause < 4; pause++)
+        __builtin_ia32_pause();
+}
+
+static int is_quiet(void)
+{
+    for (int look = 0; look < QUIET; look++) {
+        if (atomic_load(&word) % 4 == TAKEN)
+            return 0;
+        pause_often();
+    }
+    return 1;
+}
+
 static void turn_by_watches(void)
 {
-    int tries = 0, waits = 0, watches = 0;
-    long nap = 100;
-    while (!try_turn(16, waits, watches)) {
+    int tries = 0, waits = 0, watches = 0, naps = 0;
+    long nap = 100, longest = way == LEAVES ? 800 : 400;
+    while ((way == LEAVES && watches && naps < PATIENCE && !is_quiet()) || !try_turn(16, waits, watches)) {
         uint64_t found = atomic_load(&word), waiting = waits ? found : found + 16;
         if (watches) {
             wait_on(&never, 0, nap);
-            nap = nap < 400 ? 2 * nap : nap;
+            nap = nap < longest ? 2 * nap : nap;
+            naps++;
         } else if (tries++ < 100) {
-            for (int pause = 0; pause < 4; pause++)
-                __builtin_ia32_pause();
+            pause_often();
         } else if (found % 4 == TAKEN) {
             if (found & CALLED)
                 waiting += AWAKE - CALLED;
@@ -121,6 +138,8 @@ static void *answer(void *unused)
         hold();
         hold();
     }
+    if (way == LEAVES && threads > 1)
+        syscall(SYS_futex, &never, FUTEX_WAKE_PRIVATE, 1, NULL, NULL, 0);
     return unused;
 }
 
@@ -159,7 +178,9 @@ static double median(double *of, int count)
 
 int main(int argc, char **argv)
 {
-    static const struct { enum way way; int threads; } runs[] = {{WAKES, 1}, {WAKES, 2}, {WAKES, 4}, {WAKES, 16}, {WATCHES, 2}, {WATCHES, 4}, {WATCHES, 16}};
+    static const char *const names[] = {"wakes  ", "watches", "leaves "};
+    static const struct { enum way way; int threads; } runs[] = {{WAKES, 1},   {WAKES, 2},  {WAKES, 4},  {WAKES, 16}, {WATCHES, 2},
+                                                                      {WATCHES, 4}, {WATCHES, 16}, {LEAVES, 2}, {LEAVES, 4}, {LEAVES, 16}};
     enum { RUNS = sizeof runs / sizeof *runs };
     static double wall[RUNS][MOST_ROUNDS], used[RUNS][MOST_ROUNDS];
     long slept[RUNS] = {0};
@@ -187,7 +208,7 @@ int main(int argc, char **argv)
             printf("one thread: %.2f us an answer, %.2f of the processor\n", took / answers * 1e6, spent / answers * 1e6);
         else
             printf("%2d threads, %s: %.2f times the processor time, %.2f times the answers, %.3f sleeps a hold\n", runs[number].threads,
-                   runs[number].way == WAKES ? "wakes  " : "watches", spent / median(used[0], rounds), median(wall[0], rounds) / took, (double)slept[number] / rounds / 2 / answers);
+                   names[runs[number].way], spent / median(used[0], rounds), median(wall[0], rounds) / took, (double)slept[number] / rounds / 2 / answers);
     }
     return 0;
 }

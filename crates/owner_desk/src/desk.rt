@@ -92,6 +92,11 @@ impl<D: Disk> Desk<D> {
         self.owned.join(&mut pass.ticket, ticket);
     }
 
+    /// Tells one who waits that the caller won't come again.
+    pub fn nudge(&self) {
+        self.owned.nudge();
+    }
+
     /// The book, once all passes were joined into this one. All that was added to it is the pass's own, and so is the append that
     /// failed, if one has.
     pub fn close(self, pass: Pass<D>) -> Book<D>

@@ -30,7 +30,12 @@ const PAUSES: u32 = 4;
 // How long the one that is awake naps between two tries, in microseconds: at first, and at most.
 const FIRST_NAP: u64 = 100;
 
-const LONGEST_NAP: u64 = 400;
+const LONGEST_NAP: u64 = 800;
+
+// How often it must find that nobody has the turn before it tries, and behind how many naps it tries without that.
+const QUIET: u32 = 150;
+
+const PATIENCE: u32 = 16;
 
 // The low two bits of word 1 while a seat has the turn.
 const TAKEN: u64 = 1;
@@ -217,14 +222,16 @@ impl<T: StandsFor> Owned<T> {
     {
         let mut tries = 0u32;
         let mut nap = FIRST_NAP;
+        let mut naps = 0u32;
         let mut waiter = Waiter::Fresh;
         for _ in rt.forever() {
-            if self.try_turn(seat, waiter) {
+            if self.may_try(waiter, naps) && self.try_turn(seat, waiter) {
                 return;
             }
             if waiter == Waiter::Watcher {
                 self.nap(rt, nap);
                 nap = longer(nap);
+                naps = naps.saturating_add(1);
             } else if tries < TRIES {
                 tries += 1;
                 pause();
@@ -233,6 +240,23 @@ impl<T: StandsFor> Owned<T> {
             }
         }
         unreachable!()
+    }
+
+    // Whether a caller is to try. The one that is awake leaves the turn to those who take it again and again, since a hold that changes
+    // processors takes far longer; but not for ever.
+    fn may_try(&self, waiter: Waiter, naps: u32) -> bool {
+        waiter != Waiter::Watcher || naps >= PATIENCE || self.is_quiet()
+    }
+
+    // Nobody was found with the turn, for longer than one who answers short programs leaves it free.
+    fn is_quiet(&self) -> bool {
+        for _ in 0..QUIET {
+            if is_taken(self.table.shared.peek(1)) {
+                return false;
+            }
+            pause();
+        }
+        true
     }
 
     // Takes the turn, if nobody has it.
@@ -348,6 +372,11 @@ impl<T: StandsFor> Owned<T> {
                 .shared
                 .compare_exchange::<Mark<T>>(seat, 0, before, after);
         }
+    }
+
+    /// Wakes the one of those who wait that naps: for a caller that won't come again, so that nobody waits for the end of a nap.
+    pub fn nudge(&self) {
+        self.table.shared.wake_one(0);
     }
 
     /// The state, once all passes were joined into this one.

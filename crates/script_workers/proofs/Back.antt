@@ -8,7 +8,7 @@ use Rattle.owner_lock.specs.Known.{whole_share}
 use Rattle.session_core.specs.OwnerHouse.Owner.{Owner}
 use Rattle.session_core.specs.OwnerHouse.House.{House}
 use Rattle.session_core.specs.OwnerDesk.Passes.{Pass, Told}
-use Rattle.session_core.specs.Blocks.{own_blocks, script_blocks}
+use Rattle.session_core.specs.Blocks.{own_blocks}
 use Rattle.session_core.specs.Bundles.{Bundle, handed_on}
 use Rattle.session_core.specs.Code.{ArePasses, pass_at}
 use Rattle.script_workers.specs.declared.texts.Texts.{Texts}
@@ -65,11 +65,11 @@ none_brought pass crew knows o before after own faults handed taken =
     (none_weighs after.own (omega (arith, taken.own (λ t. 1), no_own, first)), none_weighs after.faults (omega (arith, taken.faults (λ t. 1), no_fault, second)))
 
 -- What a worker keeps may be put in order.
-pub for_order : {A : Type 0} (kept : A → Texts) (house : House) (draws : ℕ → ℕ → ℕ → ℕ) (script : List ℕ) (before after : Bundle) (seen now : List A) (i count : ℕ) (d : A) → seen ≡ now → length now ≡ count
-    → HasDone house draws count i script before after (kept (get_or now i d)) → (own : List (List ℕ)) × KeepsTexts (kept (get_or seen i d)) own × AreFor own (own_blocks (length seen) i 0 (script_blocks script))
-for_order kept house draws script before after seen now i count d is size done =
-    subst (λ w. (own : List (List ℕ)) × KeepsTexts (kept (get_or w i d)) own × AreFor own (own_blocks (length w) i 0 (script_blocks script))) (sym is)
-    (map replies_text done.parts, done.kept, subst (λ (n : ℕ). AreFor (map replies_text done.parts) (own_blocks n i 0 (script_blocks script))) (sym size) done.fit)
+pub for_order : {A : Type 0} (kept : A → Texts) (house : House) (draws : ℕ → ℕ → ℕ → ℕ) (blocks : List (List (List ℕ))) (before after : Bundle) (seen now : List A) (i count : ℕ) (d : A) → seen ≡ now → length now ≡ count
+    → HasDone house draws count i blocks before after (kept (get_or now i d)) → (own : List (List ℕ)) × KeepsTexts (kept (get_or seen i d)) own × AreFor own (own_blocks (length seen) i 0 blocks)
+for_order kept house draws blocks before after seen now i count d is size done =
+    subst (λ w. (own : List (List ℕ)) × KeepsTexts (kept (get_or w i d)) own × AreFor own (own_blocks (length w) i 0 blocks)) (sym is)
+    (map replies_text done.parts, done.kept, subst (λ (n : ℕ). AreFor (map replies_text done.parts) (own_blocks n i 0 blocks)) (sym size) done.fit)
 
 -- A worker's passes are of the same locks all along.
 pub same_locks : {A : Type 0} (pass : A → Bundle) (seen now first hired : List A) (i : ℕ) (d : A) (before after main : Bundle) → seen ≡ now → after ≡ pass (get_or now i d) → before ≡ pass (get_or first i d)

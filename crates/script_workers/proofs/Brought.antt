@@ -118,8 +118,8 @@ pub record Answers (house : House) (draws : ℕ → ℕ → ℕ → ℕ) (count 
   pub kept : KeepsTexts texts (map replies_text parts)
   pub served : AreServed house draws (joined parts) (map handed_on knows) after.knows
 
-pub answers : (house : House) (draws : ℕ → ℕ → ℕ → ℕ) (count : ℕ) (script : List ℕ) (main before : Bundle) (i : ℕ) (after : Bundle) (first texts : Texts) → IsHired count i script main before first
-    → HasDone house draws count i script before after texts → (parts : List (List Exchange)) × Answers house draws count script main.knows i after texts parts
+pub answers : (house : House) (draws : ℕ → ℕ → ℕ → ℕ) (count : ℕ) (script : List ℕ) (main before : Bundle) (i : ℕ) (after : Bundle) (first texts : Texts) → IsHired count i (script_blocks script) main before first
+    → HasDone house draws count i (script_blocks script) before after texts → (parts : List (List Exchange)) × Answers house draws count script main.knows i after texts parts
 answers house draws count script main before i after first texts hired done =
     (done.parts, record { turns_are = done.turns_are; kept = done.kept; served = subst (λ ks. AreServed house draws (joined done.parts) ks after.knows) hired.knows done.served })
 

@@ -2,7 +2,7 @@
 use Rattle.std.proofs.Common.{◌≡◌, ◌≢◌, ℕ, ◌+◌, ◌-◌, ◌^◌, ◌%◌, ◌≤◌, List, [], ◌∷◌, length, sum_by, ap, arith}
 use Rattle.std.specs.Prelude.{min}
 use Rattle.std.proofs.lemmas.List.Sums.{sum_by-cons}
-use Rattle.session_core.specs.Blocks.{own_blocks, script_blocks}
+use Rattle.session_core.specs.Blocks.{own_blocks}
 use Rattle.session_core.specs.Code.{room_for_lines}
 use Rattle.script_workers.specs.Crews.{AreNeeds, own_room}
 use Rattle.script_workers.specs.declared.needs.Needs.{Needs}
@@ -27,8 +27,8 @@ none_counted count i all needs room blocks = record {
 }
 
 -- and in the end all is
-pub all_counted : (count i k : ℕ) (script : List ℕ) (left : List (List (List ℕ))) (needs : Needs) → left ≡ [] → AreCounted count i k (script_blocks script) left needs → AreNeeds count i script needs
-all_counted count i k script left needs none counted = record {
+pub all_counted : (count i k : ℕ) (all left : List (List (List ℕ))) (needs : Needs) → left ≡ [] → AreCounted count i k all left needs → AreNeeds count i all needs
+all_counted count i k all left needs none counted = record {
   room = omega (arith, counted.room, counted.whole, ap (own_room count i k) none);
   blocks = omega (arith, counted.dealt, ap (λ bs. length (own_blocks count i k bs)) none);
 }

@@ -1,22 +1,21 @@
 -- A worker's blocks, answered one after another.
-use Rattle.std.proofs.Common.{◌≡◌, ◌≢◌, ℕ, ◌+◌, ◌%◌, ◌<◌, ◌≤◌, ◌==◌, true, List, [], ◌∷◌, ◌++◌, length, map, sum_by, None, refl, sym, ap, ◌∙◌, subst, arith, append_assoc, append-nil}
+use Rattle.std.proofs.Common.{◌≡◌, ◌≢◌, ℕ, ◌+◌, ◌%◌, ◌<◌, ◌≤◌, List, [], ◌∷◌, ◌++◌, length, map, sum_by, None, refl, sym, ap, ◌∙◌, subst, arith, append_assoc, append-nil}
 use Rattle.std.specs.Prelude.{⊤, vec_capacity}
 use Rattle.std.specs.List.{flat_map}
 use Rattle.std.proofs.lemmas.List.{map-append}
 use Rattle.std.proofs.lemmas.List.Concat.{flat_map-append}
 use Rattle.std.proofs.lemmas.List.Sums.{sum_by-cons}
-use Rattle.wire_lines.specs.Lines.{lines_of}
 use Rattle.session_core.specs.OwnerHouse.House.{House}
-use Rattle.session_core.specs.Turns.{session_turns, blocks_of}
+use Rattle.session_core.specs.Turns.{session_turns}
 use Rattle.session_core.specs.Exchanges.{Exchange}
-use Rattle.session_core.specs.Blocks.{behind_block, first_block, own_blocks, script_blocks}
+use Rattle.session_core.specs.Blocks.{own_blocks}
 use Rattle.session_core.specs.Bundles.{Bundle}
 use Rattle.session_core.specs.Code.{AreServed, room_for_lines}
 use Rattle.session_core.proofs.Serving.{none_served, served_append}
 use Rattle.script_workers.specs.Texts.{KeepsTexts}
 use Rattle.script_workers.specs.Crews.{AreFor, HasDone, HasRoomFor, own_room, replies_text}
 use Rattle.script_workers.specs.declared.texts.Texts.{Texts}
-use Rattle.script_workers.proofs.Blocks.{first_next, next_block, no_blocks, others_next, own_next}
+use Rattle.script_workers.proofs.Blocks.{others_next, own_next}
 use Rattle.script_workers.proofs.Kept.{push_longer}
 
 module _ (house : House) where
@@ -67,71 +66,64 @@ module _ (house : House) where
           stays = stays ∙ ap (λ (b : Bundle). record b { knows = after.knows }) up.stays;
         }
 
-    -- A worker has answered its blocks in front of the rest of a script, of which the first is block k, and has room for the others.
-    pub record IsServing (count i : ℕ) (script : List ℕ) (k : ℕ) (rest : List ℕ) (before now : Bundle) (texts : Texts) : Type 0 where
-      pub bytes : length texts.bytes.items + own_room count i k (script_blocks rest) ≤ vec_capacity texts.bytes
-      pub ends : length texts.ends.items + length (own_blocks count i k (script_blocks rest)) ≤ vec_capacity texts.ends
-      pub told : IsUpTo (own_blocks count i 0 (script_blocks script)) (own_blocks count i k (script_blocks rest)) before now texts
-      pub nearer : k + length rest ≤ length script
+    -- A worker has answered its blocks of all but those left, of which the first is block k, and has room for the others.
+    pub record IsServing (count i : ℕ) (all : List (List (List ℕ))) (k : ℕ) (left : List (List (List ℕ))) (before now : Bundle) (texts : Texts) : Type 0 where
+      pub bytes : length texts.bytes.items + own_room count i k left ≤ vec_capacity texts.bytes
+      pub ends : length texts.ends.items + length (own_blocks count i k left) ≤ vec_capacity texts.ends
+      pub told : IsUpTo (own_blocks count i 0 all) (own_blocks count i k left) before now texts
 
-    pub serving_first : (count i : ℕ) (script : List ℕ) (before : Bundle) (texts : Texts) → HasRoomFor count i script texts → IsServing count i script 0 script before before texts
-    serving_first count i script before texts room = record {
+    pub serving_first : (count i : ℕ) (all : List (List (List ℕ))) (before : Bundle) (texts : Texts) → HasRoomFor count i all texts → IsServing count i all 0 all before before texts
+    serving_first count i all before texts room = record {
       bytes = omega (arith, room.bytes, ap length room.none.bytes);
       ends = omega (arith, room.ends, ap length room.none.ends);
-      told = up_to_first (own_blocks count i 0 (script_blocks script)) before texts room.none;
-      nearer = omega arith;
+      told = up_to_first (own_blocks count i 0 all) before texts room.none;
     }
 
-    module _ (count i : ℕ) (script : List ℕ) (k : ℕ) (rest : List ℕ) (before now : Bundle) (texts : Texts) (serving : IsServing count i script k rest before now texts) where
-      module _ (behind : List ℕ) (some : 0 < length rest) (is : lines_of behind ≡ behind_block (lines_of rest)) (shorter : length behind < length rest) where
+    module _ (count i : ℕ) (all : List (List (List ℕ))) (k : ℕ) (left : List (List (List ℕ))) (before now : Bundle) (texts : Texts) (serving : IsServing count i all k left before now texts) where
+      module _ (block : List (List ℕ)) (blocks : List (List (List ℕ))) (is : left ≡ block ∷ blocks) where
         -- a block of another worker
-        pub serving_others : k % count ≢ i → IsServing count i script (k + 1) behind before now texts
+        pub serving_others : k % count ≢ i → IsServing count i all (k + 1) blocks before now texts
         serving_others other =
-            let next = others_next count i k (script_blocks rest) (first_block (lines_of rest)) (script_blocks behind) (next_block rest behind some is) other in
+            let next = others_next count i k left block blocks is other in
             record {
               bytes = omega (arith, serving.bytes, ap (sum_by room_for_lines) next);
               ends = omega (arith, serving.ends, ap length next);
-              told = subst (λ left. IsUpTo (own_blocks count i 0 (script_blocks script)) left before now texts) next serving.told;
-              nearer = omega (arith, serving.nearer);
+              told = subst (λ more. IsUpTo (own_blocks count i 0 all) more before now texts) next serving.told;
             }
 
         -- a block of its own
-        pub serving_own : k % count ≡ i → (xs : List Exchange) (after : Bundle) (added : Texts) → IsPart xs (first_block (lines_of rest)) → AreServed house draws xs now.knows after.knows
+        pub serving_own : k % count ≡ i → (xs : List Exchange) (after : Bundle) (added : Texts) → IsPart xs block → AreServed house draws xs now.knows after.knows
             → ((old : List (List ℕ)) → KeepsTexts texts old → KeepsTexts added (old ++ replies_text xs ∷ [])) → after ≡ record now { knows = after.knows }
-            → (vec_capacity added.bytes ≡ vec_capacity texts.bytes) × (vec_capacity added.ends ≡ vec_capacity texts.ends) → IsServing count i script (k + 1) behind before after added
+            → (vec_capacity added.bytes ≡ vec_capacity texts.bytes) × (vec_capacity added.ends ≡ vec_capacity texts.ends) → IsServing count i all (k + 1) blocks before after added
         serving_own mine xs after added part served adds stays capacity =
-            let block = first_block (lines_of rest) in
-            let more : List (List (List ℕ)) = own_blocks count i (k + 1) (script_blocks behind) in
-            let next = own_next count i k (script_blocks rest) block (script_blocks behind) (next_block rest behind some is) mine in
+            let more : List (List (List ℕ)) = own_blocks count i (k + 1) blocks in
+            let next = own_next count i k left block blocks is mine in
             let longer = push_longer texts added (map replies_text serving.told.parts) (replies_text xs) serving.told.kept (adds (map replies_text serving.told.parts) serving.told.kept) in
             record {
               bytes = omega (arith, serving.bytes, ap (sum_by room_for_lines) next, sum_by-cons room_for_lines block more, longer.0, part.1, capacity.0);
               ends = omega (arith, serving.ends, ap length next, longer.1, capacity.1);
-              told = up_to_next (own_blocks count i 0 (script_blocks script)) (own_blocks count i k (script_blocks rest)) more block xs before now after texts added serving.told next part served adds stays;
-              nearer = omega (arith, serving.nearer);
+              told = up_to_next (own_blocks count i 0 all) (own_blocks count i k left) more block xs before now after texts added serving.told next part served adds stays;
             }
 
-      -- there is room for a block of its own
-      pub serving_room : 0 < length rest → k % count ≡ i → (length texts.bytes.items + room_for_lines (first_block (lines_of rest)) ≤ vec_capacity texts.bytes) × (length texts.ends.items < vec_capacity texts.ends)
-      serving_room some mine =
-          let block = first_block (lines_of rest) in
-          let blocks = blocks_of (behind_block (lines_of rest)) in
-          let next = own_next count i k (script_blocks rest) block blocks (first_next rest some) mine in (
-            omega (arith, serving.bytes, ap (sum_by room_for_lines) next, sum_by-cons room_for_lines block (own_blocks count i (k + 1) blocks)),
-            omega (arith, serving.ends, ap length next),
-          )
+        -- there is room for a block of its own
+        pub serving_room : k % count ≡ i → (length texts.bytes.items + room_for_lines block ≤ vec_capacity texts.bytes) × (length texts.ends.items < vec_capacity texts.ends)
+        serving_room mine =
+            let next = own_next count i k left block blocks is mine in (
+              omega (arith, serving.bytes, ap (sum_by room_for_lines) next, sum_by-cons room_for_lines block (own_blocks count i (k + 1) blocks)),
+              omega (arith, serving.ends, ap length next),
+            )
 
-      pub serving_all : (length rest == 0) ≡ true → HasDone house draws count i script before now texts
+      pub serving_all : left ≡ [] → HasDone house draws count i all before now texts
       serving_all none =
-          let all : List (List (List ℕ)) = own_blocks count i 0 (script_blocks script) in
+          let own : List (List (List ℕ)) = own_blocks count i 0 all in
           let up = serving.told in
-          let end : own_blocks count i k (script_blocks rest) ≡ [] = ap (own_blocks count i k) (no_blocks rest none) in
-          let are : AreParts up.parts all = subst (λ ps. AreParts ps all) (append-nil up.parts) (up.front [] (subst (AreParts []) (sym end) tt)) in
+          let end : own_blocks count i k left ≡ [] = ap (own_blocks count i k) none in
+          let are : AreParts up.parts own = subst (λ ps. AreParts ps own) (append-nil up.parts) (up.front [] (subst (AreParts []) (sym end) tt)) in
           record {
             parts = up.parts;
-            turns_are = parts_turns up.parts all are;
+            turns_are = parts_turns up.parts own are;
             kept = up.kept;
-            fit = parts_fit up.parts all are;
+            fit = parts_fit up.parts own are;
             served = up.served;
             stays = up.stays;
           }

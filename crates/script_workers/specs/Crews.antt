@@ -10,7 +10,7 @@ use Rattle.session_core.specs.OwnerDesk.Passes.{Pass, Told}
 use Rattle.session_core.specs.Turns.{session_turns}
 use Rattle.session_core.specs.Exchanges.{Exchange}
 use Rattle.session_core.specs.Gathered.{StillShut}
-use Rattle.session_core.specs.Blocks.{own_blocks, script_blocks}
+use Rattle.session_core.specs.Blocks.{own_blocks}
 use Rattle.session_core.specs.Bundles.{Bundle, handed_on}
 use Rattle.session_core.specs.Code.{AreServed, room_for_lines}
 use Rattle.script_workers.specs.Texts.{KeepsTexts}
@@ -22,9 +22,9 @@ abbrev pub own_room : (count i k : ℕ) → List (List (List ℕ)) → ℕ
 own_room count i k blocks = sum_by room_for_lines (own_blocks count i k blocks)
 
 -- What a worker's blocks ask for: room for their replies, as much as a size can say, and how many blocks there are.
-pub record AreNeeds (count i : ℕ) (script : List ℕ) (needs : Needs) : Type 0 where
-  pub room : needs.room ≡ min (2 ^ 64 - 1) (own_room count i 0 (script_blocks script))
-  pub blocks : needs.blocks ≡ length (own_blocks count i 0 (script_blocks script))
+pub record AreNeeds (count i : ℕ) (all : List (List (List ℕ))) (needs : Needs) : Type 0 where
+  pub room : needs.room ≡ min (2 ^ 64 - 1) (own_room count i 0 all)
+  pub blocks : needs.blocks ≡ length (own_blocks count i 0 all)
 
 -- the replies to some lines, one behind another
 abbrev pub replies_text : List Exchange → List ℕ
@@ -37,23 +37,23 @@ AreFor (text ∷ texts) (block ∷ blocks) = (length text ≤ room_for_lines blo
 AreFor texts blocks = ⊥
 
 -- No text is kept yet, and there is room for those of this worker's blocks.
-pub record HasRoomFor (count i : ℕ) (script : List ℕ) (texts : Texts) : Type 0 where
+pub record HasRoomFor (count i : ℕ) (blocks : List (List (List ℕ))) (texts : Texts) : Type 0 where
   pub none : KeepsTexts texts []
-  pub bytes : own_room count i 0 (script_blocks script) ≤ vec_capacity texts.bytes
-  pub ends : length (own_blocks count i 0 (script_blocks script)) ≤ vec_capacity texts.ends
+  pub bytes : own_room count i 0 blocks ≤ vec_capacity texts.bytes
+  pub ends : length (own_blocks count i 0 blocks) ≤ vec_capacity texts.ends
 
 -- A worker was hired: its passes are of the same locks and know what the first ones do, with nothing of their own.
-pub record IsHired (count i : ℕ) (script : List ℕ) (main passes : Bundle) (texts : Texts) : Type 0 where
+pub record IsHired (count i : ℕ) (blocks : List (List (List ℕ))) (main passes : Bundle) (texts : Texts) : Type 0 where
   pub locks : passes.locks ≡ main.locks
   pub knows : passes.knows ≡ map handed_on main.knows
-  pub room : HasRoomFor count i script texts
+  pub room : HasRoomFor count i blocks texts
 
 -- A worker has answered its blocks, each as a session of its own, and keeps the text of each.
-pub record HasDone (house : House) (draws : ℕ → ℕ → ℕ → ℕ) (count i : ℕ) (script : List ℕ) (before after : Bundle) (texts : Texts) : Type 0 where
+pub record HasDone (house : House) (draws : ℕ → ℕ → ℕ → ℕ) (count i : ℕ) (blocks : List (List (List ℕ))) (before after : Bundle) (texts : Texts) : Type 0 where
   pub parts : List (List Exchange)
-  pub turns_are : map (λ xs. map (λ (x : Exchange). x.turn) xs) parts ≡ map (session_turns house None) (own_blocks count i 0 (script_blocks script))
+  pub turns_are : map (λ xs. map (λ (x : Exchange). x.turn) xs) parts ≡ map (session_turns house None) (own_blocks count i 0 blocks)
   pub kept : KeepsTexts texts (map replies_text parts)
-  pub fit : AreFor (map replies_text parts) (own_blocks count i 0 (script_blocks script))
+  pub fit : AreFor (map replies_text parts) (own_blocks count i 0 blocks)
   pub served : AreServed house draws (flat_map (λ xs. xs) parts) before.knows after.knows
   pub stays : after ≡ record before { knows = after.knows }
 

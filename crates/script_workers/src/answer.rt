@@ -9,6 +9,7 @@ ghost use Rattle.session_core.specs.Worked.{HasWorked, HaveAddedNone};
 
 use crate::crew::{bring_in, hire_all, work};
 use crate::order::put_in_order;
+use crate::starts::starts_of;
 use fz_outside::words::Streams;
 use outside_disks::disk::Disk;
 use outside_links::gate::Gate;
@@ -62,11 +63,12 @@ where
     let owners = passes.len();
     prove!(owners == desks.len());
     let mut out = Vec::with_capacity(alloc, room_for(script))?;
+    let starts = starts_of(alloc, script)?;
     let mut crew = Vec::with_capacity(alloc, workers)?;
     match hire_all(alloc, desks, passes, script, workers, &mut crew) {
         Ok(()) => {
-            work(rt, alloc, house, desks, streams, gate, script, &mut crew);
-            put_in_order(script, &crew, &mut out);
+            work(rt, alloc, house, desks, streams, gate, &starts, &mut crew);
+            put_in_order(&starts, &crew, &mut out);
             bring_in(desks, passes, crew);
             Ok(out)
         }

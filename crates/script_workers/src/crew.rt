@@ -2,8 +2,10 @@
 
 ghost use Rattle.std.specs.Prelude.{◌≡◌, ◌+◌, ◌<◌, ◌≤◌, [], ℕ, length, map, sum_by, All, OnOk, get_or, slice_index_or, vec_capacity};
 ghost use Rattle.session_core.specs.OwnerHouse.House.{house_of};
+ghost use Rattle.session_core.specs.Blocks.{script_blocks};
 ghost use Rattle.session_core.specs.Code.{ArePasses, pass_at};
 ghost use Rattle.script_workers.specs.Crews.{HasDone, HasRoomFor, HasTakenAll, IsHired, needed};
+ghost use Rattle.script_workers.specs.Starts.{blocks_at};
 
 use crate::needs::needs_of_all;
 use crate::worker::{Worker, hire, serve};
@@ -35,7 +37,7 @@ pub(crate) fn hire_all<D: Disk>(
     requires room { (crew.old.items ≡ []) × (count ≤ vec_capacity crew.old) }
     ensures len { OnOk result (length crew.new.items ≡ count) }
     ensures hired { (i : ℕ) (d : _) → i < length crew.new.items →
-        IsHired count i script.now passes.old (slice_index_or crew.new.items i d).passes (slice_index_or crew.new.items i d).texts }
+        IsHired count i (script_blocks script.now) passes.old (slice_index_or crew.new.items i d).passes (slice_index_or crew.new.items i d).texts }
     ensures kept { (passes.new.locks ≡ passes.old.locks) × (passes.new.knows ≡ passes.old.knows) }
     // No share is lost.
     ensures shares { (o : ℕ) →
@@ -56,7 +58,7 @@ pub(crate) fn work<R: Threads + Wait + Sync, D: Disk + Send, S: Streams + Sync, 
     desks: &[Desk<D>],
     streams: &S,
     gate: &G,
-    script: &[u8],
+    starts: &[&[u8]],
     crew: &mut [Worker<Token<D>>],
 )
 where
@@ -64,17 +66,17 @@ where
     requires some { 0 < length crew.old }
     requires here { (i : ℕ) (d : _) → i < length crew.old → (slice_index_or crew.old i d).passes.locks ≡ desks.now }
     requires passes { (i : ℕ) (d : _) → i < length crew.old → ArePasses (house_of house.now) (slice_index_or crew.old i d).passes.knows }
-    requires room { (i : ℕ) (d : _) → i < length crew.old → HasRoomFor (length crew.old) i script.now (slice_index_or crew.old i d).texts }
+    requires room { (i : ℕ) (d : _) → i < length crew.old → HasRoomFor (length crew.old) i (blocks_at starts.now) (slice_index_or crew.old i d).texts }
     ensures len { length crew.new ≡ length crew.old }
     ensures done { (i : ℕ) (d : _) → i < length crew.old →
-        HasDone (house_of house.now) (S.given streams.now) (length crew.old) i script.now
+        HasDone (house_of house.now) (S.given streams.now) (length crew.old) i (blocks_at starts.now)
         (slice_index_or crew.old i d).passes (slice_index_or crew.new i d).passes (slice_index_or crew.new i d).texts }
 {
     let count = crew.len();
     let job = |index: usize, worker: &mut Worker<Token<D>>|
         requires { (0 < count) × (worker.old.passes.locks ≡ desks.now) × ArePasses (house_of house.now) worker.old.passes.knows
-            × HasRoomFor count index script.now worker.old.texts }
-        ensures { HasDone (house_of house.entry.now) (S.given streams.entry.now) count index script.entry.now
+            × HasRoomFor count index (blocks_at starts.now) worker.old.texts }
+        ensures { HasDone (house_of house.entry.now) (S.given streams.entry.now) count index (blocks_at starts.entry.now)
             worker.old.passes worker.new.passes worker.new.texts }
     {
         let server = Server {
@@ -85,9 +87,17 @@ where
             streams,
             gate,
         };
-        serve(&server, worker, script, count, index);
+        serve(&server, worker, starts, count, index);
+        nudge_all(desks);
     };
     thread::for_each_mut(rt, crew, MOST_WORKERS, &job);
+}
+
+// A worker that has answered its last block won't ask for an owner again.
+fn nudge_all<D: Disk>(desks: &[Desk<D>]) {
+    for desk in desks {
+        desk.nudge();
+    }
 }
 
 /// Takes the passes of all workers in.

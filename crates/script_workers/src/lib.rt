@@ -6,6 +6,7 @@ mod answer;
 mod crew;
 mod needs;
 mod order;
+mod starts;
 mod texts;
 mod worker;
 

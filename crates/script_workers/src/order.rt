@@ -1,15 +1,15 @@
 //! The replies in the script's order.
 
 ghost use Rattle.std.specs.Prelude.{◌≡◌, ◌+◌, ◌++◌, ◌<◌, ◌≤◌, [], List, ℕ, length, sum_by, slice_index_or, vec_capacity};
-ghost use Rattle.session_core.specs.Blocks.{own_blocks, script_blocks};
+ghost use Rattle.session_core.specs.Blocks.{own_blocks};
 ghost use Rattle.session_core.specs.Code.{room_for_lines};
 ghost use Rattle.script_workers.specs.Crews.{AreFor};
+ghost use Rattle.script_workers.specs.Starts.{blocks_at};
 ghost use Rattle.script_workers.specs.Texts.{KeepsTexts, in_all};
 
 use crate::crew::MOST_WORKERS;
 use crate::worker::Worker;
 use session_core::Knows;
-use session_core::blocks::pass_block;
 
 // Puts a text at the end, for which there is room.
 fn push_all(out: &mut Vec<u8>, text: &[u8])
@@ -23,24 +23,19 @@ fn push_all(out: &mut Vec<u8>, text: &[u8])
 }
 
 /// Puts the texts of the workers' blocks in the script's order.
-pub(crate) fn put_in_order<T: Knows>(script: &[u8], crew: &[Worker<T>], out: &mut Vec<u8>)
+pub(crate) fn put_in_order<T: Knows>(starts: &[&[u8]], crew: &[Worker<T>], out: &mut Vec<u8>)
     requires few { (0 < length crew.now) × (length crew.now ≤ 16) }
     requires texts { (i : ℕ) (d : _) → i < length crew.now → (own : List (List ℕ)) × KeepsTexts (slice_index_or crew.now i d).texts own
-        × AreFor own (own_blocks (length crew.now) i 0 (script_blocks script.now)) }
-    requires room { (out.old.items ≡ []) × (sum_by room_for_lines (script_blocks script.now) ≤ vec_capacity out.old) }
+        × AreFor own (own_blocks (length crew.now) i 0 (blocks_at starts.now)) }
+    requires room { (out.old.items ≡ []) × (sum_by room_for_lines (blocks_at starts.now) ≤ vec_capacity out.old) }
     // There is a text for each block, in order, and of these the ones of a worker's blocks are those that it kept.
-    ensures order { (texts : List (List ℕ)) × (length texts ≡ length (script_blocks script.now)) × (out.new.items ≡ in_all texts)
+    ensures order { (texts : List (List ℕ)) × (length texts ≡ length (blocks_at starts.now)) × (out.new.items ≡ in_all texts)
         × ((i : ℕ) (d : _) → i < length crew.now → KeepsTexts (slice_index_or crew.now i d).texts (own_blocks (length crew.now) i 0 texts)) }
 {
     let mut given = [0usize; MOST_WORKERS];
-    let mut rest = script;
-    let mut number = 0usize;
-    while !rest.is_empty() {
-        let behind = pass_block(rest).behind;
+    for number in 0..starts.len() {
         let index = number % crew.len();
         push_all(out, crew[index].texts.text(given[index]));
         given[index] += 1;
-        number += 1;
-        rest = behind;
     }
 }

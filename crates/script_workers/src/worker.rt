@@ -5,18 +5,18 @@ ghost use Rattle.wire_lines.specs.Lines.{lines_of};
 ghost use Rattle.session_core.specs.OwnerHouse.House.{house_of};
 ghost use Rattle.session_core.specs.Turns.{session_turns};
 ghost use Rattle.session_core.specs.Exchanges.{Exchange};
-ghost use Rattle.session_core.specs.Blocks.{behind_block, first_block};
+ghost use Rattle.session_core.specs.Blocks.{first_block};
 ghost use Rattle.session_core.specs.Bundles.{given_halves, kept_halves};
 ghost use Rattle.session_core.specs.Code.{ArePasses, AreServed, room_for_lines};
 ghost use Rattle.script_workers.specs.Texts.{KeepsTexts};
 ghost use Rattle.script_workers.specs.Crews.{AreNeeds, HasDone, HasRoomFor, IsHired, replies_text};
+ghost use Rattle.script_workers.specs.Starts.{blocks_at};
 
 use crate::needs::Needs;
 use crate::texts::Texts;
 use fz_outside::words::Streams;
 use outside_disks::disk::Disk;
 use outside_links::gate::Gate;
-use session_core::blocks::pass_block;
 use session_core::passes::{Bundle, Passes, Token};
 use session_core::script::answer_block;
 use session_core::server::Server;
@@ -41,8 +41,8 @@ pub(crate) fn hire<D: Disk>(
     requires here { passes.old.locks ≡ desks.now }
     requires shares { All (λ s. 2 ≤ s) passes.old.shares }
     ensures kept { IfOk result (λ _. passes.new ≡ kept_halves passes.old) }
-    ensures hired { IfOk result (λ w. (count i : ℕ) (script : List ℕ) → AreNeeds count i script needs →
-        IsHired count i script passes.old w.passes w.texts) }
+    ensures hired { IfOk result (λ w. (count i : ℕ) (blocks : List (List (List ℕ))) → AreNeeds count i blocks needs →
+        IsHired count i blocks passes.old w.passes w.texts) }
     ensures shares { IfOk result (λ w. w.passes.shares ≡ (given_halves passes.old).shares) }
     ensures refused { IfErr result (λ _. passes.new ≡ passes.old) }
 {
@@ -55,26 +55,21 @@ pub(crate) fn hire<D: Disk>(
 pub(crate) fn serve<'a, R: Wait, D: Disk, S: Streams, G: Gate>(
     server: &Server<'a, R, D, S, G>,
     worker: &mut Worker<Token<D>>,
-    script: &'a [u8],
+    starts: &[&'a [u8]],
     count: usize,
     index: usize,
 )
     requires count { 0 < count }
     requires here { worker.old.passes.locks ≡ server.now.desks.now }
     requires passes { ArePasses (house_of server.now.house.now) worker.old.passes.knows }
-    requires room { HasRoomFor count index script.now worker.old.texts }
-    ensures done { HasDone (house_of server.now.house.now) (S.given server.now.streams.now) count index script.now
+    requires room { HasRoomFor count index (blocks_at starts.now) worker.old.texts }
+    ensures done { HasDone (house_of server.now.house.now) (S.given server.now.streams.now) count index (blocks_at starts.now)
         worker.old.passes worker.new.passes worker.new.texts }
 {
-    let mut rest = script;
-    let mut number = 0usize;
-    while !rest.is_empty() {
-        rest = if number % count == index {
-            serve_block(server, worker, number, rest)
-        } else {
-            pass_block(rest).behind
-        };
-        number += 1;
+    for number in 0..starts.len() {
+        if number % count == index {
+            serve_block(server, worker, number, starts[number]);
+        }
     }
 }
 
@@ -84,7 +79,7 @@ fn serve_block<'a, R: Wait, D: Disk, S: Streams, G: Gate>(
     worker: &mut Worker<Token<D>>,
     number: usize,
     lines: &'a [u8],
-) -> &'a [u8]
+)
     requires here { worker.old.passes.locks ≡ server.now.desks.now }
     requires passes { ArePasses (house_of server.now.house.now) worker.old.passes.knows }
     requires bytes { length worker.old.texts.bytes.items + room_for_lines (first_block (lines_of lines.now)) ≤ vec_capacity worker.old.texts.bytes }
@@ -98,11 +93,9 @@ fn serve_block<'a, R: Wait, D: Disk, S: Streams, G: Gate>(
     ensures stays { worker.new.passes ≡ record worker.old.passes { knows = worker.new.passes.knows } }
     ensures capacity { (vec_capacity worker.new.texts.bytes ≡ vec_capacity worker.old.texts.bytes)
         × (vec_capacity worker.new.texts.ends ≡ vec_capacity worker.old.texts.ends) }
-    ensures behind { lines_of result.now ≡ behind_block (lines_of lines.now) }
-    ensures nearer { 0 < length lines.now → length result.now < length lines.now }
 {
     let block = u32::try_from(number).unwrap_or(u32::MAX);
-    let behind = answer_block(
+    answer_block(
         server,
         &mut worker.passes,
         block,
@@ -110,5 +103,4 @@ fn serve_block<'a, R: Wait, D: Disk, S: Streams, G: Gate>(
         &mut worker.texts.bytes,
     );
     worker.texts.ends.push_reserved(worker.texts.bytes.len());
-    behind
 }

@@ -1,12 +1,13 @@
 use Rattle.std.proofs.Common.{rules, ◌≡◌, ◌+◌, ◌++◌, ◌<◌, ◌≤◌, ℕ, List, [], length, get_or, map, take, drop, take_at, sym, refl, ap, ◌∙◌, subst, arith}
-use Rattle.std.specs.Prelude.{sum_by}
+use Rattle.std.specs.Prelude.{sum_by, vec_capacity}
 use Rattle.session_core.specs.OwnerHouse.House.{house_of}
 use Rattle.session_core.specs.OwnerDesk.Passes.{Pass}
 use Rattle.session_core.specs.Blocks.{own_blocks, script_blocks}
 use Rattle.session_core.specs.Bundles.{Bundle}
-use Rattle.session_core.specs.Code.{pass_at}
+use Rattle.session_core.specs.Code.{pass_at, room_for_lines}
 use Rattle.script_workers.specs.Texts.{KeepsTexts}
-use Rattle.script_workers.specs.Crews.{HasDone, HasTakenAll, IsHired}
+use Rattle.script_workers.specs.Crews.{HasDone, HasRoomFor, HasTakenAll, IsHired}
+use Rattle.script_workers.specs.Starts.{blocks_at}
 use Rattle.script_workers.proofs.Brought.{answers, has_worked, sum_same}
 use Rattle.script_workers.proofs.Back.{all_back, for_order, handed_passes, none_brought, owner_within, passes_back, same_locks, some_of, whole_enough}
 use Rattle.script_workers.proofs.answer.answer_script.Goals as goal
@@ -20,14 +21,32 @@ work-requires-clause-passes g c κs within = λ i d lt.
     handed_passes (house_of c.args.house.now) c.args.passes.now.knows _
     (ap (λ w. (get_or w i d).passes.knows) value ∙ (c.in-Ok.ensures.hired i d (omega (arith, lt, ap length value))).knows) c.requires.passes
 
+pub work-requires-clause-room : goal.work-requires-clause-room
+work-requires-clause-room g c κs within = λ i d lt.
+    let script = script_blocks c.args.script.now in
+    let crew = c.deref_mut.result.now in
+    let value = c.deref_mut.ensures.value in
+    let all : length crew ≡ c.args.workers = ap length value ∙ c.in-Ok.ensures.len in
+    let are : blocks_at c.deref.result.now ≡ script = ap blocks_at c.deref.ensures.value ∙ c.in_ok-starts.ensures in
+    subst (λ bs. HasRoomFor (length crew) i bs (get_or crew i d).texts) (sym are)
+    (subst (λ (n : ℕ). HasRoomFor n i script (get_or crew i d).texts) (sym all)
+    (subst (λ w. HasRoomFor c.args.workers i script (get_or w i d).texts) (sym value) (c.in-Ok.ensures.hired i d (omega (arith, lt, ap length value))).room))
+
+pub put_in_order-requires-clause-room : goal.put_in_order-requires-clause-room
+put_in_order-requires-clause-room g c =
+    let room : (c.in_ok-out.out.items ≡ []) × (sum_by room_for_lines (script_blocks c.args.script.now) ≤ vec_capacity c.in_ok-out.out) = search rules in
+    (room.0, subst (λ bs. sum_by room_for_lines bs ≤ vec_capacity c.in_ok-out.out) (sym (ap blocks_at c.deref-in-Ok.ensures.value ∙ c.in_ok-starts.ensures)) room.1)
+
 pub put_in_order-requires-clause-texts : goal.put_in_order-requires-clause-texts
 put_in_order-requires-clause-texts g c = λ i d lt.
     let crew = c.work.new.crew in
     let size : length crew ≡ c.hire_all.new.crew.len = search rules in
     let written : take c.hire_all.new.crew.len (crew ++ drop (length crew) c.hire_all.new.crew.items) ≡ crew = take_at crew (drop (length crew) c.hire_all.new.crew.items) c.hire_all.new.crew.len size in
-    let seen = c.deref.ensures.value ∙ written in
-    for_order (λ w. w.texts) (house_of c.args.house.now) (g.S.Streams.given c.args.streams.now) c.args.script.now _ _ _ crew i (length c.deref_mut.result.now) d seen c.work.ensures.len
-    (c.work.ensures.done i d (omega (arith, lt, ap length seen, c.work.ensures.len)))
+    let seen = c.deref-in-Ok-2.ensures.value ∙ written in
+    let same = ap blocks_at c.deref.ensures.value ∙ sym (ap blocks_at c.deref-in-Ok.ensures.value) in
+    for_order (λ w. w.texts) (house_of c.args.house.now) (g.S.Streams.given c.args.streams.now) (blocks_at c.deref-in-Ok.result.now) _ _ _ crew i (length c.deref_mut.result.now) d seen c.work.ensures.len
+    (subst (λ bs. HasDone (house_of c.args.house.now) (g.S.Streams.given c.args.streams.now) (length c.deref_mut.result.now) i bs (get_or c.deref_mut.result.now i d).passes (get_or crew i d).passes (get_or crew i d).texts) same
+    (c.work.ensures.done i d (omega (arith, lt, ap length seen, c.work.ensures.len))))
 
 pub bring_in-requires-clause-all : goal.bring_in-requires-clause-all
 bring_in-requires-clause-all g c = λ i d lt.
@@ -51,19 +70,22 @@ returns-in-Ok-clause-worked g c =
     let size : length crew ≡ c.hire_all.new.crew.len = search rules in
     let written : take c.hire_all.new.crew.len (crew ++ drop (length crew) c.hire_all.new.crew.items) ≡ crew = take_at crew (drop (length crew) c.hire_all.new.crew.items) c.hire_all.new.crew.len size in
     let value = c.deref_mut.ensures.value in
-    let seen = c.deref.ensures.value ∙ written in
+    let seen = c.deref-in-Ok-2.ensures.value ∙ written in
     let all : length c.deref_mut.result.now ≡ count = ap length value ∙ c.in-Ok.ensures.len in
     let many : length crew ≡ count = c.work.ensures.len ∙ all in
     let d = some_of crew (omega (arith, many, c.requires.workers.0)) in
     let order = c.put_in_order.ensures.order in
+    let are = ap blocks_at c.deref.ensures.value ∙ c.in_ok-starts.ensures in
+    let kept = ap blocks_at c.deref-in-Ok.ensures.value ∙ c.in_ok-starts.ensures in
     let long : length main.knows ≡ length c.args.desks.now = c.len-owners.ensures.each_has.1 ∙ ap length c.requires.here in
     has_worked (λ w. w.passes) (λ w. w.texts) house draws count script c.requires.workers.0 main c.bring_in.new.passes crew d many
     (λ i lt.
     let within : i < length c.deref_mut.result.now = omega (arith, lt, all) in
     answers house draws count script main _ i _ _ _ (c.in-Ok.ensures.hired i d (omega (arith, within, ap length value)))
-    (subst (λ w. HasDone house draws count i script (get_or w i d).passes (get_or crew i d).passes (get_or crew i d).texts) value
-    (subst (λ (n : ℕ). HasDone house draws n i script (get_or c.deref_mut.result.now i d).passes (get_or crew i d).passes (get_or crew i d).texts) all (c.work.ensures.done i d within))))
-    order.0 order.1
+    (subst (λ w. HasDone house draws count i (script_blocks script) (get_or w i d).passes (get_or crew i d).passes (get_or crew i d).texts) value
+    (subst (λ (n : ℕ). HasDone house draws n i (script_blocks script) (get_or c.deref_mut.result.now i d).passes (get_or crew i d).passes (get_or crew i d).texts) all
+    (subst (λ bs. HasDone house draws (length c.deref_mut.result.now) i bs (get_or c.deref_mut.result.now i d).passes (get_or crew i d).passes (get_or crew i d).texts) are (c.work.ensures.done i d within)))))
+    order.0 (order.1 ∙ ap length kept)
     (λ i lt. subst (λ (n : ℕ). KeepsTexts (get_or crew i d).texts (own_blocks n i 0 order.0)) many
     (subst (λ w. KeepsTexts (get_or w i d).texts (own_blocks (length w) i 0 order.0)) seen (order.3 i d (omega (arith, lt, ap length seen, many)))))
     c.put_in_order.new.out.items order.2 (c.bring_in.ensures.len.1 ∙ sym long)

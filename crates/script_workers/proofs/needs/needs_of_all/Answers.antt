@@ -40,4 +40,4 @@ loop-rest-preserved c =
 pub returns : goal.returns
 returns c = λ i d less.
     let none = no_blocks c.loop-rest.rest.now (sym c.is_empty.ensures ∙ c.loop-rest-test.false) in
-    all_counted c.args.count i c.loop-rest.number c.args.script.now (script_blocks c.loop-rest.rest.now) (get_or c.loop-rest.needs i d) none (c.loop-rest.invariant.each i d less)
+    all_counted c.args.count i c.loop-rest.number (script_blocks c.args.script.now) (script_blocks c.loop-rest.rest.now) (get_or c.loop-rest.needs i d) none (c.loop-rest.invariant.each i d less)
