@@ -11,7 +11,7 @@ cd "$(dirname "${BASH_SOURCE[0]}")/.." || exit 2
 # Seconds for one script: many times what it takes, since machines may be slow and busy.
 LIMIT=900
 # Each with its words. A script that isn't there is passed over, so that a line may be put in before its script is.
-SCRIPTS=("more_edits --fits" odd_words.sh deep_walks.py client.py prepare.py find_fault.py explain.py walks.py why.py pages.py first_programs.py language.py)
+SCRIPTS=("more_edits --fits" deep_walks.py client.py prepare.py find_fault.py explain.py walks.py why.py pages.py first_programs.py language.py)
 if [ "${1:-}" = --services ]; then
     SCRIPTS=("serving.py --quick" keeping.py "snapshots.py 8" "two_processes.py 3")
     # The second implementation takes its ChaCha20 from there.

@@ -16,6 +16,12 @@ passed=0
 # sums: what stands in journals.
 sums() { find journals -type f -exec sha256sum {} + | sort; }
 
+# ---- words that aren't UTF-8 are no command, wherever one stands: nothing is run
+
+over_journals "a byte that is none of UTF-8's" 2 usage/ run cat.json $'ke\xffy'
+over_journals "a word more, of that byte" 2 usage/ run cat.json key $'\xff'
+over_journals "half of a surrogate in a word" 2 usage/ run $'cat.json\xed\xa0\x80' key
+
 # ---- a journal that is there: the owner's name, and the length. That of the owner before it is made.
 
 python3 - <<'END'

@@ -3,7 +3,8 @@
 
 usage: bench/lock_states.py [CALLERS TURNS]    (all of the sizes below, unless said: some minutes)
 The model has the lock's word, the kernel's sleep and each caller's steps as crates/owner_lock/src/owned.rt has them: between any two of its
-single steps any other caller may go on. A caller that finds the turn taken tries again or goes to wait, at any time, and a nap ends at any time; some runs have
+single steps any other caller may go on. A caller that finds the turn taken tries again or goes to wait, at any time, and a nap ends at any time; the looks of the one
+that is awake, and a nudge, are so no steps of their own. Some runs have
 sleeps that end for no reason. It ends with status 1 where a state is met in which all callers that are left sleep until they are called, where two have the turn, or
 where the last word says that somebody waits; and where one of the mistakes that are planted in copies of it isn't found.
 """
