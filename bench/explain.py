@@ -27,7 +27,7 @@ from catalog import read  # noqa: E402
 from runs import chain, judgement, unions  # noqa: E402
 from tables import signature  # noqa: E402
 
-CODES = "20 21 22 30 31 32 33 34 35 36 37".split()
+CODES = "20 21 22 30 31 32 33 34 35 36 37 90".split()
 ROW = "text * num * text * num"
 AGES = f"let ages = map (fn (p : {ROW}) => let (region, p) = p in let (age, p) = p in age) persons in\n"
 AGE = f"let age = fun (p : {ROW}) => let (region, p) = p in let (age, p) = p in age in\n"
@@ -417,6 +417,24 @@ class Trial:
         if ran.stdout != f"no {refusal}\n":
             self.differ("check", program, ran.stdout, refusal)
 
+    def walked(self):
+        """A program whose bags' functions would take 64 walks, which is told 90 whatever memory there is; and with a walk less, where memory ran out."""
+        for count, said in ((7, "no 90: this program walks bags too often"), (6, "no 90: memory ran out before anything was reserved")):
+            program = AGES.replace("ages", "a", 1) + count * "let a = map (fn (x : num) => x + sum[0,1] a) a in\n" + "0 * size a"
+            with open(self.file, "w") as file:
+                file.write(program)
+            ran = self.explain("no 90")
+            if ran.returncode != 0 or not ran.stdout.startswith(said) or ("Ask for that number first" in ran.stdout) != (count == 7):
+                self.differ("walks", program, f"{ran.returncode} {ran.stdout}{ran.stderr}", said)
+            line = f"ask labour 0.5 {' '.join(program.split())}"
+            for name, lines in (("script", f"hello mia\n{line}\n"), ("replies", "hello mia\nno 90\n")):
+                with open(f"{self.room}/{name}", "w") as file:
+                    file.write(lines)
+            ran = self.called("--script", CATALOG, f"{self.room}/script", f"{self.room}/replies")
+            if ran.returncode != 0 or said.removeprefix("no 90: ") not in ran.stdout:
+                self.differ("walks of a script", line, f"{ran.returncode} {ran.stdout}{ran.stderr}", said)
+        self.codes.add("90")
+
     def by_client(self):
         """A client's program beside the refusal of what the client sent: it isn't asked whether another one was."""
         with open(self.file, "w") as file:
@@ -579,6 +597,7 @@ def main():
             trial.one(program, refusal, marked, said)
             if not alone:
                 trial.by_program(program, refusal)
+        trial.walked()
         trial.by_client()
         trial.piped()
         trial.parts()

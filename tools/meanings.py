@@ -69,7 +69,8 @@ REFUSALS = {
         "which",
     "no 60 N N": "no number {0} was ever reserved of this owner",
     "no 61 N N": "another analyst made reservation {0}, and recalls it alone",
-    "no 90": "memory ran out before anything was reserved: nothing is charged, and it may be asked again",
+    "no 90": "memory ran out before anything was reserved, and it may be asked again; or the program walks bags too often or too deep, whatever memory there "
+        "is (docs/language.md, \"Walks of bags\"): nothing is charged",
 }  # fmt: skip
 LINES = {
     "usage": STATUSES[2],

@@ -266,4 +266,5 @@ def hint_of_run(refusal):
         "35": "A function's body counts on from where it is called. Call fewer functions inside one another, or group long chains in halves.",
         "36": "A function that calls another one twice takes twice its turns. Give what is computed twice a name by `let`.",
         "37": "A table that is joined to itself counts each time. Multiply a count, in the place of joining a bag to itself: `2 * size ..`.",
+        "90": f"A `size` or a `sum` in a function is a walk for each row. {ASK_FIRST}.",
     }[refusal.words[0]]

@@ -410,7 +410,7 @@ def read(name, word):
 
 def told_here(fault):
     """Whether the server wasn't asked, so that what is left is what it was."""
-    return isinstance(fault, BadCall) or isinstance(fault, Refused) and (fault.reply is None or fault.reply.split()[1] in explain.OF_PROGRAMS)
+    return isinstance(fault, BadCall) or isinstance(fault, Refused) and (fault.reply is None or fault.reply.split()[1] in (*explain.OF_PROGRAMS, "90"))
 
 
 def answers_of(known):
