@@ -22,6 +22,11 @@ over_journals "a byte that is none of UTF-8's" 2 usage/ run cat.json $'ke\xffy'
 over_journals "a word more, of that byte" 2 usage/ run cat.json key $'\xff'
 over_journals "half of a surrogate in a word" 2 usage/ run $'cat.json\xed\xa0\x80' key
 
+# ---- a generated run, as it is worked out by the second implementation (tools/reference.py), by one worker and by four
+
+over_journals "gen: one ask" 0 'asks 1 answered 1 exhausted 0 over 0 spent 1000000 sum 1002/' gen 0 1 1
+over_journals "gen: 21 asks by four workers" 0 'asks 21 answered 11 exhausted 0 over 10 spent 11000000 sum 10997/' gen 99 21 4
+
 # ---- a journal that is there: the owner's name, and the length. That of the owner before it is made.
 
 python3 - <<'END'

@@ -18,8 +18,8 @@ static int is_refused(void *caller) {
     Dl_info info;
     if (!dladdr(caller, &info) || !info.dli_fname || strstr(info.dli_fname, ".so")) return 0;
     if (refused < 0) refused = getenv("REFUSE") ? atol(getenv("REFUSE")) : 0;
-    count++;
-    return count == refused || (refused > 0 && count > refused && getenv("REFUSE_ALL"));
+    long now = __atomic_add_fetch(&count, 1, __ATOMIC_RELAXED);
+    return now == refused || (refused > 0 && now > refused && getenv("REFUSE_ALL"));
 }
 
 void *malloc(size_t size) {

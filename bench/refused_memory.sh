@@ -7,6 +7,7 @@
 #        bench/refused_memory.sh --programs   the same of `check`, and of asks whose programs are checked. A row a run's kind.
 #        bench/refused_memory.sh --gaps       the same of `gap`: two tables, several programs, and each refusal. A row a run's kind.
 #        bench/refused_memory.sh --runs       the same of asks whose programs run over bags, with what they are charged: refused_runs.py.
+#        bench/refused_memory.sh --workers    the same of a run by four workers over two owners: refused_workers.py.
 #        bench/refused_memory.sh --sessions   the same of a session, by a test of session_tests: refused_sessions.py.
 #        bench/refused_memory.sh --services   the same of `init`, of a service with a connection, and of a generated run: refused_services.py.
 #        bench/refused_memory.sh --try [FIRST [LAST]]     the kit's own refusals, in a build of its own that
@@ -222,6 +223,7 @@ case "$1" in
     --programs) by_malloc_programs ;;
     --gaps) by_malloc_gaps ;;
     --runs) python3 "$top/bench/refused_runs.py" || passed=1 ;;
+    --workers) python3 "$top/bench/refused_workers.py" || passed=1 ;;
     --sessions) python3 "$top/bench/refused_sessions.py" || passed=1 ;;
     --services) PROGRAM=$program python3 "$top/bench/refused_services.py" || passed=1 ;;
     *) head_of_rows && by_malloc ;;

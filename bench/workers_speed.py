@@ -205,6 +205,8 @@ def main():
                 at_one_owner(table, rounds, times * answers, MEMORY, "in memory")
             if shutil.which("perf"):
                 one_hold(table, rounds, 160 * answers, built)
+            else:
+                print("a hold that nobody else wants: left out, since there is no perf")
     sys.exit(1 if table.missed else 0)
 
 
