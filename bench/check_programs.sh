@@ -1,5 +1,6 @@
 #!/usr/bin/env bash
-# Checks programs: what one costs, from scripts of many asks of it, less as many asks of a program of one byte.
+# Checks programs: what one costs, from scripts of many asks of it, less as many asks of a program of one byte, each behind an ask of another
+# program, since a session doesn't read the program that it has just asked again.
 # usage: bench/check_programs.sh [ROUNDS]    (PROGRAM=FILE measures another build)
 # Bars: a program of 4,096 tokens is read and checked in under 10 ms; of nested lets whose names are all in use, twice as
 # many cost at most 4.6 times as much, which is nodes times names in scope and an allowance; lets that double a type end,
@@ -46,8 +47,8 @@ sum_of() {
     done
     printf '%s' "${parts[0]}"
 }
-# script NAME LINES PROGRAM: the script NAME, of so many lines with this program.
-script() { { echo "hello ann"; yes "ask census 1000 $3" | head -n "$2"; } >"$1"; }
+# script NAME LINES PROGRAM: the script NAME, of so many lines with this program, each behind one with another.
+script() { { echo "hello ann"; yes "ask census 1000 b"$'\n'"ask census 1000 $3" | head -n "$((2 * $2))"; } >"$1"; }
 # spend LINES NAME..: runs each of the scripts in turn, so that a busy machine slows them alike, and keeps the seconds of each.
 spend() {
     local round run name lines=$1
@@ -55,11 +56,11 @@ spend() {
     for ((round = 0; round < rounds; round++)); do
         for name in "$@"; do
             { time for ((run = 0; run < runs; run++)); do cp empty.bud journals/0.bud && "$program" run cat.json key <"$name" >"$name.output"; done; } 2>>"$name.times"
-            [ "$(wc -l <"$name.output")" = $((lines + 1)) ] || { echo "another number of replies than of lines" >&2; exit 1; }
+            [ "$(wc -l <"$name.output")" = $((2 * lines + 1)) ] || { echo "another number of replies than of lines" >&2; exit 1; }
         done
     done
 }
-# least NAME LINES: the microseconds of a line, the least of the rounds.
+# least NAME LINES: the microseconds of a pair of lines, the least of the rounds.
 least() { awk -v each="$((runs * $2))" '{ used = ($1 + $2) * 1000000 / each; if (NR == 1 || used < least) least = used } END { print least }' "$1.times"; }
 # said PROGRAM: what `check` says of a program.
 said() {

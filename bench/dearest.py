@@ -3,9 +3,9 @@
 
 usage: bench/dearest.py [SECONDS]    (PROGRAM=FILE times another build; SECONDS of processor time, 60, after which a run is ended)
 Of each depth there are two: the shortest program, a `filter` in `map`s of the table; and the longest, of nearly 20,000 turns in the innermost
-function, over bags 64 tables wide, by whichever of some bodies takes longest a turn. Beside them is a `filter` of a `map` over such a bag, which makes
-pairs. All are charged nothing. First a program is timed over tables of 1, 2, 4, .. rows until it takes a second, the longest ones
-of depth 2 and 3 over narrower bags. By what it takes for each visit of a row or a term (tools/walks.py says how many there are at most, and here
+function, over bags 64, 8 and 4 tables wide, since a program may walk 64 bags, by whichever of some bodies takes longest a turn. Beside them is a
+`filter` of a `map` over a bag of 64 tables, which makes pairs. All are charged nothing. First a program is timed over tables of 1, 2, 4, .. rows
+until it takes a second. By what it takes for each visit of a row or a term (tools/walks.py says how many there are at most, and here
 none is left out) the rest is worked out, in parentheses. What would then take over twice SECONDS isn't run.
 It ends with status 1 where a program isn't accepted, has another depth, or isn't answered.
 """
@@ -203,7 +203,7 @@ def cell(room, program, rows, unit):
 
 
 def row(room, name, made, depth, width):
-    program = made(depth)
+    program = made(depth, width)
     if walked(program).walk_depth != depth:
         room.bad += 1
         print(f"{walked(program).walk_depth} deep, and not {depth}: {program[:300]}")

@@ -113,9 +113,10 @@ def small_owners(parts=(), keys=(), capacity=100):
 
 
 def told(what, figure, unit, bar, more=""):
-    """A sentence on a figure and its bar; whether it is met."""
-    print(f"{what}: {figure:.3g} {unit}{more}, at most {bar} wanted", flush=True)
-    return figure <= bar
+    """A sentence on a figure and its bar, and whether it is met."""
+    met = figure <= bar
+    print(f"{what}: {figure:.3g} {unit}{more}, at most {bar} wanted{'' if met else ': MISSED'}", flush=True)
+    return met
 
 
 def reply(rounds):

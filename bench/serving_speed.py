@@ -6,8 +6,8 @@ Journals lie in memory (/dev/shm). Each figure is the median of the rounds, in w
 
 - an ask of `size people` over a connection, line out and reply in, takes at most 30 microseconds more than a line of the same length that
   a bare server on the same loopback writes back (bench/lines_loop.c): the medians of all lines of a round;
-- four workers with a client each on four owners, and a program of about a millisecond over 2^14 rows, give at least 3 times the answers a second of
-  one worker with one client. It wants four processors with nothing else to do.
+- four workers with a client each on four owners, and a program over 2^14 rows (some 0.2 milliseconds by the proved program, and some 2 by the quick
+  build), give at least 3 times the answers a second of one worker with one client. It wants four processors with nothing else to do.
 
 It ends with status 1 where a bar isn't met, and with 2 where there is no program, no cc or no /dev/shm.
 """
@@ -65,6 +65,10 @@ def in_turn(rounds, *ways):
     return [median(figures) for figures in found]
 
 
+def missed(met):
+    return "" if met else ": MISSED"
+
+
 def beside_echo(loop, rounds, asks):
     with tempfile.TemporaryDirectory(dir=MEMORY) as folder:
         room = Room(folder, 1, capacity=min(2**18, 2 * rounds * asks + 100))
@@ -78,8 +82,9 @@ def beside_echo(loop, rounds, asks):
         finally:
             echo.kill()
             echo.wait()
-    print(f"an ask over a connection {ours:.1f} us, a bare echo {theirs:.1f} us: {ours - theirs:.1f} us above, at most 30 wanted")
-    return ours - theirs <= 30
+    met = ours - theirs <= 30
+    print(f"an ask over a connection {ours:.1f} us, a bare echo {theirs:.1f} us: {ours - theirs:.1f} us above, at most 30 wanted{missed(met)}")
+    return met
 
 
 def many_workers(loop, rounds, asks):
@@ -96,8 +101,9 @@ def many_workers(loop, rounds, asks):
                 return workers * asks / (time.monotonic() - begun)
 
             four, one = in_turn(rounds, lambda: answers_by(4), lambda: answers_by(1))
-    print(f"four workers {four:.0f} answers a second, one {one:.0f} ({1000 / one:.2f} ms each): {four / one:.2f} times, at least 3 wanted")
-    return four >= 3 * one
+    met = four >= 3 * one
+    print(f"four workers {four:.0f} answers a second, one {one:.0f} ({1000 / one:.2f} ms each): {four / one:.2f} times, at least 3 wanted{missed(met)}")
+    return met
 
 
 def main():
