@@ -37,6 +37,9 @@ FILES = {
 MORE = {"name": "more", "table": "people", "column": "town", "keys": ["A"]}
 RUN, INIT, AUDIT = (f"{command} catalog.json key" for command in ("run", "init", "audit"))
 CHECK = "check catalog.json census program"
+# A bag's functions would take 64 walks for a row.
+AGES, ONCE_MORE = b"let a = map (fn (p : text * num) => let (town, age) = p in age) people in ", b"let a = map (fn (x : num) => x + sum[0,1] a) a in "
+WALKS = AGES + 7 * ONCE_MORE + b"0 * size a"
 GRANT, MOST = "grant catalog.json key census", 10**18
 
 
@@ -293,6 +296,7 @@ MADE = [
     (lambda: link("0.bud", "journals/0.bud"), AUDIT, "", 6, ["disk census", "a link that leads nowhere but to itself"]),
     (made_file, INIT, "", 6, ["disk census", "`journals` is a file, where a folder belongs"]),
     (lambda: write("long", b"\n" * 2**24), RUN, "< long", 7, ["Its memory is limited to 140000 KiB", "nothing was asked"]),
+    (lambda: write("program", WALKS), CHECK, "", 7, ["`tools/explain catalog.json census program 'no 90'` says whether it does"]),
     (lambda: os.system("truncate -s 16777217 long"), RUN, "< long", 8, ["It has 16777217 bytes, and 16777216 are allowed", "nothing was asked"]),
     *GRANTS,
     (nothing, RUN, "< script", 0, []),

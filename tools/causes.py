@@ -720,6 +720,11 @@ def about_memory():
         pass
 
 
+def about_walks(command):
+    asked = " ".join([*command.words[:2], command.words[-1], "'no 90'"])
+    yield f"Where the program walks bags too often or too deep no memory helps: `tools/explain {asked}` says whether it does."
+
+
 def about_length(script):
     found = os.fstat(script)
     if stat.S_ISREG(found.st_mode):
@@ -743,6 +748,8 @@ def causes(status, words, before, script, told=lambda rows: None):
         yield from about_disk(command, before)
     elif status == 7:
         yield from about_memory()
+        if command.name in ("check", "gap"):
+            yield from about_walks(command)
     elif status == 8:
         yield from about_length(script)
     else:

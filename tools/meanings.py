@@ -20,7 +20,8 @@ STATUSES = {
     5: "a file, standard input or standard output failed; what was written is a part of what was due, or nothing; or a port of `serve` couldn't be listened at",
     6: "the disk, or the folder `journals`, failed while an owner's journal was made or opened, or another process has that journal; nothing was asked; of "
         "`grant` also while its record was written, which may be there or not",
-    7: "memory ran out before anything was answered; of `serve` and `gen` it may be later",
+    7: "memory ran out before anything was answered; of `serve` and `gen` it may be later, and `check` and `gap` end so of any program that walks bags too often "
+        "or too deep",
     8: "the script has over 2^24 bytes, and nothing of it was answered",
     9: "`grant` would raise the budget over 10^18 millionths; nothing changed",
     10: "the owner's journal has no room for a grant's record; nothing changed",
