@@ -92,7 +92,7 @@ impl<D: Disk> Desk<D> {
         self.owned.join(&mut pass.ticket, ticket);
     }
 
-    /// Tells one who waits that the caller won't come again.
+    /// Ends the nap of one who waits for this desk: for a caller that won't come again. It changes nothing.
     pub fn nudge(&self) {
         self.owned.nudge();
     }

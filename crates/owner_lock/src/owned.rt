@@ -27,7 +27,7 @@ const TRIES: u32 = 100;
 
 const PAUSES: u32 = 4;
 
-// How long the one that is awake naps between two tries, in microseconds: at first, and at most.
+// How long the one that is awake naps at a time, in microseconds: at first, and at most.
 const FIRST_NAP: u64 = 100;
 
 const LONGEST_NAP: u64 = 800;
@@ -35,7 +35,7 @@ const LONGEST_NAP: u64 = 800;
 // How often it must find that nobody has the turn before it tries, and behind how many naps it tries without that.
 const QUIET: u32 = 150;
 
-const PATIENCE: u32 = 16;
+const PATIENCE: u32 = 64;
 
 // The low two bits of word 1 while a seat has the turn.
 const TAKEN: u64 = 1;
@@ -56,7 +56,7 @@ enum Waiter {
     Fresh,
     // It is counted, and sleeps until it is called.
     Sleeper,
-    // It is counted, and the one that is awake: it naps between its tries.
+    // It is counted, and the one that is awake: it naps between its looks.
     Watcher,
 }
 
@@ -310,7 +310,7 @@ impl<T: StandsFor> Owned<T> {
         Waiter::Sleeper
     }
 
-    // Naps for so many microseconds, or less where an entry is counted just then.
+    // Naps for so many microseconds, or less where an entry is counted just then or a nudge comes.
     fn nap<W: Wait>(&self, rt: &W, nap: u64) {
         let count = self.table.shared.peek(0);
         let longest = Duration::from_micros(nap);
@@ -374,7 +374,8 @@ impl<T: StandsFor> Owned<T> {
         }
     }
 
-    /// Wakes the one of those who wait that naps: for a caller that won't come again, so that nobody waits for the end of a nap.
+    /// Ends the nap of the one of those who wait that naps: for a caller that won't come again, so that the turn isn't free for the rest of the
+    /// nap. Where it comes before the nap it is lost.
     pub fn nudge(&self) {
         self.table.shared.wake_one(0);
     }

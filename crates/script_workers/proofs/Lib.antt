@@ -1,3 +1,4 @@
+pub mod Examples
 pub mod Blocks
 pub mod Kept
 pub mod Served

@@ -20,7 +20,7 @@ pub struct Block<'a> {
     pub behind: &'a [u8],
 }
 
-// Whether a line ends its block. Its bytes say so: a worker passes over the lines of all others, and reads none of them as a request.
+// Whether a line ends its block. Its bytes say so: who only looks for blocks reads no line as a request.
 #[tactic(auto, using(crate::proofs::FirstBlocks::bye_bytes))]
 fn ends_block(line: &[u8]) -> bool
     ensures { result ≡ is_bye line.now }

@@ -6,7 +6,7 @@ use Rattle.session_core.specs.Blocks.{own_blocks, script_blocks}
 use Rattle.session_core.specs.Bundles.{Bundle}
 use Rattle.session_core.specs.Code.{pass_at, room_for_lines}
 use Rattle.script_workers.specs.Texts.{KeepsTexts}
-use Rattle.script_workers.specs.Crews.{HasDone, HasRoomFor, HasTakenAll, IsHired}
+use Rattle.script_workers.specs.Crews.{HasDone, HasRoomFor, HasTakenAll}
 use Rattle.script_workers.specs.Starts.{blocks_at}
 use Rattle.script_workers.proofs.Brought.{answers, has_worked, sum_same}
 use Rattle.script_workers.proofs.Back.{all_back, for_order, handed_passes, none_brought, owner_within, passes_back, same_locks, some_of, whole_enough}

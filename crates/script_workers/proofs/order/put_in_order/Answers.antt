@@ -1,4 +1,4 @@
-use Rattle.std.proofs.Common.{◌≡◌, ◌+◌, ◌%◌, ◌<◌, ◌∙◌, ◌++◌, [], ◌∷◌, length, drop, get_or, set, sum_by, refl, sym, ap, subst, arith, mod-lt, inl, inr, length-append, length-set, get_or-set_same, get_or-set_other}
+use Rattle.std.proofs.Common.{◌+◌, ◌%◌, ◌<◌, ◌∙◌, ◌++◌, [], ◌∷◌, length, drop, get_or, set, sum_by, refl, sym, ap, subst, arith, mod-lt, inl, inr, length-append, length-set, get_or-set_same, get_or-set_other}
 use Rattle.std.proofs.lemmas.Bool.{cases_eq}
 use Rattle.std.proofs.lemmas.List.{drop_more, get_or_default}
 use Rattle.std.proofs.lemmas.List.Sums.{sum_by-cons}

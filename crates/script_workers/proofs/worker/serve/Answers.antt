@@ -1,5 +1,4 @@
-use Rattle.std.proofs.Common.{◌≡◌, ◌∙◌, ◌+◌, [], List, ℕ, drop, get_or, sym, ap, subst}
-use Rattle.std.specs.Borrow.{Bor}
+use Rattle.std.proofs.Common.{◌∙◌, ◌+◌, [], drop, sym, ap, subst}
 use Rattle.session_core.specs.OwnerHouse.House.{house_of}
 use Rattle.session_core.specs.Bundles.{Bundle}
 use Rattle.session_core.specs.Code.{ArePasses}
