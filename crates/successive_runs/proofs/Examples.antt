@@ -1,5 +1,5 @@
 -- Worked runs, and what is none.
-use Rattle.std.proofs.Common.{◌≡◌, ℕ, zero, suc, ◌≤◌, ◌<◌, List, [], ◌∷◌, ◌++◌, length, Some, None, slice_get, refl, sym, ap, subst, inl, inr, arith}
+use Rattle.std.proofs.Common.{◌≡◌, ℕ, zero, suc, ◌+◌, ◌≤◌, ◌<◌, List, [], ◌∷◌, ◌++◌, length, Some, None, slice_get, refl, sym, ◌∙◌, ap, subst, inl, inr, arith}
 use Rattle.std.specs.Prelude.{Ok}
 use Rattle.std.specs.List.{enumerate_from}
 use Rattle.partition_charge.specs.Cost.{cost_of_charges, partition_cost}
@@ -25,6 +25,7 @@ use Rattle.query_server.specs.OwnerHistory.Granted.{told_settlement, IsGranted}
 use Rattle.query_server.specs.AnswerPath.Demand.{asks}
 use Rattle.query_server.specs.AnswerPath.Met.{IsMetExactly}
 use Rattle.query_server.specs.AnswerPath.Noise.{noise_at}
+use Rattle.query_server.specs.AnswerPath.Query.{Query}
 use Rattle.query_server.specs.AnswerPath.Shut.{Shut, unshut, StaysShut, ShutsBy}
 use Rattle.query_server.specs.AnswerPath.Verdict.{granted}
 use Rattle.query_server.specs.AnswerPath.Answered.{HasWorthIn, outcome_reply, granted_record, IsAnswered}
@@ -34,7 +35,7 @@ use Rattle.query_server.specs.SessionCore.Meant.{wants, meant_by}
 use Rattle.query_server.specs.SessionCore.Turns.{Turn, meant_at}
 use Rattle.query_server.specs.SessionCore.Exchanges.{Exchange}
 use Rattle.query_server.specs.SessionCore.Gathered.{one_worker, part_of, IsAnsweredOn, AreGathered, StillShut, AreShut}
-use Rattle.query_server.specs.SessionCore.Served.{ShutsFor, ShutsOn}
+use Rattle.query_server.specs.SessionCore.Served.{ShutsFor, ShutsOn, Sources}
 use Rattle.query_server.specs.SessionCore.Transcript.{LeadExactly}
 use Rattle.query_server.proofs.SessionCore.Exactly.{answers_on, outcome_said}
 use Rattle.query_server.proofs.SessionCore.Examples.{three_rows, the_owner, a_query, an_ask, a_grant, plain_records, made, outcome_with, settled_with, size_asked, three_value, turn, ask_line}
@@ -43,9 +44,10 @@ use Rattle.query_server.proofs.SessionLaws.Added.{IsKind, kind_met, number_is, t
 use Rattle.query_server.proofs.SessionLaws.Once.{kind_at}
 use Rattle.successive_runs.specs.Left.{IsLeft}
 use Rattle.successive_runs.specs.Life.{Run, IsRun, AreGranted, AreRuns, none_sent, all_sent}
+use Rattle.successive_runs.specs.Numbers.{AreToldTheirOwn}
 use Rattle.successive_runs.proofs.Files.{met_on_all}
 use Rattle.successive_runs.proofs.Fronts.{counts_on}
-use Rattle.successive_runs.proofs.Sent.{speaks_of}
+use Rattle.successive_runs.proofs.Speaking.{speaks_of}
 
 -- ---- what a run leaves
 
@@ -350,3 +352,43 @@ failing_run draws = record {
 -- another outcome doesn't stand after all
 not_another_outcome : (draws : ℕ → ℕ → ℕ → ℕ) → IsRun house draws 0 clinic [] (record (failing Lost) { left = made Exhausted }) → ⊥
 not_another_outcome draws r = not_another_record r.leaves
+
+-- ---- whose a number is
+
+-- two lines that ask the same, each behind a number
+abbrev of_two : Sources
+of_two = record { programs = a_query.program ∷ a_query.program ∷ []; places = 0 ∷ 1 ∷ [] }
+
+its_own : (grant : Grant) (outcome : Outcome) (told : List Told) (x : Exchange) (asker : Owner) (query : Query) (n : ℕ) (another : Outcome)
+    → answering grant outcome told ≡ x → meant_at house x.turn ≡ wants 0 asker (asks query) → told_settlement x.reply ≡ Some (n, another)
+    → (n ≡ grant.number) × (a_query.program ≡ query.program)
+its_own grant outcome told x asker query n another same meant said =
+    let mine : meant_at house x.turn ≡ wants 0 clinic (asks a_query) = subst (λ (y : Exchange). meant_at house y.turn ≡ wants 0 clinic (asks a_query)) same (meant_first outcome) in
+    let alike : wants 0 clinic (asks a_query) ≡ wants 0 asker (asks query) = sym mine ∙ meant in
+    let one : a_query ≡ query = cc (alike) in
+    let both : Some (grant.number, outcome) ≡ Some (n, another) = sym (outcome_said grant outcome) ∙ ap (λ (y : Exchange). told_settlement y.reply) same ∙ said in
+    let pair : (grant.number, outcome) ≡ (n, another) = cc (both) in
+    (sym (ap (λ (z : ℕ × Outcome). z.0) pair), ap (λ (q : Query). q.program) one)
+
+-- The first is told 0 and the second 1 ..
+told_their_own : (outcome : Outcome) → AreToldTheirOwn house 0 0 of_two (first_line outcome ∷ again outcome ∷ [])
+told_their_own outcome zero x asker query n another at meant said =
+    let t = its_own a_grant outcome (enumerate_from 0 (made outcome)) x asker query n another (cc (at)) meant said in
+    record { later = 0; number = t.0; line = refl; asked = ap (λ (w : List ℕ). Some w) t.1 }
+told_their_own outcome (suc zero) x asker query n another at meant said =
+    let t = its_own next_grant outcome (enumerate_from 1 (plain_records an_ask next_grant outcome)) x asker query n another (cc (at)) meant said in
+    record { later = 1; number = t.0; line = refl; asked = ap (λ (w : List ℕ). Some w) t.1 }
+told_their_own outcome (suc (suc place)) x asker query n another at meant said = absurd (cc (at))
+
+-- .. and not the other way round, nor a number of those found
+not_each_other_s : (outcome : Outcome) → AreToldTheirOwn house 0 0 of_two (again outcome ∷ first_line outcome ∷ []) → ⊥
+not_each_other_s outcome all =
+    let own = all 0 (again outcome) clinic a_query 1 outcome refl (meant_first outcome) (next_number outcome) in
+    let later : own.later ≡ 1 = omega (arith, own.number) in
+    let both : Some 1 ≡ Some 0 = subst (λ (k : ℕ). slice_get of_two.places k ≡ Some 0) later own.line in
+    cc (both)
+
+not_a_found_one : (outcome : Outcome) → AreToldTheirOwn house 0 1 of_two (first_line outcome ∷ []) → ⊥
+not_a_found_one outcome all =
+    let own = all 0 (first_line outcome) clinic a_query 0 outcome refl (meant_first outcome) (outcome_said a_grant outcome) in
+    absurd (omega (arith, own.number))

@@ -2,7 +2,9 @@ pub mod Fronts
 mod Numbered
 mod Granted
 mod Ran
+mod Speaking
 mod Sent
+mod OfLines
 pub mod Lives
 pub mod Files
 mod Raised

@@ -1,14 +1,12 @@
 -- what the replies of one run say that were sent, and of which numbers
-use Rattle.std.proofs.Common.{◌≡◌, ℕ, ◌≤◌, ◌<◌, true, List, [], ◌∷◌, ◌++◌, length, slice_get, Some, None, refl, sym, ◌∙◌, ap, subst}
-use Rattle.std.proofs.lemmas.Option.{slice_get_within}
-use mathlib.Core.Logic.{◌⊎◌, inl, inr}
+use Rattle.std.proofs.Common.{◌≡◌, ℕ, ◌≤◌, true, List, [], ◌∷◌, ◌++◌, length, slice_get, Some, refl, sym, ◌∙◌, ap, subst}
+use mathlib.Core.Logic.{inl, inr}
 use mathlib.Core.List.{IsPrefix}
 use Rattle.journal_records.specs.declared.records.Outcome.{Outcome}
 use Rattle.journal_records.specs.declared.records.Reservation.{Reservation}
 use Rattle.journal_records.specs.declared.records.Record.{Record}
 use Rattle.journal_records.specs.declared.records.Record.TheVariants.{Reserve}
 use Rattle.budget_core.specs.declared.entry.Ask.{Ask}
-use Rattle.budget_core.specs.Counts.{reservations_of}
 use Rattle.budget_core.specs.Legal.{IsHistory}
 use Rattle.budget_core.specs.Ledger.{reservation_numbered, returned_by, settlement_for}
 use Rattle.budget_core.proofs.Numbers.{reservation_of-next, outcome_of-append-new}
@@ -28,30 +26,13 @@ use Rattle.query_server.specs.SessionCore.Turns.{meant_at}
 use Rattle.query_server.specs.SessionCore.Exchanges.{Exchange}
 use Rattle.query_server.specs.SessionCore.Served.{IsBorneOutTo}
 use Rattle.query_server.specs.SessionCore.Transcript.{first_new}
-use Rattle.query_server.proofs.SessionCore.Exactly.{outcome_said}
 use Rattle.query_server.specs.SessionLaws.Growing.{IsMetOn}
-use Rattle.query_server.proofs.SessionLaws.Added.{IsLeftOpen, IsSettledLater, IsReservedBy, IsKind, kind_met, number_is, number_below, reserved_told}
-use Rattle.query_server.proofs.SessionLaws.Places.{below, listed_below, prefix_seam}
+use Rattle.query_server.proofs.SessionLaws.Added.{IsSettledLater, IsReservedBy, IsKind, kind_met, number_is, reserved_told}
 use Rattle.query_server.proofs.SessionLaws.Sources.{reserve_told, number_new, same_line}
 use Rattle.successive_runs.specs.Life.{Run, IsRun}
 use Rattle.successive_runs.proofs.Fronts.{history_on, unsettled_before}
+use Rattle.successive_runs.proofs.Speaking.{same_number, speaks_of, number_spoken, number_held}
 use Rattle.successive_runs.proofs.Ran.{spoken, known, By, whole, kind_here, program_here, IsGoneOn}
-
-same_number : (a b : Reservation) → ◌≡◌ {A = Record} (Reserve a) (Reserve b) → a.number ≡ b.number
-same_number a b both = let same : a ≡ b = cc (both) in ap (λ (r : Reservation). r.number) same
-
--- a reply that speaks of a number speaks of that of its reservation
-pub speaks_of : (draws : ℕ → ℕ → ℕ) (owner : Owner) (found records : List Record) (query : Query) (x : Exchange) (by : IsReservedBy draws owner found records query x) (n : ℕ) (outcome : Outcome)
-    → told_settlement x.reply ≡ Some (n, outcome) → (done : IsSettledLater draws owner found records query by.asking by.grant by.g x) × (by.grant.number ≡ n) × (done.outcome ≡ outcome)
-speaks_of draws owner found records query x by n outcome said = ended by.ends
-  where
-    ended : IsLeftOpen draws owner found records by.asking by.grant by.g x ⊎ IsSettledLater draws owner found records query by.asking by.grant by.g x
-        → (done : IsSettledLater draws owner found records query by.asking by.grant by.g x) × (by.grant.number ≡ n) × (done.outcome ≡ outcome)
-    ended (inl alone) = absurd (let both : None ≡ Some (n, outcome) = sym (ap told_settlement alone.said) ∙ said in cc (both))
-    ended (inr done) =
-        let both : Some (by.grant.number, done.outcome) ≡ Some (n, outcome) = sym (ap told_settlement done.said ∙ outcome_said by.grant done.outcome) ∙ said in
-        let pair : (by.grant.number, done.outcome) ≡ (n, outcome) = cc (both) in
-        (done, ap (λ (z : ℕ × Outcome). z.0) pair, ap (λ (z : ℕ × Outcome). z.1) pair)
 
 module _ (house : House) (draws : ℕ → ℕ → ℕ → ℕ) (o : ℕ) (owner : Owner) (found : List Record) (earlier : List (List ℕ)) (run : Run)
     (here : slice_get house.owners o ≡ Some owner) (inside : IsOwnerIn house owner) (begun : IsFound owner (draws o) earlier found) (r : IsRun house draws o owner found run) where
@@ -64,16 +45,8 @@ module _ (house : House) (draws : ℕ → ℕ → ℕ → ℕ) (o : ℕ) (owner 
   -- a line whose reply speaks of a number reserved it
   pub number_said : (j : ℕ) (x : Exchange) (query : Query) (n : ℕ) (outcome : Outcome) → slice_get run.exchanges j ≡ Some x → meant_at house x.turn ≡ wants o owner (asks query) → told_settlement x.reply ≡ Some (n, outcome)
       → (by : MyBy query x) × (by.grant.number ≡ n)
-  number_said j x query n outcome at meant said = of (kind_here house draws o owner found earlier run here inside begun r j x (asks query) at meant)
-    where
-      its_number : MyBy query x → (by : MyBy query x) × (by.grant.number ≡ n)
-      its_number its = (its, (speaks_of (draws o) owner found run.records query x its n outcome said).1)
-
-      of : IsKind (draws o) owner found run.records (asks query) x → (by : MyBy query x) × (by.grant.number ≡ n)
-      of (inl none) = let g : IsGranted [] run.records query n outcome = none.1 [] n outcome said in absurd (cc (g.program))
-      of (inr (other, is, by)) =
-          let same : other ≡ query = cc (is) in
-          its_number (subst (λ (q : Query). MyBy q x) same by)
+  number_said j x query n outcome at meant said =
+      number_spoken (draws o) owner found run.records query x (kind_here house draws o owner found earlier run here inside begun r j x (asks query) at meant) n outcome said
 
   -- it is of this run
   pub number_of_run : (j : ℕ) (x : Exchange) (query : Query) (n : ℕ) (outcome : Outcome) → slice_get run.exchanges j ≡ Some x → meant_at house x.turn ≡ wants o owner (asks query) → told_settlement x.reply ≡ Some (n, outcome)
@@ -117,13 +90,6 @@ module _ (house : House) (draws : ℕ → ℕ → ℕ → ℕ) (o : ℕ) (owner 
             let same : other ≡ query = cc (is) in
             its_program (subst (λ (q : Query). MyBy q x) same made)
 
-    number_left : (query : Query) (x : Exchange) (by : LeftBy query x) → by.grant.number < length (reservations_of run.left)
-    number_left query x by =
-        let reserved : Reservation = reservation_numbered by.grant.number by.asking by.grant.taken in
-        let seam = prefix_seam by.g (Reserve reserved) run.left by.stands in
-        subst (λ (k : ℕ). k < length (reservations_of run.left)) (number_below (draws o) owner found run.left query x by)
-        (slice_get_within (reservations_of run.left) (below run.left (length by.g)) reserved (listed_below run.left (length by.g) reserved seam.1))
-
     granted_left : (j : ℕ) (x : Exchange) (query : Query) → slice_get run.exchanges j ≡ Some x → meant_at house x.turn ≡ wants o owner (asks query) → (by : LeftBy query x)
         → (done : IsSettledLater (draws o) owner found run.left query by.asking by.grant by.g x) → IsGranted g.programs run.left query by.grant.number done.outcome
     granted_left j x query at meant by done =
@@ -140,7 +106,7 @@ module _ (house : House) (draws : ℕ → ℕ → ℕ → ℕ) (o : ℕ) (owner 
           epsilon = ap (λ (a : Ask). a.e) v.asks;
           settled = outcome_prefix (done.u ++ settlement_for owner.entry done.u n done.outcome ∷ []) run.left n done.outcome done.stands
               (outcome_of-append-new done.u n done.outcome (returned_by owner.entry done.u n done.outcome) (unsettled_before owner.entry done.u run.left n done.outcome (returned_by owner.entry done.u n done.outcome) done.stands g.explained.history));
-          program = g.agrees n query.program (program_left j x query at meant by) (number_left query x by);
+          program = g.agrees n query.program (program_left j x query at meant by) (number_held (draws o) owner found run.left query x by);
         }
 
     borne_asked : (j : ℕ) (x : Exchange) (query : Query) → slice_get run.exchanges j ≡ Some x → meant_at house x.turn ≡ wants o owner (asks query) → LeftBy query x → IsBorneOut g.programs run.left query x.reply

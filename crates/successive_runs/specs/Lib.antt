@@ -1,6 +1,7 @@
 pub mod Left
 pub mod Life
 pub mod Kept
+pub mod Numbers
 pub mod Raised
 pub mod Script
 pub mod Agreed

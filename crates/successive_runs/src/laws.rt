@@ -12,10 +12,14 @@ ghost use Rattle.budget_ledger.specs.Account.{IsMoment};
 ghost use Rattle.budget_ledger.specs.declared.failure.Failure.{Failure};
 ghost use Rattle.word_streams.specs.Draws.{draws_of};
 ghost use Rattle.owner_house.specs.Owner.{Owner};
-ghost use Rattle.owner_house.specs.House.{House, AreOwners, house_of};
+ghost use Rattle.owner_house.specs.House.{House, AreOwners, IsOwnerIn, house_of};
 ghost use Rattle.query_server.specs.OwnerHistory.Sound.{IsFound};
-ghost use Rattle.query_server.specs.SessionCore.Transcript.{Journals};
-ghost use Rattle.query_server.specs.SessionCore.Headline.{Programs, AreFound};
+ghost use Rattle.query_server.specs.SessionCore.Turns.{Turn};
+ghost use Rattle.query_server.specs.SessionCore.Exchanges.{Exchange};
+ghost use Rattle.query_server.specs.SessionCore.Gathered.{AreGathered, IsGatheredScript};
+ghost use Rattle.query_server.specs.SessionCore.Transcript.{Journals, first_new};
+ghost use Rattle.query_server.specs.SessionCore.Headline.{Programs, AreFound, Headline};
+ghost use Rattle.query_server.specs.SessionLaws.Lines.{AreKnown, AreOfTurns, AreHonoured};
 ghost use Rattle.command_words.specs.Command.{command_of, grant, run};
 ghost use Rattle.catalog_loading.specs.Files.{Contents, always};
 ghost use Rattle.catalog_loading.specs.Loaded.{IsLoading, KeyedHouse, KeyedOwner, Loading, header_of, house_read, keyed, keyed_owner_read};
@@ -28,6 +32,7 @@ ghost use Rattle.query_server.specs.declared.end.Status.{Status};
 ghost use Rattle.successive_runs.specs.Left.{IsLeft};
 ghost use Rattle.successive_runs.specs.Life.{Run, AreRuns, IsRun, none_sent};
 ghost use Rattle.successive_runs.specs.Kept.{KeepThePromise, MayBeGoneOnFrom};
+ghost use Rattle.successive_runs.specs.Numbers.{AreToldTheirOwn};
 ghost use Rattle.successive_runs.specs.Raised.{LeavesRaised};
 ghost use Rattle.successive_runs.specs.Script.{IsLeftOf};
 ghost use Rattle.successive_runs.specs.Agreed.{IsOwnerOfHouse};
@@ -57,6 +62,23 @@ pub fn runs_keep_the_promise()
     ensures later { (house : House) (draws : ℕ → ℕ → ℕ → ℕ) (o : ℕ) (owner : Owner) (found : List Record) (earlier : List (List ℕ)) (runs : List Run) →
         (last : List Record) → AreOwners house → slice_get house.owners o ≡ Some owner → IsFound owner (draws o) earlier found →
         AreRuns house draws o owner found runs last → KeepThePromise house draws o owner found earlier runs last }
+{}
+
+/// A line that is told a number, as answered, exhausted or lost, is told its own: of the programs behind the records, that of the number is the one
+/// that this very line asks. It is so of any lines that keep the promises to an owner, and of a script's by the headline.
+pub fn lines_are_told_their_own_numbers()
+    ensures lines { (house : House) (draws : ℕ → ℕ → ℕ → ℕ) (turns : List Turn) (count : ℕ) (crew : ℕ → ℕ) (o : ℕ) (owner : Owner) →
+        (found : List Record) (earlier : List (List ℕ)) (xs : List Exchange) (records : List Record) →
+        slice_get house.owners o ≡ Some owner → IsOwnerIn house owner → IsFound owner (draws o) earlier found →
+        AreKnown house turns → AreOfTurns turns xs → AreGathered house draws count crew o found xs records →
+        (h : AreHonoured house draws turns count crew o owner found earlier xs records) →
+        AreToldTheirOwn house o (first_new found) h.sources xs }
+    ensures scripts { (house : House) (draws : ℕ → ℕ → ℕ → ℕ) (found : Journals) (earlier : Programs) (script : List ℕ) (count : ℕ) (crew : ℕ → ℕ) →
+        (xs : List Exchange) (records : Journals) → AreOwners house → AreFound house draws earlier found →
+        IsGatheredScript house draws count crew found script xs records →
+        (h : Headline house draws found earlier script count crew xs records) →
+        (o : ℕ) (owner : Owner) → (here : slice_get house.owners o ≡ Some owner) →
+        AreToldTheirOwn house o (first_new (found o)) (h.owners o owner here).sources xs }
 {}
 
 /// An answered script is a run: each file that a stop may have left since an owner's journal was opened stands for records that the
