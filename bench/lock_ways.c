@@ -1,7 +1,7 @@
 /* Three ways of waiting for an owner's lock, in plain C, beside one thread: each answer is two holds, each of which writes and syncs a record's body and its
    gate as a journal does, with some work before each. "wakes": each leave wakes one who sleeps, where none is on its way. "watches": of those who wait
    one is awake, which naps between its tries; the others sleep until it has had its turn. "leaves": so, too, but it leaves the turn to those who take
-   it again and again, for sixteen longer naps at most, and a thread that has ended wakes it. As crates/owner_lock had them, and the last as it has it.
+   it again and again, for 64 longer naps at most, and a thread that has ended wakes it. As crates/owner_lock had them, and the last as it has it.
    usage: lock_ways FILE [ANSWERS [ROUNDS [WORK]]]     8,000 answers, 9 rounds, and 250 turns of a loop before each hold, unless said.
    It prints for 2, 4 and 16 threads the medians of processor time and of answers a second, as times those of one thread, and sleeps a hold. */
 #define _GNU_SOURCE
@@ -18,7 +18,7 @@
 #include <time.h>
 #include <unistd.h>
 
-enum { TAKEN = 1, CALLED = 4, AWAKE = 8, QUIET = 150, PATIENCE = 16, MOST_ROUNDS = 99 };
+enum { TAKEN = 1, CALLED = 4, AWAKE = 8, QUIET = 150, PATIENCE = 64, MOST_ROUNDS = 99 };
 enum way { WAKES, WATCHES, LEAVES };
 
 static enum way way;
