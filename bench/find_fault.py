@@ -62,6 +62,7 @@ TABLES = [
     (b"town,age\nA, 1\n", "line 2, row 0 (the first is 0), column 1: age is ' 1'"),
     (b"town,age\nA,+1\n", "line 2, row 0 (the first is 0), column 1: age is '+1'"),
     (b"town,age\nA,\n", "line 2, row 0 (the first is 0), column 1: age is ''"),
+    (b'town,age\nA,1\nB,"2\n3"\n', "line 3, row 1 (the first is 0), column 1: age is '2\\n3': a whole number is wanted"),
     (b"town,age\nA,1125899906842625\n", "line 2, row 0 (the first is 0), column 1: age is '1125899906842625': a number is within"),
     (b'town,age\n"A\nB",1\n' + 65 * b"x" + b",2\n", "line 4, row 1 (the first is 0), column 0: town is 'xxx"),
     (b"town,age\n" + b"A,1\n" * (2**20 + 1), "line 1048578, row 1048576 (the first is 0): there are over 1048576 rows"),
@@ -192,7 +193,7 @@ class Trial:
         print(f"{found}\n    and not {want}")
 
 
-NUMBERS = (b"1", b"-7", b'"3"', b"", b"1.5", b"-", b"0000000000000000001", b"1125899906842625")
+NUMBERS = (b"1", b"-7", b'"3"', b'"1\n2"', b"", b"1.5", b"-", b"0000000000000000001", b"1125899906842625")
 WORDS = (b"a", b'"a"', b'"a,b"', b'"a""b"', b"", b"x" * 65, b'"\n"', b"a\0", b'a"b', b'"a"b"', b'"')
 
 

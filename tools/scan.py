@@ -139,6 +139,15 @@ def why_no_cell(cell, kind):
     return "out of range" if cell_of(raw(cell), kind)[1] else None
 
 
+def all_right(column, kind):
+    """Whether each cell of a column is one of its kind."""
+    if kind == "text":
+        return max(map(len, column), default=0) <= TEXT_LIMIT
+    joined = "\n".join(column)
+    # A number in quotes that has a line end in it would pass for two.
+    return NUMBERS.fullmatch(joined) is not None and joined.count("\n") < len(column)
+
+
 class Scan:
     def __init__(self, text, columns, keys, told):
         self.text, self.columns, self.told = text, columns, told
@@ -194,8 +203,7 @@ class Scan:
             records, lines, rows = ([held[k] for k in even] for held in (records, lines, rows))
         for number, kind in enumerate(self.kinds):
             column = [record[number] for record in records]
-            right = max(map(len, column), default=0) <= TEXT_LIMIT if kind == "text" else NUMBERS.fullmatch("\n".join(column))
-            if not right:
+            if not all_right(column, kind):
                 self.cells(column, number, kind, lines, rows)
         self.short_texts(records, lines)
         if reader.ends_open():
