@@ -4,7 +4,7 @@
 usage: bench/prepare.py [--alone]    (PROGRAM=FILE tries another build than tools/build's; --alone tries none)
 Each raw file stands here with the table that is wanted of it, written by hand. The program then answers, at an EPS that leaves no noise, how
 many rows there are and how many each key has. A report of random cells is compared with counts that are worked out in another way. Also
-tools/ask with wrong names and tools/public. It ends with status 1 where one differs.
+tools/ask with wrong names, tools/afresh over a program that stands in, and tools/public. It ends with status 1 where one differs.
 """
 import csv
 import datetime
@@ -511,6 +511,39 @@ def counts_of(rows):
 
 # The small tools.
 
+# In the program's place: it makes journals and says so, or names the files that it sees.
+STAND_IN = """#!/bin/sh
+for file in "$2" "$3"; do [ -e "$file" ] || { echo "refused $file"; exit 3; }; done
+if [ "$1" = init ]; then mkdir journals && echo made; else ls -A; fi
+"""
+
+
+def rooms(trial):
+    """tools/afresh gives the program the files of its folder, hidden ones too, but for journals; and it writes none of them."""
+    with tempfile.TemporaryDirectory() as room:
+        files = {"made": b"mine", ".key": b"k", "data/catalog.json": b"{}", "journals/0.bud": b"old", "program": STAND_IN.encode()}
+        for name, data in files.items():
+            os.makedirs(os.path.dirname(f"{room}/{name}"), exist_ok=True)
+            write(f"{room}/{name}", data)
+        os.chmod(f"{room}/program", 0o700)
+        before = sorted(os.listdir(room))
+        more = {"env": {**os.environ, "PROGRAM": "program", "TMPDIR": "."}}
+        for catalog in ("data/catalog.json", "./data/../data/catalog.json", f"{room}/data/catalog.json"):
+            ran = run([f"{TOP}/tools/afresh", catalog, ".key"], room, **more)
+            seen = sorted(name for name in ran.stdout.splitlines() if not name.startswith("tmp."))
+            trial.same(f"tools/afresh {catalog}", (ran.returncode, seen, ran.stderr), (0, before, ""))
+        ran = run([f"{TOP}/tools/afresh", "none", ".key"], room, **more)
+        trial.same("tools/afresh none", (ran.returncode, ran.stdout, ran.stderr), (3, "refused none\n", ""))
+        stayed = {}
+        for name in files:
+            with open(f"{room}/{name}", "rb") as file:
+                stayed[name] = file.read()
+        trial.same("its files stay as they were", stayed, files)
+        os.remove(f"{room}/made")
+        os.mkdir(f"{room}/made")
+        trial.same("a folder made", run([f"{TOP}/tools/afresh", "data/catalog.json", ".key"], room, **more).returncode, 0)
+        trial.same("no room is left", sorted(os.listdir(room)), before)
+
 
 def small_tools(trial):
     survey = "examples/survey"
@@ -581,6 +614,7 @@ def main():
     notes_of_guesses(trial)
     other_tables(trial)
     random_report(trial)
+    rooms(trial)
     small_tools(trial)
     print(f"{len(FILES) + 1} raw files, {len(WRONG)} wrong specs, {trial.tried} comparisons, {trial.differences} differences")
     sys.exit(1 if trial.differences else 0)
