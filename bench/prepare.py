@@ -8,11 +8,14 @@ tools/ask with wrong names, tools/afresh over a program that stands in, and tool
 """
 import csv
 import datetime
+import errno
 import io
 import json
 import os
 import random
 import re
+import resource
+import signal
 import stat
 import subprocess
 import sys
@@ -140,6 +143,7 @@ FILES = [
 ]  # fmt: skip
 BANDS = '{"name": "band", "kind": "bands", "of": "age", "bounds": [18, 65], "partition": "bands"}'
 JOINT = '{"name": "cell", "kind": "joint", "of": ["sex", "band"]}'
+LONG = 254 * "x"
 # Flags over a good spec, or a spec's bytes; and what is said.
 WRONG = [
     (["--set", "raw.encoding=utf-9"], "raw.encoding: `utf-9` is no encoding"),
@@ -151,6 +155,9 @@ WRONG = [
     (["--set", "table.file=raw.csv"], "table.file is the raw file itself"),
     (["--set", "table.file=no/t.csv"], "there is no folder no"),
     (["--set", "table.file=."], "can't be written: it is a folder"),
+    (["--set", f"table.file={LONG}"], f"{LONG}.report can't be written: {os.strerror(errno.ENAMETOOLONG)}"),
+    (["--set", "catalog.file="], "catalog.file: a file's name has 1 to 255 bytes"),
+    (["--set", 'raw.encoding="a\\u0000b"'], "is no encoding that Python knows"),
     (["--set", "catalog.file=./t.csv"], "catalog.file is table.file itself"),
     (["--report", "good"], "the report is the spec itself"),
     (["--set", "catalog.budget=0"], "catalog.budget: 1 to 10^18"),
@@ -161,6 +168,7 @@ WRONG = [
     (["--set", "age.scal=2"], "columns[0] (age): `scal` is no member; here may stand name, kind"),
     (["--set", "age.scale=0"], "columns[0] (age).scale: it is over 0"),
     (["--set", "age.scale=x"], "columns[0] (age).scale: a number is wanted here"),
+    (["--set", "age.scale=1e9999"], "columns[0] (age).scale: a number is wanted here"),
     (["--set", "age.top=1.5"], "columns[0] (age).top: 1.5 times the scale 1 is no whole number"),
     (["--set", "age.bottom=9", "--set", "age.top=8"], "columns[0] (age).top: it is under the bottom"),
     (["--set", "age.decimal=;"], "columns[0] (age).decimal: it is `.` or `,`"),
@@ -170,12 +178,16 @@ WRONG = [
     (["--set", "age.kind=date", "--set", 'age.format=["YYYY", "%d"]'], "columns[0] (age).format: it has YYYY"),
     (["--set", "age.kind=date", "--set", "age.format=[]"], "columns[0] (age).format: it has YYYY"),
     (["--set", "age.kind=date", "--set", "age.format=YY", "--set", "age.earliest=25"], "columns[0] (age).earliest: the first of the hundred years"),
+    (["--set", "age.kind=date", "--set", "age.format=DD.DD.YYYY"], "columns[0] (age).format: `DD.DD.YYYY` has the year, the month or the day more than once"),
+    (["--set", "age.kind=date", "--set", 'age.format=["YYYY", "Mon YY MM", "YYYY YY"]'], "columns[0] (age).format: `Mon YY MM, YYYY YY` has the year"),
     (["--set", "age.if_missing=none"], "columns[0] (age).if_missing: `row out`, `stop`, or a whole number"),
     (["--set", "age.missing=[-1]"], "columns[0] (age).missing: cells are texts"),
     (["--set", "age.at=2"], "the header has another column `Age` at 2; there stands `Sex`"),
     (["--set", "age.name=a b"], "columns[0] (a b).name: `a b` is no name"),
     (["--set", "age.name=sex"], "two columns are called `sex`"),
     (["--set", "age.kind=num"], "columns[0] (age).kind: it is one of number, date, text, key"),
+    (["--set", 'age.kind=["key"]'], "columns[0] (age).kind: it is one of number, date, text, key"),
+    (["--set", 'age.name=["a"]', "--set", "age.kind=text"], "--set age.kind=text: PART.MEMBER=VALUE is wanted"),
     (["--set", "age.kind=date"], "columns[0] (age): `format` is missing"),
     (["--set", "age.keys=[]"], "columns[0] (age): `keys` is no member of this kind (key may have it): take it away"),
     (["--set", "age.kind=date", "--set", "age.format=%d"], "columns[0] (age).format: it has YYYY"),
@@ -183,6 +195,8 @@ WRONG = [
     (["--set", "age.kind=date", "--set", "age.format=YYYY", "--set", "age.since=1.1.1970"], "columns[0] (age).since: a date is wanted here"),
     (["--set", 'sex.keys=["a b", "a_b"]'], "columns[1] (sex).keys: `a b` becomes `a_b`, and so does another key: take one of them away"),
     (["--set", 'sex.keys=[" "]'], "columns[1] (sex).keys: ` ` is no key"),
+    (["--set", 'sex.keys=["\\udce9"]'], "columns[1] (sex).keys: `\\udce9` is no key"),
+    (["--set", 'sex.if_bad="\\udce9"'], "columns[1] (sex).if_bad: `row out`, `stop`, or a text"),
     (["--set", "sex.if_other=x"], "columns[1] (sex).if_other: it is `kept`"),
     (["--set", "sex.if_missing=a b"], "columns[1] (sex).if_missing: `row out`, `stop`, or a text"),
     (["--set", "sex.case=Upper"], "columns[1] (sex).case: it is `lower` or `upper`"),
@@ -192,10 +206,12 @@ WRONG = [
     (["--add", BANDS.replace('"bands", "of"', '"bands", "keep": 1, "of"')], "columns[2] (band).keep: true or false is wanted here"),
     (["--add", BANDS.replace("bands\"}", "sex\"}")], "would be no catalog (Double, partitions 0 1 0)"),
     (["--add", "{"], "it is no JSON value"),
+    (["--add", '{"from": "Age", "name": "net", "kind": "number", "scale": 1e9999}'], "it is no JSON value: the exponent of 1e9999"),
     (["--set", "age.kind=leave out", "--set", "sex.kind=leave out"], "columns: 0 are kept, and a table has 1 to 16"),
     (b"[]", "the spec: an object is wanted here"),
     (b"{}", "the spec: `raw` is missing"),
     (b'{"raw": {,', "it is no JSON value"),
+    (b"[" * 100_000, "it is no JSON value: it is nested too deep"),
     (b'{"raw": {}, "table": {}, "catalog": {}, "columns": [7]}', "columns[0].kind: it is one of"),
 ]  # fmt: skip
 # Raw files that aren't read, with what is said.
@@ -212,8 +228,17 @@ def run(words, room, **more):
     return subprocess.run(words, cwd=room, capture_output=True, text=True, stdin=subprocess.DEVNULL, **more)
 
 
-def prepare(room, *words):
-    return run([f"{TOP}/tools/prepare", "raw.csv", *words], room)
+def prepare(room, *words, **more):
+    return run([f"{TOP}/tools/prepare", "raw.csv", *words], room, **more)
+
+
+def unread(words, room):
+    """The status and the errors of a command whose output nobody reads."""
+    reader, writer = os.pipe()
+    os.close(reader)
+    ran = subprocess.run(words, cwd=room, stdin=subprocess.DEVNULL, stdout=writer, stderr=subprocess.PIPE, text=True)
+    os.close(writer)
+    return ran.returncode, ran.stderr
 
 
 def flags(changes):
@@ -319,8 +344,9 @@ def wrong_specs(trial):
                 os.remove(f"{room}/bad")
             else:
                 ran = prepare(room, "--spec", "good", *change)
-            trial.has(f"{change}", ran.stderr, said)
-            trial.same(f"{change}: status, output, files", (ran.returncode, ran.stdout, sorted(os.listdir(room))), (2, "", before))
+            what = f"{change}"[:200]
+            trial.has(what, ran.stderr, said)
+            trial.same(f"{what}: status, output, files", (ran.returncode, ran.stdout, sorted(os.listdir(room))), (2, "", before))
         commands(trial, room)
         for data, said in UNREAD:
             os.remove(f"{room}/raw.csv") if data is None else write(f"{room}/raw.csv", data)
@@ -339,9 +365,15 @@ def commands(trial, room):
         trial.has(f"{words}", ran.stderr, said)
         trial.same(f"{words}: status", ran.returncode, 2)
     trial.has("--help", prepare(room, "--help").stdout, "--set PART.MEMBER=VALUE")
-    os.mkdir(f"{room}/journals")
-    trial.has("a folder in service", prepare(room, "--spec", "good").stderr, "this folder has journals")
+    os.makedirs(f"{room}/service/journals")
+    for words in (["--guess", "service/new"], ["--spec", "good", "--set", "table.file=service/t.csv"], ["--spec", "good", "--report", "service/r"]):
+        trial.has("a file for a folder in service", prepare(room, *words).stderr, "service has journals")
+    os.rename(f"{room}/service/journals", f"{room}/journals")
+    for words in (["--spec", "good"], ["--guess", "new"]):
+        trial.has("a folder in service", prepare(room, *words).stderr, "this folder has journals")
     os.rmdir(f"{room}/journals")
+    trial.same("nothing is written there", (os.listdir(f"{room}/service"), os.path.exists(f"{room}/new")), ([], False))
+    os.rmdir(f"{room}/service")
 
 
 def outputs(trial):
@@ -378,6 +410,43 @@ def said_of_catalogs(trial):
         other = ["--set", "catalog.budget=7", "--set", 'catalog.analysts=["bob"]']
         wanted = ["catalog.json: budget was 1000000000000, and is 7 by the spec", "catalog.json: analysts was ann spare1 spare2 spare3, and is bob by the spec"]
         trial.same("another budget", prepare(room, *words, *other, "--set", "sex.case=lower").stdout.splitlines()[3:], wanted)
+        write(f"{room}/catalog.json", text_of(f"{room}/catalog.json").replace('"name": "o"', '"name": "p"').encode())
+        ran = prepare(room, *words, *other, "--set", "sex.case=lower")
+        trial.same("another owner", ran.stdout.splitlines()[3:], ["catalog.json: owner was p, and is o by the spec"])
+
+
+def no_room(trial):
+    """A disk without room, in whose place files of no byte are allowed: nothing is written, and nothing is left beside."""
+    with tempfile.TemporaryDirectory() as room:
+        write(f"{room}/raw.csv", b"Age,Sex\n10,f\n20,m\n")
+        prepare(room, "--guess", "s", *flags(BASE))
+        for words, name in ((["--spec", "s"], "t.csv"), (["--guess", "new"], "new")):
+            ran = prepare(room, *words, preexec_fn=lambda: resource.setrlimit(resource.RLIMIT_FSIZE, (0, 0)))
+            said = f"tools/prepare: {name} can't be written: {os.strerror(errno.EFBIG)}\n"
+            trial.same(f"no room for {name}", (ran.returncode, ran.stdout, ran.stderr, sorted(os.listdir(room))), (2, "", said, ["raw.csv", "s"]))
+        for words in (["--spec", "s"], ["--guess", "new"]):
+            trial.same(f"{words}, and nobody reads it", unread([f"{TOP}/tools/prepare", "raw.csv", *words], room), (-signal.SIGPIPE, ""))
+        trial.same("its files are there", sorted(os.listdir(room)), ["catalog.json", "new", "raw.csv", "s", "t.csv", "t.report"])
+
+
+def by_flags(trial):
+    """Flags that name a column, where one that is left out is called so, too, or others are made of it; and what analysts are told of these."""
+    with tempfile.TemporaryDirectory() as room:
+        write(f"{room}/raw.csv", b"Age,Sex\n10,f\n70,m\n20,f\n30,m\n")
+        prepare(room, "--guess", "s", *flags(BASE), "--set", "sex.kind=key", "--set", 'sex.keys=["f", "m"]', "--add", BANDS, "--add", JOINT)
+        spec = json.loads(text_of(f"{room}/s"))
+        spec["columns"].append({"from": "Sex", "at": 2, "name": "age", "kind": "leave out"})
+        write(f"{room}/s", json.dumps(spec).encode())
+        tenth = '{"from": "Age", "name": "tenth", "kind": "number", "scale": 0.1}'
+        ran = prepare(room, "--spec", "s", "--set", "age.top=25", "--set", "sex.name=gender", "--add", tenth)
+        trial.same("by flags", (ran.returncode, ran.stderr), (0, ""))
+        want = "age,gender,band,cell,tenth\n10,f,under_18,f.under_18,1\n25,m,from_18,m.from_18,7\n20,f,from_18,f.from_18,2\n25,m,from_18,m.from_18,3\n"
+        trial.same("by flags", text_of(f"{room}/t.csv"), want)
+        spec["columns"][0] = {"from": "Age", "name": "age", "kind": "date", "format": "YYYY YY"}
+        write(f"{room}/s", json.dumps(spec).encode())
+        said = run([f"{TOP}/tools/public", "catalog.json", "s"], room)
+        trial.same("tools/public of a wrong form", (said.returncode, said.stdout), (1, ""))
+        trial.has("tools/public of a wrong form", said.stderr, "tools/public: s: columns[0] (age).format: `YYYY YY` has the year")
 
 
 def notes_of_guesses(trial):
@@ -395,6 +464,41 @@ def notes_of_guesses(trial):
         trial.same("two forms", (day["format"], "1969 to 2068" in day["note"]), (["MM/DD/YYYY", "MM/DD/YY"], True))
         write(f"{room}/raw.csv", "\n".join(["No,Town,Fee,Day,x", *rows, ""]).encode())
         trial.same("a guess of rows alone", (prepare(room, "--guess", "s2").returncode, "totals" in text_of(f"{room}/s2")), (0, False))
+
+
+def guesses_taken(trial):
+    """A guess goes through where a key has a broken cell, and where more columns seem keys than a catalog takes."""
+    with tempfile.TemporaryDirectory() as room:
+        towns = ["Zürich", "Genève", "Bâle"]
+        write(f"{room}/raw.csv", "\n".join(["town", *(towns[number % 3] for number in range(200)), ""]).encode() + b"Gen\xe8ve\n")
+        trial.same("a broken cell among keys", prepare(room, "--guess", "s").returncode, 0)
+        town = json.loads(text_of(f"{room}/s"))["columns"][0]
+        trial.same("its keys", (town["kind"], town["keys"]), ("key", [*sorted(towns), "unknown"]))
+        trial.has("its note", town["note"], "and in 1 are bytes that the encoding doesn't know")
+        trial.same("it stops there", prepare(room, "--spec", "s").stdout.splitlines()[0], "raw.csv: 201 rows, and nothing is written, for town: 1")
+        trial.same("unless it is told", prepare(room, "--spec", "s", "--set", "town.if_bad=unknown").returncode, 0)
+    with tempfile.TemporaryDirectory() as room:
+        rows = [",".join(["a" if number % 2 else "b"] * 10) for number in range(60)]
+        write(f"{room}/raw.csv", "\n".join([",".join(f"c{number}" for number in range(10)), *rows, ""]).encode())
+        said = "a catalog has at most 8 partitions, so these seemed keys and are texts: c8, c9"
+        trial.same("many columns of keys", prepare(room, "--guess", "s").stdout.splitlines()[12:], [said])
+        ran = prepare(room, "--spec", "s")
+        trial.same("and a catalog of eight", (ran.returncode, ran.stderr, len(tables_in(room)[2])), (0, "", 8))
+        trial.same("by flags", prepare(room, "--set", "c0.case=upper", "--set", 'c0.keys=["a"]').stdout.splitlines()[3], said)
+
+
+def many_keys(trial):
+    """How many keys count hardly shows in the time that 20,000 texts take."""
+    with tempfile.TemporaryDirectory() as room:
+        write(f"{room}/raw.csv", "\n".join(["t", *(f"t{number}" for number in range(20_000)), ""]).encode())
+        times = []
+        for count in (1, 4000):
+            keys = json.dumps([f"t{number}" for number in range(count)])
+            before = resource.getrusage(resource.RUSAGE_CHILDREN).ru_utime
+            ran = prepare(room, *flags(BASE), "--set", "t.kind=key", "--set", f"t.keys={keys}", "--set", "t.missing=[]")
+            times.append(resource.getrusage(resource.RUSAGE_CHILDREN).ru_utime - before)
+            trial.same(f"{count} keys", (ran.returncode, ran.stdout.splitlines()[3].split(".")[0]), (0, f"rows in no part of a partition: t {20_000 - count}"))
+        trial.same(f"4000 keys in {times[1]:.1f} s, and one in {times[0]:.1f} s", times[1] < 3 * times[0], True)
 
 
 def other_tables(trial):
@@ -611,7 +715,11 @@ def main():
     wrong_specs(trial)
     outputs(trial)
     said_of_catalogs(trial)
+    no_room(trial)
+    by_flags(trial)
     notes_of_guesses(trial)
+    guesses_taken(trial)
+    many_keys(trial)
     other_tables(trial)
     random_report(trial)
     rooms(trial)

@@ -256,11 +256,12 @@ class TextReader(Reader):
 
 
 class KeyReader(Reader):
-    """`keys` has what counts, or nothing where all of it does."""
+    """`keys` has what counts, in the catalog's order, or nothing where all of it does."""
 
     def __init__(self, column):
         super().__init__(column)
-        self.keys = column_keys(column)
+        # There may be thousands, and each cell that differs from all before is looked for among them.
+        self.keys = dict.fromkeys(column_keys(column))
         self.if_other = column.get("if_other", KEPT)
 
     def read(self, text, line):

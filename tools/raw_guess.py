@@ -1,9 +1,10 @@
 """A first spec of a raw file, by its looks: for a person to correct.
 
-    guessed(NAME)     the spec of a file, and how many rows it was guessed from
+    guessed(NAME)     the spec of a file, and lines for whoever asked for it
 
 A column is a number or a date where nearly all its cells can be read so, a key where few texts stand in many rows, else a text. Nothing
-is clipped and nothing is rounded by a guess. What it saw is in each column's `note`.
+is clipped and nothing is rounded by a guess. What it saw is in each column's `note`. No more columns are kept, or are keys, than a catalog
+takes.
 """
 import itertools
 import os
@@ -13,8 +14,8 @@ from collections import Counter, deque
 
 from programs import WORDS
 from raw import RawFile, guessed_form
-from raw_cells import OUT, DateForm, NumberForm, forms_of, key_of, trimmed
-from raw_spec import COLUMN_LIMIT, LEFT_OUT
+from raw_cells import BROKEN, OUT, DateForm, NumberForm, forms_of, key_of, trimmed
+from raw_spec import COLUMN_LIMIT, LEFT_OUT, PARTITION_LIMIT
 from tables import TEXT_LIMIT
 
 ROWS = 100_000
@@ -58,6 +59,7 @@ class Column:
         self.given = {cell: count for cell, count in cells.items() if cell.lower() not in MISSING}
         self.first = list(itertools.islice(self.given.items(), SAMPLE))
         self.rows, self.lost = sum(cells.values()), sum(cells[cell] for cell in self.missing)
+        self.broken = sum(count for cell, count in self.given.items() if BROKEN.search(cell))
 
     def share(self, reads):
         """In how much of what is given a cell is read, by the first cells."""
@@ -69,7 +71,8 @@ class Column:
         return f", {sum(self.given[cell] for cell in cells)} that are none, as {', '.join(map(repr, cells[:3]))}" if cells else ""
 
     def lost_words(self):
-        return f"{self.lost} of {self.rows} cells are missing" if self.lost else "no cell is missing"
+        lost = f"{self.lost} of {self.rows} cells are missing" if self.lost else "no cell is missing"
+        return lost + (f", and in {self.broken} are bytes that the encoding doesn't know" if self.broken else "")
 
 
 def is_code(cell):
@@ -155,7 +158,7 @@ def text_column(column):
         return {"kind": LEFT_OUT, "note": "no text stands twice: is it a name or a number of somebody?"}
     if max(len(cell.encode(errors="surrogateescape")) for cell in given) > TEXT_LIMIT:
         return {"kind": LEFT_OUT, "note": f"some texts have over {TEXT_LIMIT} bytes; {len(given)} texts in {column.rows} rows"}
-    keys = sorted({key_of(cell) for cell in given} - {""})
+    keys = sorted({key_of(cell) for cell in given if not BROKEN.search(cell)} - {""})
     if len(keys) >= MOST_GUESSED or len(keys) > column.rows / 2:
         return {"kind": "text", "note": f"{len(given)} texts in {column.rows} rows; {column.lost_words()}"}
     unknown = [UNKNOWN] if UNKNOWN not in keys else []
@@ -235,6 +238,16 @@ def columns_of(header, cells, delimiter):
     return columns
 
 
+def leave_plain(columns):
+    """Makes columns of keys plain texts where a catalog has no room for their partitions, and says which."""
+    plain = [column for column in columns if column["kind"] == "key"][PARTITION_LIMIT:]
+    for column in plain:
+        del column["keys"]
+        column.update(kind="text", note=f"it seemed a key, and a catalog has at most {PARTITION_LIMIT} partitions, which the columns before it take")
+    names = ", ".join(column["name"] for column in plain)
+    return [f"a catalog has at most {PARTITION_LIMIT} partitions, so these seemed keys and are texts: {names}"] if plain else []
+
+
 def guessed(name):
     encoding, delimiter, skip = guessed_form(name)
     header, cells, uneven, rows, last = counted(name, encoding, delimiter, skip)
@@ -246,6 +259,7 @@ def guessed(name):
             column.update(kind="text", missing=[""], if_missing=UNKNOWN)
     for column in [column for column in columns if column["kind"] != LEFT_OUT][COLUMN_LIMIT:]:
         column.update(kind=LEFT_OUT, note=f"a table has at most {COLUMN_LIMIT} columns; it seemed a {column['kind']}")
+    lines = leave_plain(columns)
     table = name_of(os.path.splitext(os.path.basename(name))[0], set(), "people")
     return {
         "note": f"Guessed from {rows} rows, {uneven} of them of another length than the header{ends}. Private: it says what is in the data",
@@ -253,7 +267,7 @@ def guessed(name):
         "table": {"name": table, "file": f"{table}{'_table' if os.path.exists(f'{table}.csv') else ''}.csv"},
         "catalog": {"file": "catalog.json", "analysts": SPARE, "owner": "owner", "budget": 1_000_000, "capacity": 1000},
         "columns": [only_its_members(column) for column in columns],
-    }, rows
+    }, lines
 
 
 def only_its_members(column):

@@ -162,8 +162,10 @@ class ColumnReport:
     def in_keys(self):
         if not self.reader.keys:
             return ["no keys: it makes no partition"]
-        entries = [entry for _, entry in self.entries]
-        counts = {key: sum(entry.count for entry in entries if entry.fate == KEPT and entry.value == key) for key in self.reader.keys}
+        counts = dict.fromkeys(self.reader.keys, 0)
+        for _, entry in self.entries:
+            if entry.fate == KEPT and entry.value in counts:
+                counts[entry.value] += entry.count
         lines = ["rows by key (those that other columns put out among them):", *(f"    {key}: {count}" for key, count in counts.items())]
         others = self.together([one for one in self.entries if self.reader.is_other(one[1])])
         near = {bare(key): key for key in reversed(self.reader.keys)}
@@ -204,7 +206,7 @@ def rows_part(spec, found, stops):
 def made_part(spec, column, counts):
     """A column that is made of others, with how many rows of the table each key has."""
     of = column["of"] if isinstance(column["of"], str) else " and ".join(column["of"])
-    keys = keys_of(spec, column)
+    keys = dict.fromkeys(keys_of(spec, column))
     lines = [f"column {column['name']}, of {of}: {column['kind']}", "  rows of the table by key:"]
     lines += [f"    {key}: {counts.get(key, 0)}" for key in keys]
     others = sorted(((text, count) for text, count in counts.items() if text not in keys), key=lambda other: -other[1])

@@ -1,6 +1,7 @@
 """Specs: what shall become of a raw file. A JSON object that a person edits.
 
     read_spec(BYTES)     the spec as dictionaries and lists; BadSpec, with every fault in words, else
+    json_of(TEXT)        a value as specs have it; ValueError, else
     changed(SPEC, ..)    with a member put at a path, as `income.top=5000`
     laid_out(VALUE)      a spec or a catalog as text, what is short in one line
     keys_of(SPEC, ..)    the keys of a column that has some, in the catalog's order
@@ -10,6 +11,7 @@ Every object may have a `note`, which nothing reads. Limits of names, keys and t
 import codecs
 import datetime
 import json
+import re
 from collections import Counter
 from decimal import Decimal
 from fractions import Fraction
@@ -19,12 +21,16 @@ from raw import DELIMITERS
 from raw_cells import BROKEN, DATE_PARTS, KEPT, OUT, STOP, column_keys, date_number, forms_of
 from tables import NUMBER_LIMIT, TEXT_LIMIT
 
-COLUMN_LIMIT = 16
+COLUMN_LIMIT, PARTITION_LIMIT = 16, 8
+POWER_LIMIT = 99
 LINE = 120
 UNITS = ("day", "month", "year", "age")
 NUMBER = (int, Decimal)
 CODE = (int, str)
 LEFT_OUT = "leave out"
+PARTS = ("raw", "table", "catalog")
+# What stands once at most in a form of dates.
+ONCE = ("YYYY|YY", "MM|Mon", "DD")
 # The members of each object with the kinds of their values, those that must be there, and those of each kind of column.
 RAW = {"encoding": (str,), "delimiter": (str,), "skip": (int,), "ragged": (str,)}
 TABLE = {"name": (str,), "file": (str,)}
@@ -89,12 +95,21 @@ def kind_words(kinds):
     return " or ".join(WORDS[kind] for kind in kinds if not (kind is int and Decimal in kinds))
 
 
+def in_utf8(fits):
+    """A rule of texts that are written into a table or a catalog, which no text keeps that UTF-8 hasn't."""
+    return lambda text: not BROKEN.search(text) and fits(text)
+
+
+is_right_key, is_right_file = in_utf8(is_key), in_utf8(is_file)
+is_short = in_utf8(lambda text: len(text.encode()) <= TEXT_LIMIT)
+
+
 # Columns.
 
 
 def check_column(faults, column, place):
     kind = column.get("kind") if isinstance(column, dict) else None
-    if not faults.unless(kind in KINDS, f"{place}.kind", f"it is one of {', '.join(KINDS)}"):
+    if not faults.unless(isinstance(kind, str) and kind in KINDS, f"{place}.kind", f"it is one of {', '.join(KINDS)}"):
         return
     must = [] if kind == LEFT_OUT else ["name", *MUST[kind], *(["from"] if "from" in KINDS[kind] else [])]
     if not faults.members(column, place, {**COLUMN, **KINDS[kind]}, must) or kind == LEFT_OUT:
@@ -119,7 +134,7 @@ def check_cells(faults, column, place):
             right = isinstance(code, int) and abs(code) <= NUMBER_LIMIT
             faults.unless(right, f"{place}.{name}", f"`{OUT}`, `{STOP}`, or a whole number as the table shall have it")
         else:
-            fits = is_key if column["kind"] == "key" else lambda text: len(text.encode()) <= TEXT_LIMIT
+            fits = is_right_key if column["kind"] == "key" else is_short
             faults.unless(isinstance(code, str) and fits(code), f"{place}.{name}", f"`{OUT}`, `{STOP}`, or a text as the table shall have it")
 
 
@@ -149,11 +164,18 @@ def is_date(text):
         return False
 
 
+def check_forms(faults, column, place):
+    forms = forms_of(column)
+    fits = len(column["format"]) >= 1 and all(isinstance(one, str) and "YY" in one for one in forms)
+    if faults.unless(fits, place, f"it has {', '.join(DATE_PARTS)} in it, as DD.MM.YYYY; `*` is whatever comes; or it is a list of such"):
+        twice = [one for one in forms if any(len(re.findall(part, one)) > 1 for part in ONCE)]
+        faults.unless(not twice, place, f"`{', '.join(twice)}` has the year, the month or the day more than once")
+
+
 def check_date(faults, column, place):
-    form, unit = column["format"], column.get("unit", "day")
+    unit = column.get("unit", "day")
     faults.unless(unit in UNITS, f"{place}.unit", f"it is one of {', '.join(UNITS)}")
-    fits = len(form) >= 1 and all(isinstance(one, str) and "YY" in one for one in forms_of(column))
-    faults.unless(fits, f"{place}.format", f"it has {', '.join(DATE_PARTS)} in it, as DD.MM.YYYY; `*` is whatever comes; or it is a list of such")
+    check_forms(faults, column, f"{place}.format")
     faults.unless(1000 <= column.get("earliest", 1969) <= 9899, f"{place}.earliest", "the first of the hundred years that YY may mean, as 1925")
     right = faults.unless(is_date(column.get("since", "1970-01-01")), f"{place}.since", "a date is wanted here, as 1970-01-31")
     faults.unless(unit != "age" or "since" in column, place, "`since` is missing: the day on which ages are counted, as 2026-01-01")
@@ -175,7 +197,7 @@ def check_key(faults, column, place):
     keys = column_keys(column)
     counts = Counter(keys)
     for raw, key in zip(listed, keys):
-        faults.unless(is_key(key), f"{place}.keys", f"`{raw}` is no key: 1 to 64 bytes, once blanks and commas are changed")
+        faults.unless(is_right_key(key), f"{place}.keys", f"`{raw}` is no key: 1 to 64 bytes, once blanks and commas are changed")
         faults.unless(counts[key] == 1, f"{place}.keys", f"`{raw}` becomes `{key}`, and so does another key: take one of them away")
     faults.unless(len(keys) <= KEYS, f"{place}.keys", f"there are {len(keys)} keys, and a partition has at most {KEYS}")
     other = column.get("if_other", KEPT)
@@ -186,7 +208,7 @@ def check_bands(faults, column, place):
     bounds = column["bounds"]
     right = len(bounds) >= 1 and all(type(bound) is int for bound in bounds) and sorted(set(bounds)) == bounds
     faults.unless(right, f"{place}.bounds", "whole numbers are wanted here, as the table has them, each over the one before")
-    faults.unless(is_key(column.get("if_missing", "unknown")), f"{place}.if_missing", "a text is wanted here, without blanks")
+    faults.unless(is_right_key(column.get("if_missing", "unknown")), f"{place}.if_missing", "a text is wanted here, without blanks")
 
 
 CHECKS = {"number": check_number, "date": check_date, "key": check_key, "bands": check_bands}
@@ -200,7 +222,13 @@ def kept(spec):
 
 
 def by_names(spec):
-    return {column["name"]: column for column in spec["columns"] if "name" in column}
+    """Columns by their names. One that is left out may be called like another, which is then the one that is meant."""
+    found = {}
+    for column in spec["columns"]:
+        name = column.get("name")
+        if isinstance(name, str) and (name not in found or column.get("kind") != LEFT_OUT):
+            found[name] = column
+    return found
 
 
 def band(bounds, value):
@@ -245,9 +273,13 @@ def check_derived(faults, spec, place, column):
 # Whole specs.
 
 
+NO_FILE = "a file's name has 1 to 255 bytes and no control byte"
+
+
 def check_catalog(faults, catalog):
     if not faults.members(catalog, "catalog", CATALOG, list(CATALOG)):
         return
+    faults.unless(is_right_file(catalog["file"]), "catalog.file", NO_FILE)
     names = [*catalog["analysts"], catalog["owner"]]
     for name in names:
         right = isinstance(name, str) and is_name(name)
@@ -261,7 +293,7 @@ def check_catalog(faults, catalog):
 def is_encoding(word):
     try:
         return codecs.lookup(word)._is_text_encoding
-    except LookupError:
+    except (LookupError, ValueError):
         return False
 
 
@@ -297,18 +329,37 @@ def check_spec(spec):
     if faults.members(spec["table"], "table", TABLE, list(TABLE)):
         name, file = spec["table"]["name"], spec["table"]["file"]
         faults.unless(is_table_name(name), "table.name", f"`{name}` is no table's name: a letter or `_`, then letters, digits and `_`, 32 at most, and no word of the language")
-        faults.unless(is_file(file), "table.file", "a file's name has 1 to 255 bytes and no control byte")
+        faults.unless(is_right_file(file), "table.file", NO_FILE)
     check_catalog(faults, spec["catalog"])
     check_columns(faults, spec)
     faults.raise_any()
     return spec
 
 
+def exact(digits):
+    """A number with a point or an exponent, as it is written. Of a great exponent its digits would fill the memory."""
+    try:
+        number = Decimal(digits)
+    except ArithmeticError:
+        number = None
+    if number is None or abs(number.adjusted()) > POWER_LIMIT:
+        raise ValueError(f"the exponent of {digits[:40]} isn't within -{POWER_LIMIT} and {POWER_LIMIT}")
+    return number
+
+
+def json_of(text):
+    try:
+        return json.loads(text, parse_float=exact)
+    except RecursionError:
+        raise ValueError("it is nested too deep") from None
+
+
 def read_spec(data):
     try:
-        return check_spec(json.loads(data.decode("utf-8-sig"), parse_float=Decimal))
+        spec = json_of(data.decode("utf-8-sig"))
     except ValueError as fault:
         raise BadSpec(f"it is no JSON value: {fault}") from None
+    return check_spec(spec)
 
 
 def changed(spec, change):
@@ -316,20 +367,29 @@ def changed(spec, change):
     path, equals, text = change.partition("=")
     of, point, member = path.partition(".")
     try:
-        value = json.loads(text, parse_float=Decimal)
+        value = json_of(text)
     except ValueError:
         value = text
-    found = spec[of] if of in ("raw", "table", "catalog") else by_names(spec).get(of)
+    columns = by_names(spec)
+    found = spec[of] if of in PARTS else columns.get(of)
     if not (equals and point and found is not None):
-        raise BadSpec(f"--set {change}: PART.MEMBER=VALUE is wanted, PART being raw, table, catalog or the name of a column: {', '.join(by_names(spec))}")
-    if member == "name" and of not in ("raw", "table", "catalog"):
-        for column in spec["columns"]:
-            if column.get("of") == of:
-                column["of"] = value
+        raise BadSpec(f"--set {change}: PART.MEMBER=VALUE is wanted, PART being {', '.join(PARTS)} or the name of a column: {', '.join(columns)}")
     found[member] = value
-    if member == "kind" and value in KINDS and value != LEFT_OUT:
+    if of not in PARTS and member == "name":
+        rename(spec, of, value)
+    if of not in PARTS and member == "kind" and isinstance(value, str) and value in KINDS and value != LEFT_OUT:
         fit_to_kind(found)
     return spec
+
+
+def rename(spec, before, after):
+    """Columns that are made of one go on being made of it, by its new name."""
+    for column in spec["columns"]:
+        of = column.get("of")
+        if of == before:
+            column["of"] = after
+        if isinstance(of, list):
+            column["of"] = [after if name == before else name for name in of]
 
 
 def fit_to_kind(column):
