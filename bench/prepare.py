@@ -442,6 +442,9 @@ def by_flags(trial):
         trial.same("by flags", (ran.returncode, ran.stderr), (0, ""))
         want = "age,gender,band,cell,tenth\n10,f,under_18,f.under_18,1\n25,m,from_18,m.from_18,7\n20,f,from_18,f.from_18,2\n25,m,from_18,m.from_18,3\n"
         trial.same("by flags", text_of(f"{room}/t.csv"), want)
+        said = run([f"{TOP}/tools/public", "catalog.json", "s"], room)
+        trial.has("tools/public of bands", said.stdout, "    band : text, bands of age; unknown where nothing is known\n")
+        trial.same("tools/public, and nobody reads it", unread([f"{TOP}/tools/public", "catalog.json"], room), (-signal.SIGPIPE, ""))
         spec["columns"][0] = {"from": "Age", "name": "age", "kind": "date", "format": "YYYY YY"}
         write(f"{room}/s", json.dumps(spec).encode())
         said = run([f"{TOP}/tools/public", "catalog.json", "s"], room)
