@@ -5,7 +5,10 @@ usage: bench/keeping.py    (PROGRAM=FILE tries another build than tools/build's)
 - After `--each` connections, and after SIGKILL, the next connection is served, with new numbers, and what was answered before is recalled.
 - A link that leads to another folder is followed at the next start, and both folders' journals open.
 - A port in use and journals that another process has are waited for; tools/why says which process it is. A missing file ends it with 3, another key with 4.
-- SIGTERM to the script ends both, with status 0, and gives the port and the journals back.
+- SIGTERM to the script ends both, with status 0, and gives the port and the journals back. It does so at once just behind a start, where the program
+  isn't there yet, and before a pause, and a program that ends late is told some times, and waited for.
+- A worker that has served its connections answers nobody while another one hasn't, until the program's time is over and it is started again.
+- A relative folder is found where CDPATH is said.
 - examples/service: the unit passes `systemd-analyze verify`, the rules of loopback `nft -c`, where these are installed.
 It ends with status 1 where one differs.
 """
@@ -39,13 +42,22 @@ def children(process):
     return found
 
 
-class Kept:
-    """tools/keep_serving over a folder, and what it says on standard error."""
+def words_of(process):
+    try:
+        with open(f"/proc/{process}/cmdline", encoding="utf-8", errors="replace") as file:
+            return file.read().split("\0")
+    except OSError:
+        return []
 
-    def __init__(self, folder, each, port=None):
-        self.port, self.said = port or free_ports(1), tempfile.TemporaryFile()
-        words = [f"{TOP}/tools/keep_serving", folder, "catalog.json", "key", "--port", str(self.port), "--each", str(each)]
-        self.process = subprocess.Popen(words, stdin=subprocess.DEVNULL, stderr=self.said, env={**os.environ, "PROGRAM": PROGRAM})
+
+class Kept:
+    """tools/keep_serving over a folder, and what it says on standard error; MORE is put into its environment."""
+
+    def __init__(self, folder, each, port=None, workers=1, cwd=None, **more):
+        self.port, self.said = port or free_ports(workers), tempfile.TemporaryFile()
+        words = [f"{TOP}/tools/keep_serving", folder, "catalog.json", "key", "--port", str(self.port), "--workers", str(workers), "--each", str(each)]
+        given = {"stdin": subprocess.DEVNULL, "stderr": self.said, "env": {**os.environ, "PROGRAM": PROGRAM, **more}}
+        self.process = subprocess.Popen(words, cwd=cwd, **given)
 
     def __enter__(self):
         return self
@@ -59,7 +71,7 @@ class Kept:
         """The number of the service's process, once it listens."""
         until = time.monotonic() + 30
         while time.monotonic() < until:
-            running = children(self.process.pid)
+            running = [child for child in children(self.process.pid) if "serve" in words_of(child)]
             if running and is_listened_at(self.port):
                 return running[0]
             if self.process.poll() is not None:
@@ -164,12 +176,72 @@ def waits(folder):
             must(f"why names {kept.program()} in {said}", named, True)
 
 
-def wait_for(holds, said):
+def begins_anew(folder):
+    """Two ports, one of which has served its connection: the next one at it is answered behind the start that comes when the time is over."""
+    Room(folder, 1)
+    with Kept(folder, 1, workers=2, LONGEST="4") as kept:
+        answered(0, kept.session("ann", ASK, "bye"))
+        answered(1, kept.session("ann", ASK, "bye"))
+        for due in ("told to end, 4 s after its start", "status 143"):
+            must(f"`{due}` is told", due in kept.told(), True)
+        must("the end of keep_serving", kept.stop(), 0)
+
+
+def stand_in(folder, text):
+    """A program in Python in the place of the real one."""
+    with open(f"{folder}/program", "w", encoding="utf-8") as file:
+        file.write(f"#!{sys.executable} -IS\n{text}\n")
+    os.chmod(f"{folder}/program", 0o755)
+    return f"{folder}/program"
+
+
+def told_to_stop(folder):
+    """At each moment behind a start, of a program that goes on for a while by itself."""
+    program = stand_in(folder, "import time; time.sleep(15)")
+    for number in range(40):
+        with Kept(folder, 1, PROGRAM=program) as kept:
+            wait_for(lambda: " start in " in kept.told(), kept.told, 0)
+            time.sleep(number * 0.0002)
+            begun = time.monotonic()
+            must(f"the status, told to stop {number * 0.2:.1f} ms behind a start", kept.stop(), 0)
+            if time.monotonic() > begun + 10:
+                raise Wrong(f"told to stop {number * 0.2:.1f} ms behind a start it ended {time.monotonic() - begun:.0f} s later")
+
+
+def told_before_a_pause(folder):
+    """Behind an end while it looks at a slow clock; and of a program that takes its time to end."""
+    with open(f"{folder}/date", "w", encoding="utf-8") as file:
+        file.write(f"#!/bin/sh\nsleep 0.3\nexec {shutil.which('date')} \"$@\"\n")
+    os.chmod(f"{folder}/date", 0o755)
+    with Kept(folder, 1, PROGRAM=stand_in(folder, "import sys; sys.exit(5)"), PATH=f"{folder}:{os.environ['PATH']}") as kept:
+        # The pause behind the third end has 4 s.
+        wait_for(lambda: kept.told().count("status 5") == 3, kept.told, 0.01)
+        begun = time.monotonic()
+        must("the status, told to stop before a pause", kept.stop(), 0)
+        if time.monotonic() > begun + 3:
+            raise Wrong(f"told to stop before a pause it ended {time.monotonic() - begun:.0f} s later")
+    late = "import signal, time; told = []; signal.signal(signal.SIGTERM, lambda *_: told.append(1)); open('ready', 'w')\nwhile not told: time.sleep(0.01)\n" \
+        "time.sleep(1.5); open('told', 'w').write(str(len(told)))"  # fmt: skip
+    with Kept(folder, 1, PROGRAM=stand_in(folder, late)) as kept:
+        wait_for(lambda: os.path.exists(f"{folder}/ready"), kept.told)
+        must("the status, of a program that ends late", kept.stop(), 0)
+        with open(f"{folder}/told", encoding="utf-8") as file:
+            must("a program that ends late was told at most ten times", int(file.read()) <= 10, True)
+
+
+def elsewhere(folder):
+    """By a relative name, where CDPATH is said."""
+    os.mkdir(f"{folder}/served")
+    with Kept("served", 1, cwd=folder, PROGRAM=stand_in(folder, "import sys; sys.exit(4)"), CDPATH=folder) as kept:
+        must("the status of keep_serving", kept.process.wait(30), 4)
+
+
+def wait_for(holds, said, nap=0.05):
     until = time.monotonic() + 20
     while not holds():
         if time.monotonic() > until:
             raise Wrong(f"waited in vain: {said()}")
-        time.sleep(0.05)
+        time.sleep(nap)
 
 
 def why(folder, command, *words):
@@ -194,8 +266,9 @@ def files_of_a_service(folder):
     if shutil.which("systemd-analyze"):
         with open(UNIT, encoding="utf-8") as file:
             unit = file.read()
-        command = re.search(r"^ExecStart=(\S+) serve catalog.json key --port 7000 --workers 4 --each 1000$", unit, re.M)
+        command = re.search(r"^ExecStart=(\S+) serve catalog.json key --port 7000 --workers 4 --each 1000000$", unit, re.M)
         must("the unit's command", command and command[1], "/usr/local/bin/hitchseason")
+        must("the unit's time", re.findall(r"^RuntimeMaxSec=(.*)$", unit, re.M), ["86400"])
         with open(f"{folder}/hitchseason.service", "w", encoding="utf-8") as file:
             file.write(unit.replace("/usr/local/bin/hitchseason", PROGRAM))
         ran = subprocess.run(["systemd-analyze", "verify", f"{folder}/hitchseason.service"], capture_output=True, text=True)
@@ -217,7 +290,7 @@ def main():
         return
     need_program()
     try:
-        for what in (restarts, rolls_over, waits, ends):
+        for what in (told_to_stop, told_before_a_pause, elsewhere, restarts, rolls_over, waits, ends, begins_anew):
             with tempfile.TemporaryDirectory(dir=place()) as folder:
                 what(folder)
         with tempfile.TemporaryDirectory() as folder:
