@@ -10,7 +10,8 @@ Needs Debian's openssh-server and openssh-client; it runs an sshd of its own, wi
 - `-L`, `-W`, `-D` and `-N` reach nothing, and a terminal isn't given.
 - Random streams of bytes, in random pieces, have the replies that the service itself gives: CR LF, a last line without LF, lines at the limit.
 - Programs that walk too deep or too much are refused before the service sees them; --tick holds replies; the log says who, when, which owner and what
-  was charged, and no answer, and the program's text only where it is wanted. A service that is started late is waited for.
+  was charged, and no answer, and the program's text only where it is wanted. A service that is started late is waited for, one that ends while the
+  door waits in its queue from its end on, and what ends each try after some seconds, as haproxy before no service, not without end.
 It ends with status 1 at the first difference.
 """
 import getpass
@@ -298,6 +299,61 @@ def late_service(room):
     must("a service that is late", (said.split(b" ")[0], run.returncode), (b"left", 0))
 
 
+def hurried(folder):
+    """The door as a file of its own, which waits for 2 s."""
+    with open(DOOR) as file:
+        text = file.read()
+    patience = "PATIENCE, TOLD_AFTER = 20, 5"
+    must("the door's patience", text.count(patience), 1)
+    with open(f"{folder}/door", "w") as file:
+        file.write(text.replace(patience, "PATIENCE, TOLD_AFTER = 2, 5"))
+    os.chmod(f"{folder}/door", 0o755)
+    return f"{folder}/door"
+
+
+def at_door(door, port):
+    pipes = {name: subprocess.PIPE for name in ("stdin", "stdout")}
+    return subprocess.Popen([door, "ann", str(port), "1", "--deepest", "any"], stderr=subprocess.DEVNULL, **pipes)
+
+
+def service_comes_back(folder):
+    """A service that isn't there at first, has the door in its queue for longer than it waits for one that is away, ends, and is started anew."""
+    port = free_ports(1)
+    run = at_door(hurried(folder), port)
+    time.sleep(1)
+    with socket.create_server(("127.0.0.1", port)):
+        time.sleep(4)
+    with socket.create_server(("127.0.0.1", port)) as service:
+        service.settimeout(20)
+        try:
+            link = service.accept()[0]
+        except OSError:
+            raise Wrong(f"a service that comes back isn't waited for: {run.communicate()[0]!r}") from None
+        with link:
+            must("said to the service that comes back", link.recv(100), b"hello ann\n")
+            link.sendall(b"hello ann\n")
+            must("behind a service that comes back", (run.communicate(timeout=20)[0], run.returncode), (b"", 0))
+
+
+def no_service_behind(folder):
+    """What takes connections in and ends each after a while."""
+    port = free_ports(1)
+    with socket.create_server(("127.0.0.1", port)) as front:
+        front.settimeout(0.2)
+        run, until = at_door(hurried(folder), port), time.monotonic() + 30
+        while run.poll() is None:
+            if time.monotonic() > until:
+                run.kill()
+                raise Wrong("the door tries without end")
+            try:
+                link = front.accept()[0]
+            except OSError:
+                continue
+            time.sleep(1.2)
+            link.close()
+    must("no service", (run.communicate()[0], run.returncode), (b"door closed: the service isn't there; nothing was asked\n", 1))
+
+
 def bad_words():
     for words in (["ann", "7000"], ["ann", "7000", "17", "--deepest", "any"], ["ann", "7000", "4"], ["an\n", "7000", "4", "--deepest", "any"],
             ["ann", "7000", "4", "--deepest", "any", "--most", "9"], ["ann", "7000", "4", "--deepest", "any", "--tick", "0"]):  # fmt: skip
@@ -353,6 +409,9 @@ def follow(lines, due, repository, given):
 
 def tried(rng, count):
     bad_words()
+    with tempfile.TemporaryDirectory() as folder:
+        service_comes_back(folder)
+        no_service_behind(folder)
     with tempfile.TemporaryDirectory() as folder:
         five_lines(folder)
     with tempfile.TemporaryDirectory() as folder:
