@@ -10,13 +10,16 @@ Four connections ask four owners without a pause, and copies are made meanwhile.
 - tools/watch says the same of it, in text, JSON and for Prometheus.
 
 Copies that were read in another order are damaged now and then: beside every tenth a plain one is tried, from the first byte to the last by a slot at a
-time, and how many of these don't open is said. Then journals that no `init` ended, that are damaged, and copies that are there already. It ends with status 1 at the
-first difference.
+time, and how many of these don't open is said. Before that journals that no `init` ended, that are damaged, and copies that are there already, each beside
+tools/watch and `tools/journal.py --compare`; a disk that is full and a signal, which leave nothing; audits of copies, of an ask that was being
+answered; and `tools/journal.py --check`. It ends with status 1 at the first difference.
 """
 import json
 import os
 import random
+import resource
 import shutil
+import signal
 import subprocess
 import sys
 import tempfile
@@ -25,10 +28,10 @@ import time
 
 from beginning import numbers
 from served import TOP, Caller, Room, Service, Wrong, contents, need_program, place
-from journal import HEAD, SLOT, Book, Refused, book_of, check_header, live_area, remade, slots
+from journal import HEAD, ONE, SLOT, WHOLE, Book, Refused, Reservation, Settlement, appended, book_of, check_header, live_area, remade, slots
 
 ANALYST = "ann"
-SNAPSHOT, WATCH = f"{TOP}/tools/snapshot", f"{TOP}/tools/watch"
+SNAPSHOT, WATCH, JOURNAL = f"{TOP}/tools/snapshot", f"{TOP}/tools/watch", f"{TOP}/tools/journal.py"
 
 
 class Load:
@@ -59,8 +62,8 @@ class Load:
             raise Wrong(f"{self.name}: {self.fault!r}")
 
 
-def copied(room, name, status=0):
-    ran = subprocess.run([SNAPSHOT, name], cwd=room.folder, capture_output=True, text=True)
+def copied(room, name, status=0, **more):
+    ran = subprocess.run([SNAPSHOT, name], cwd=room.folder, capture_output=True, text=True, **more)
     if ran.returncode != status:
         raise Wrong(f"tools/snapshot ended with {ran.returncode}: {ran.stderr}")
     return ran.stderr
@@ -175,29 +178,46 @@ def said_by(copy, room, order):
         return str(refusal)
 
 
+def put_there(room, order, data):
+    with open(f"{room.folder}/journals/{order}.bud", "wb") as file:
+        file.write(data)
+
+
+def judge_tools(room, copy, data):
+    """What is said of a copy whose journal of owner 1 has these bytes, by tools/watch and by a comparison with the journals, which are as it is."""
+    said, name = said_by(copy, room, 1), room.names[1]
+    refused = not said.startswith(f"{name} ")
+    ran = subprocess.run([WATCH, "catalog.json", copy], cwd=room.folder, capture_output=True, text=True)
+    if (ran.returncode, ran.stderr) != ((1, f"journal {name} {said}\n") if refused else (0, "")):
+        raise Wrong(f"tools/watch ended with {ran.returncode} and {ran.stderr}, where the copy is {said}")
+    ran = subprocess.run([JOURNAL, "--compare", copy, "catalog.json", "key"], cwd=room.folder, capture_output=True, text=True)
+    short = f"{name}: the copy has {len(data)} bytes, and no journal has fewer than {HEAD}" in ran.stdout
+    last = ran.stdout.splitlines()[-1:] == [f"{room.names[-1]}: records of the copy 0, changed 0, now 0"]
+    if (ran.returncode, ran.stderr, short, last) != (int(len(data) < HEAD), "", len(data) < HEAD, True):
+        raise Wrong(f"--compare of {len(data)} bytes ended with {ran.returncode}: {ran.stdout}{ran.stderr}")
+
+
 def other_files():
     """What isn't a journal in service, and what can't be copied."""
     with tempfile.TemporaryDirectory(dir=place()) as folder:
         room = Room(folder, capacity=3000)
-        journal = f"{folder}/journals/1.bud"
-        whole = contents(journal)
+        whole = room.journal(1)
         damaged = bytearray(whole)
         damaged[-SLOT] = 0xA5
-        older = remade(whole, 1)
+        older, written = remade(whole, 1), lambda data, place: data[:place] + b"\1" + data[place + 1 :]
         cases = [b"", bytes(500), b"\0" + whole[1:], bytes(damaged), whole[:-1], whole + b"\xa5", whole[: HEAD - 28], whole[:HEAD], older, older[:-1],
-            older + b"\xa5", older[:-SLOT] + b"\xa5" + bytes(SLOT - 1), remade(whole, 2), whole]  # fmt: skip
+            older + b"\xa5", older[:-SLOT] + b"\xa5" + bytes(SLOT - 1), written(older, 100), written(whole, 96), written(whole, 100), remade(whole, 2),
+            whole]  # fmt: skip
         for number, data in enumerate(cases):
-            with open(journal, "wb") as file:
-                file.write(data)
+            put_there(room, 1, data)
             copied(room, f"copy{number}")
             found, due = said_by(f"copy{number}", room, 1), said_by("journals", room, 1)
             if found != due or contents(f"{folder}/copy{number}/1.bud") != data:
                 raise Wrong(f"the copy of {data[:10]!r} .. is {found}, and {due} is due")
+            judge_tools(room, f"copy{number}", data)
         if "is there already" not in copied(room, "copy0", status=2):
             raise Wrong("a copy that is there isn't refused")
-        with open(journal, "r+b") as file:
-            file.seek(9)
-            file.write(b"\x09")
+        put_there(room, 1, whole[:9] + b"\x09" + whole[10:])
         if "version 9" not in copied(room, "copy_of_another", status=2) or os.path.exists(f"{folder}/copy_of_another"):
             raise Wrong("a journal of a version that isn't known is copied")
         if [oct(os.stat(f"{folder}/copy0{name}").st_mode)[-3:] for name in ("", "/0.bud")] != ["700", "600"]:
@@ -205,11 +225,66 @@ def other_files():
     print(f"{len(cases)} other files are copied as they are, and what can't be is told")
 
 
+def ended_early():
+    """A disk that is full, and signals: nothing is left of what was copied."""
+    with tempfile.TemporaryDirectory(dir=place()) as folder:
+        room = Room(folder, capacity=3000)
+        said = copied(room, "copy", status=2, preexec_fn=lambda: resource.setrlimit(resource.RLIMIT_FSIZE, (HEAD, HEAD)))
+        if not said.endswith("/0.bud: File too large\n"):
+            raise Wrong(f"of a full disk tools/snapshot says {said}")
+        # It waits at a journal that nobody writes.
+        os.rename(f"{folder}/journals/1.bud", f"{folder}/1.bud")
+        os.mkfifo(f"{folder}/journals/1.bud")
+        for number in (signal.SIGTERM, signal.SIGINT, signal.SIGHUP):
+            # Behind other work a bench has some of them ignored.
+            running = subprocess.Popen([SNAPSHOT, "copy"], cwd=folder, preexec_fn=lambda: signal.signal(number, signal.SIG_DFL))
+            wait_for(f"{folder}/copy.part{running.pid}/0.bud")
+            running.send_signal(number)
+            if running.wait(30) != 128 + number:
+                raise Wrong(f"by signal {number} tools/snapshot ended with {running.returncode}")
+        left = [name for name in os.listdir(folder) if name.startswith("copy")]
+        if left:
+            raise Wrong(f"left of copies that weren't made: {left}")
+    print("a copy that ends early leaves nothing")
+
+
+def wait_for(name):
+    until = time.monotonic() + 30
+    while not os.path.exists(name):
+        if time.monotonic() > until:
+            raise Wrong(f"there is no {name}")
+        time.sleep(0.01)
+
+
+def audits_of_copies():
+    """Two copies, of which the first is made while an ask is being answered, and the journal as it was before both."""
+    with tempfile.TemporaryDirectory(dir=place()) as folder:
+        room = Room(folder)
+        begun = Reservation(0, WHOLE, 10**6, 1, 1, 10**6, 0, ONE)
+        journals = [appended(room.journal(0), room.catalog["owners"][0]["capacity"], records) for records in ([begun], [begun, Settlement(0, 1, 4)], [])]
+        kept = ""
+        for number, (data, by_copies, otherwise) in enumerate(zip(journals, (0, 0, 1), (0, 1, 1))):
+            put_there(room, 0, data)
+            copied(room, f"copy{number}")
+            kept += subprocess.run([JOURNAL, "catalog.json", "key", f"copy{number}"], cwd=folder, capture_output=True, check=True, text=True).stdout
+            with open(f"{folder}/audits", "w") as file:
+                file.write(kept)
+            found = [subprocess.run([JOURNAL, "--audits", *words, "audits"], cwd=folder, capture_output=True).returncode for words in (["--copies"], [])]
+            if found != [by_copies, otherwise]:
+                raise Wrong(f"audits of {number + 1} copies: {found}, and {by_copies}, {otherwise} are due")
+    ran = subprocess.run([JOURNAL, "--check"], capture_output=True, text=True)
+    if (ran.returncode, ran.stdout, ran.stderr) != (0, "all as known\n", ""):
+        raise Wrong(f"tools/journal.py --check: {ran.stdout}{ran.stderr}")
+    print("audits of copies are held against one another")
+
+
 def main():
     count, seed = numbers(__doc__, 50, 1)
     need_program()
     try:
         other_files()
+        ended_early()
+        audits_of_copies()
         beside_a_service(random.Random(f"snapshots {seed}"), count)
     except (Wrong, Refused) as fault:
         print(f"seed {seed}: {fault}")
