@@ -7,6 +7,8 @@
 # changed. Where there is no Python 3.9 or later it says so and ends well: nothing of what is proved hangs on it. Two scripts run at a time.
 # It ends with status 1 where one fails, and shows what that one said.
 set -uo pipefail
+# PROGRAM is meant from where this is started.
+case ${PROGRAM:-} in '' | /*) ;; *) PROGRAM=$PWD/$PROGRAM ;; esac
 cd "$(dirname "${BASH_SOURCE[0]}")/.." || exit 2
 # Seconds for one script: many times what it takes, since machines may be slow and busy.
 LIMIT=900

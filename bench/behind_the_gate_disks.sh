@@ -7,10 +7,13 @@
 . "$(dirname "$0")/common.sh"
 need_program
 need_tool python3 python3
+# The user nobody may read what is made here, under whatever umask this was started and the repository made.
+umask 022
 make_room
-chmod 755 .
 cp "$program" ./program && program=$room/program
 cp "$top"/examples/first-run/{people.csv,script} .
+chmod 755 . program
+chmod 644 people.csv script
 passed=0
 
 # sums: what stands in journals.

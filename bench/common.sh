@@ -2,6 +2,8 @@
 
 top=$(cd "$(dirname "${BASH_SOURCE[0]}")/.." && pwd)
 program=${PROGRAM:-$top/crates/hitchseason/out/hitchseason}
+# By its whole name, since a run goes on in a folder of its own.
+case $program in /*) ;; *) program=$PWD/$program ;; esac
 
 # Stops where the program or a tool isn't there, and says how to get it.
 need_program() {
