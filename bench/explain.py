@@ -34,6 +34,8 @@ AGE = f"let age = fun (p : {ROW}) => let (region, p) = p in let (age, p) = p in 
 REGION = f"let region = fun (p : {ROW}) => let (region, p) = p in region in\n"
 PEOPLE = "let people = persons in "
 TOTAL = "a total can't be: ask for it"
+# A type that is written out by `..`, since it has 2^30 numbers, each pair of it being one part.
+PAIRS = "let a0 = (0, 0) in " + "".join(f"let a{number} = (a{number - 1}, a{number - 1}) in " for number in range(1, 30))
 CLIENT = "before it is sent, and a refusal's place counts in what is sent. `tools/forecast FOLDER OWNER EPS FILE` marks it in FILE"
 
 
@@ -61,6 +63,8 @@ CASES = [
     ("size é", "20 5", "é", ["outside ASCII"]),
     (" " * 16001, "20 16000", " ", ["at most 16000 bytes, and this one has 16001"]),
     (4097 * "(", "20 4096", "(", ["at most 4096 tokens"]),
+    (17_000 * "(", "20 16000", "(", ["at most 16000 bytes, and this one has 17000"]),
+    ("$" + 16_000 * " ", "20 16000", " ", ["at most 16000 bytes, and this one has 16001"]),
     ("size persons * 2", "21 2", "*", ["write `2 * size persons`"]),
     ("let n = size persons in 1 + n * 3", "21 9", "*", ["write `3 * n`"]),
     ("(size persons + 1) * 2", "21 6", "*", ["write `2 * (size persons + 1)`"]),
@@ -243,6 +247,9 @@ CASES = [
     ("size (filter (lambda p: true) persons)", "21 6", ":", [f"`fn (p : {ROW}) => ..`"]),
     ('"size persons"', "34", None, ["without `\"` around it"]),
     (PEOPLE + unions(7).decode(), "37 185 196 128", "union a5 a5", ["would be 128 tables wide", "`2 * size ..`"]),
+    ("size \x1b[31m persons", "20 5", "\\x1b", ["`\\x1b` stands in texts alone", "!\x1b"]),
+    (PAIRS + "a29 + 1", "30 mismatch 686 689", "a29", ["found:  a pair `(a, b)` of a pair `(a, b)` of", " ..: `(((", " ..`\nwanted: a number: `num`"]),
+    (PAIRS + "if true then a29 else 0 + 1", "30 mismatch 708 713", "0 + 1", ["found:  a number: `num`", " ..`\nhint: Both branches"]),
 ]  # fmt: skip
 
 # Programs that are refused of a part, and what is said, over an owner with two tables and a partition of each.
@@ -272,7 +279,11 @@ LINES = [
     ("journal labour damaged 3", "slot 3"), ("journal labour changed", "the entry of labour"), ("journal labour exists 12", "a file of 12 bytes"),
     ("disk labour", "disk of the journal of labour"), ("memory", "memory ran out"), ("script too long", "over 2^24 bytes"), ("bye", "ended"),
     ("granted labour 1500000 3", "the budget of labour is 1500000 millionths now; its journal has 3 records"), ("too large 7", "would be over 10^18"),
-    ("full 2 2", "2 of 2 are taken"),
+    ("full 2 2", "2 of 2 are taken"), ("refused", "'' is the file, or the owner"),
+    ("owner labour budget 20000000 capacity 1000", "its budget is 20000000 millionths, and it has room for 1000 records"),
+    ("labour reservations 4 answered 2 exhausted 0 lost 1 spent 7 budget 8", "of 4 reservations in the journal of labour 2 are answered"),
+    ("distance 3", "are 3 rows apart"), ("sensitivity 3/2", "the sensitivity of the program is 3/2"), ("gap 1", "differ by 1"),
+    ("values 2 -3", "is 2 on the first dataset and -3 on the second"), ("asks 2 answered 1 exhausted 0 over 1 spent 5 sum -2", "of 2 generated asks 1"),
     ("ok 3/2", "a sensitivity of 3/2"), ("answer 3 -7 0", "the noisy value -7"), ("recall 1 open 4", "no answer yet"), ("recall 1 lost 4", "charged and has "
         "no answer"),
     ("recall 1 exhausted 4", "4096 draws"), ("recall 1 answer 5 4", "answered with 5"), ("left 1 2 3", "1 of 2 millionths"), ("hello mia", "mia speaks"),
@@ -280,7 +291,7 @@ LINES = [
     ("124", "timeout"), ("126", "may not be run"), ("127", "no such program"), ("137", "signal 9"), ("99", "never ends so"),
 ]  # fmt: skip
 NO_LINES = ["no", "no 40 1", "no 15", "no 10", "answer 1 2", "no 33 a b", "journal labour", "foo", "no 010", "granted labour 1", "granted 1 2 3",
-    "too large", "full 2"]  # fmt: skip
+    "too large", "full 2", "owner labour budget 1", "labour reservations 1", "distance -3", "values 1", "gap", "hello", "\x1b[31m"]  # fmt: skip
 # A program beside a line that isn't the program's refusal: what is said of the line.
 OTHERS = [
     ("no 13", "write 0.5"), ("answer 0 1 2", "noisy value 1"),
@@ -317,6 +328,13 @@ SCRIPT = [
     ("ask labour 1e-3 size persons", "no 13", "write 0.001"),
     ("ask labour 0,5 size persons", "no 13", "write 0.5"),
     ("ask labour 2000 size persons", "no 13", "over 1000"),
+    ("ask labour 1e400 size persons", "no 13", "`1e400` is over 1000"),
+    ("ask labour 1e999999999 size persons", "no 13", "`1e999999999` is over 1000"),
+    ("ask labour 1e-999999999 size persons", "no 13", "under 0.000001"),
+    (f"ask labour {310 * '9'} size persons", "no 13", "..` is over 1000"),
+    (f"ask labour {5000 * '9'} size persons", "no 13", "..` has too many digits"),
+    ("ask labour \x1b[2J size persons", "no 13", "`\\x1b[2J` is no number"),
+    ("ask labour 0.5 size \x1b[2J", "no 20 5", "`\\x1b` stands in texts alone"),
     ("ask labour 0 size persons", "no 13", "under 0.000001"),
     ("ask labour 0.1234567 size persons", "no 13", "too many digits"),
     ("ask labour much size persons", "no 13", "is no number"),
@@ -454,14 +472,19 @@ class Trial:
             self.differ("replies", replies, f"{ran.returncode} {ran.stdout}{ran.stderr}", "no 21 2")
 
     def asked(self):
-        """What tools/ask says of a refused program, and the command that it names."""
+        """What tools/ask says of a refused program, and the command that it names; and of what is no file."""
         with open(self.file, "w") as file:
             file.write("size persons * 2")
-        words = [CATALOG, "examples/survey/key", "mia", "labour", "0.5", self.file]
-        ran = subprocess.run([f"{TOP}/tools/ask", *words], cwd=TOP, capture_output=True, text=True, env={**os.environ, "PROGRAM": PROGRAM})
         said = f"tools/ask: tools/explain {CATALOG} labour {self.file} 'no 21 2' says why\n"
-        if (ran.returncode, ran.stdout, ran.stderr) != (1, "hello mia\nno 21 2\nbye\n", said):
-            self.differ("tools/ask", "size persons * 2", f"{ran.returncode} {ran.stdout}{ran.stderr}", said)
+        for name, wanted in (
+            (self.file, (1, "hello mia\nno 21 2\nbye\n", said)),
+            (self.room, (2, "", f"tools/ask: {self.room} is a folder\n")),
+            ("/nowhere", (2, "", "tools/ask: there is no /nowhere\n")),
+        ):
+            words = [f"{TOP}/tools/ask", CATALOG, "examples/survey/key", "mia", "labour", "0.5", name]
+            ran = subprocess.run(words, cwd=TOP, capture_output=True, text=True, env={**os.environ, "PROGRAM": PROGRAM})
+            if (ran.returncode, ran.stdout, ran.stderr) != wanted:
+                self.differ("tools/ask", name, f"{ran.returncode} {ran.stdout}{ran.stderr}", wanted)
 
     def parts(self):
         """Refusals of a part, of which the whole knows nothing."""
@@ -516,6 +539,8 @@ class Trial:
             told = [one for one in ran.stdout.splitlines() if one.startswith(f"line {number}: ")]
             if words is None and told or words is not None and (len(told) != 1 or words not in told[0] or not told[0].startswith(f"line {number}: {reply}: ")):
                 self.differ("script", line, f"{told} {ran.stderr}", words)
+        if "\x1b" in ran.stdout:
+            self.differ("script", name, "what a terminal takes for a command", "none")
         if ran.returncode != said:
             self.differ("script", name, f"{ran.returncode} {ran.stdout}", said)
 
@@ -524,6 +549,7 @@ class Trial:
         self.script([("hello mia", "hello mia", None), ("ask labour 1 size persons", "no 21 2", "the rules accept the program of this line")], 1, "other")
         self.script([("hello mia", "hello mia", None), ("ask labour 1 size", "answer 0 1 2", "the rules say `no 21 1` of this line")], 1, "other")
         self.script([("hello mia", "no 13", "the rules answer it by `hello ..` of this line")], 1, "other")
+        self.script([("hello mia", "hello", "the rules answer it by `hello ..` of this line")], 1, "other")
         self.script([("ask labour 1 1", "no 99", "the rules give no such reply of this line")], 1, "other")
         # What the machine may say in the place of any other reply.
         words = [("no 42 1", "closed"), ("no 50 0", "4096 draws"), ("no 51 0", "it is charged"), ("no 52", "may be charged"), ("no 90", "nothing is charged")]

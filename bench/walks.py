@@ -35,6 +35,8 @@ FULL = {"people": [1, 2, 3, 4], "stays": [(b"a", 1), (b"b", 2), (b"a", 3), (b"c"
 # Forms by which a run may walk less than was said: rows that are left out, a branch that isn't taken, halves of which one is the wider.
 LESSENING = {"filter", "split", "if", "case", "pair", "with", "let,", "fst", "snd"}
 
+# A type of 2^28 numbers, each pair of it being one part, made twice.
+PAIRS = "".join(f"let {name}0 = (0, 0) in " + "".join(f"let {name}{n} = ({name}{n - 1}, {name}{n - 1}) in " for n in range(1, 28)) for name in "ab")
 ALL = "fn (y : num) => true"
 SOME = "fn (y : num) => y <= x"
 MAP = "0 * sum[0,9] (map (fn (x : num) => {}) people)"
@@ -56,6 +58,7 @@ CASES = [
     ("sum[0,9] (union people people)", 1, 2 * R),
     (f"size (union people (filter ({ALL}) people))", 1, R),
     ("let a = sum[0,9] people in 1", 1, R),
+    (f"{PAIRS}let c = if true then a27 else b27 in size people", 0, 0, 0),
     ("sum[0,9] people + sum[0,9] people", 1, 2 * R),
     # What a filter leaves out is visited all the same, both branches count, and of a pair the wider half is taken for both.
     ("sum[0,9] (filter (fn (y : num) => y <= 1) people)", 1, R),

@@ -2,6 +2,8 @@
 
     lines_of(SCRIPT)                  the lines of a script's bytes
     amount_of(WORD)                   the AMOUNT of a `grant`, or None
+    fraction_of(TEXT)                 a number that somebody wrote, exactly; ValueError or ZeroDivisionError where it is none
+    harmless(TEXT)                    without what a terminal would take for a command
     Line(BYTES, CATALOG, ANALYST)     a line, by a catalog and whoever has said hello: its `refusal` (`10 2`) or nothing, `why` in words, and of
                                       an ask the `owner`, the `partition` or nothing, `e` in millionths and the `program`
 
@@ -19,6 +21,12 @@ FORMS = {
 }  # fmt: skip
 COMMANDS = (b"init", b"run", b"serve", b"audit", b"grant", b"check", b"gap", b"gen")
 WORDS = b"size sum fst snd least greatest let if case in then else map filter split union".split()
+# A number of so many digits is over every limit, and Python doesn't read some thousand digits.
+LONG = 19
+# An exponent of six digits or more, whose power of ten would take long.
+FAR = re.compile(r"(.*)[eE]([-+]?)0*[1-9][0-9]{5,}\s*", re.S)
+# What moves a terminal's cursor, or turns the order of what is written.
+CONTROLS = re.compile("[\x00-\x08\x0b-\x1f\x7f-\x9f\u200e\u200f\u202a-\u202e\u2066-\u2069]")
 
 
 def lines_of(script):
@@ -48,11 +56,28 @@ def whole_number(text):
 
 def amount_of(word):
     """A whole number of millionths from 1 to 10^18, as `clap` reads one, or None."""
-    return int(word) if re.fullmatch("[+]?[0-9]+", word) and 1 <= int(word) <= AMOUNT_LIMIT else None
+    found = whole_of(word)
+    return found if found is not None and 1 <= found <= AMOUNT_LIMIT else None
+
+
+def whole_of(word):
+    """A whole number from 0 on, as `clap` reads one, or None where it is none or is over every limit."""
+    found = re.fullmatch(f"[+]?0*([0-9]{{1,{LONG}}})", word)
+    return int(found[1]) if found else None
+
+
+def fraction_of(text):
+    """Far beyond every limit one exponent stands for another, so that none takes long."""
+    found = FAR.fullmatch(text)
+    return Fraction(f"{found[1]}e{found[2]}99999" if found else text)
+
+
+def harmless(text):
+    return CONTROLS.sub(lambda found: found[0].encode("unicode_escape").decode(), text)
 
 
 def said(data):
-    text = data.decode(errors="backslashreplace")
+    text = harmless(data.decode(errors="backslashreplace"))
     return f"`{text if len(text) <= 40 else text[:38] + '..'}`"
 
 
@@ -170,12 +195,13 @@ def why_no_epsilon(text):
     """What is wrong with an EPS, and how it is written."""
     known = "EPS is 0.000001 to 1000, with 1 to 4 digits before the point and 1 to 6 behind it"
     try:
-        value = Fraction(text.decode().replace(",", ".", 1))
-    except (ValueError, UnicodeDecodeError, ZeroDivisionError):
-        return f"{said(text)} is no number: {known}"
-    written = f"{float(value):.6f}".rstrip("0").rstrip(".")
+        value = fraction_of(text.decode().replace(",", ".", 1))
+    except (ValueError, ZeroDivisionError):
+        digits = text.replace(b",", b".", 1).replace(b".", b"", 1)
+        return f"{said(text)} {'has too many digits' if digits.isdigit() else 'is no number'}: {known}"
     if value > 1000:
         return f"{said(text)} is over 1000: {known}"
+    written = f"{float(value):.6f}".rstrip("0").rstrip(".")
     if value < Fraction(1, 10**6):
         return f"{said(text)} is under 0.000001: {known}"
     if Fraction(written) == value and millionths(written.encode()) is not None:

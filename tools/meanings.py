@@ -75,6 +75,13 @@ REFUSALS = {
 }  # fmt: skip
 LINES = {
     "usage": STATUSES[2],
+    "owner W budget N capacity N": "the journal of {0} is made: its budget is {1} millionths, and it has room for {2} records",
+    "W reservations N answered N exhausted N lost N spent N budget N": "of {1} reservations in the journal of {0} {2} are answered, {3} have no answer, since "
+        "their noise took over 4096 draws, and {4} are lost: charged, and without an answer; {5} of {6} millionths are spent",
+    "distance N": "of `gap`: the two datasets are {0} rows apart, which are those to be removed and those to be added",
+    "sensitivity R": "of `gap`: the sensitivity of the program is {0}, by which its value moves at most for each row that the datasets are apart",
+    "values V V": "of `gap`: the program's exact value is {0} on the first dataset and {1} on the second, without noise: they are for the owner alone",
+    "gap N": "of `gap`: the two values differ by {0}, which is at most the sensitivity times the distance",
     "memory": STATUSES[7],
     "script too long": STATUSES[8],
     "journal W uninitialised N": "the journal of {0} isn't there, or no `init` ended on it: it has {1} bytes",
@@ -104,8 +111,9 @@ FORMS = [(re.compile(" ".join(PARTS.get(word, re.escape(word)) for word in form.
 
 
 def meaning(line):
-    if line.startswith("refused "):
-        return f"{line.removeprefix('refused ')!r} is the file, or the owner, that is refused: {STATUSES[3]}"
+    first, _, name = line.partition(" ")
+    if first == "refused":
+        return f"{name!r} is the file, or the owner, that is refused: {STATUSES[3]}"
     status = re.fullmatch(r"(?:status )?([0-9]{1,3})", line)
     if status:
         return of_status(int(status[1]))

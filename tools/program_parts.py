@@ -6,6 +6,7 @@
     place_of(REFUSAL)              the span that is marked
     traced(REFUSAL, TERM)          the types of a term's parts, as far as the refused one
 """
+from lines import harmless
 from programs import BOOL, INF, NUM, TEXT, UNIT, Checker, Node, Refused, at, deep, sensitivity_text, tokens_of
 from tables import row_type, signature
 
@@ -40,28 +41,46 @@ class Text:
 
 
 def shown(data):
-    return data.decode(errors="backslashreplace").replace("\t", " ").replace("\r", " ")
+    return harmless(data.decode(errors="backslashreplace").replace("\t", " ").replace("\r", " "))
 
 
-# Types, as they are written and in words.
+# Types, as they are written and in words. Their parts are shared, so one may have 2^60 when it is written out: `..` stands for what is left out.
+
+LONGEST = 600
+
+
+def joined(t, pieces_of):
+    """The words of a type, whose pieces are words, and its parts as tuples."""
+    text, left = "", [t]
+    while left and len(text) < LONGEST:
+        piece = left.pop()
+        if isinstance(piece, str):
+            text += piece
+        else:
+            left += reversed(pieces_of(*piece))
+    return f"{text.rstrip()} .." if left else text
 
 
 def type_text(t, around=0):
     """A type as a program writes it. `around` is how strongly what stands around it holds: 1 an arrow's left side, 2 a sum's, 3 a product's."""
+    return joined((t, around), written_pieces)
+
+
+def written_pieces(t, around):
     if t == BOOL:
-        return "bool"
+        return ["bool"]
     if len(t) == 1:
-        return t[0]
+        return [t[0]]
     if t[0] == "bag":
-        return "bag " + type_text(t[1], 4)
+        return ["bag ", (t[1], 4)]
     if t[0] == "!":
-        return f"![{sensitivity_text(t[1])}] " + type_text(t[2], 4)
+        return [f"![{sensitivity_text(t[1])}] ", (t[2], 4)]
     sign, left = t[0], t[1]
     if sign == "-o" and left[0] == "!" and left[1] == INF:
         sign, left = "->", left[2]
     strength = {"-o": 0, "->": 0, "+": 1, "*": 2, "&": 2}[sign]
-    text = f"{type_text(left, strength + 1)} {sign} {type_text(t[2], strength)}"
-    return f"({text})" if around > strength else text
+    pieces = [(left, strength + 1), f" {sign} ", (t[2], strength)]
+    return ["(", *pieces, ")"] if around > strength else pieces
 
 
 FORMS = {
@@ -85,25 +104,28 @@ class House:
         return f"A part of `{self.partition['name']}` shows the table `{self.tables[0][0]}` alone."
 
     def in_words(self, t):
-        if t in PLAIN:
-            return PLAIN[t]
+        return joined((t,), self.pieces)
+
+    def pieces(self, t):
+        if len(t) == 1 or t == BOOL:
+            return [PLAIN[t]]
         for table in self.owner["tables"]:
             if len(table["columns"]) > 1 and t == row_type(table["columns"]):
-                return f"a row of {table['name']} ({', '.join(column['name'] for column in table['columns'])})"
+                return [f"a row of {table['name']} ({', '.join(column['name'] for column in table['columns'])})"]
         if t[0] in ("*", "&"):
-            return f"{FORMS[t[0]]} of {self.in_words(t[1])} and {self.in_words(t[2])}"
+            return [f"{FORMS[t[0]]} of ", (t[1],), " and ", (t[2],)]
         if t[0] == "+":
-            return f"one of two: {self.in_words(t[1])} on the left, or {self.in_words(t[2])} on the right"
+            return ["one of two: ", (t[1],), " on the left, or ", (t[2],), " on the right"]
         if t[0] == "bag":
-            return f"a bag, each element of it {self.in_words(t[1])}"
+            return ["a bag, each element of it ", (t[1],)]
         if t[0] == "!":
-            return f"{self.in_words(t[2])}, for {'any use' if t[1] == INF else 'uses of ' + sensitivity_text(t[1]) + ' in all'}"
+            return [(t[2],), f", for {'any use' if t[1] == INF else 'uses of ' + sensitivity_text(t[1]) + ' in all'}"]
         if t[1][0] == "!" and t[1][1] == INF:
-            return f"a function made by `fn`, from {self.in_words(t[1][2])} to {self.in_words(t[2])}"
-        return f"a function made by `fun`, from {self.in_words(t[1])} to {self.in_words(t[2])}"
+            return ["a function made by `fn`, from ", (t[1][2],), " to ", (t[2],)]
+        return ["a function made by `fun`, from ", (t[1],), " to ", (t[2],)]
 
     def told(self, t):
-        return FORMS[t] if t in FORMS else f"{self.in_words(t)}: `{type_text(t)}`"
+        return FORMS[t] if isinstance(t, str) else f"{self.in_words(t)}: `{type_text(t)}`"
 
 
 # Terms.

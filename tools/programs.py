@@ -379,12 +379,48 @@ def read(text):
 # Types.
 
 
+# A part that stands in a type many times is one tuple, so a type of a hundred parts may be of 2^60 where it is written out. Each part is looked at once,
+# or each pair of parts.
+
+
+def lacks(t, *forms):
+    """Whether none of these forms is in a type."""
+    seen, left = set(), [t]
+    while left:
+        one = left.pop()
+        if id(one) in seen:
+            continue
+        if one[0] in forms:
+            return False
+        seen.add(id(one))
+        left += [part for part in one[1:] if isinstance(part, tuple)]
+    return True
+
+
 def ground(t):
-    return t[0] != "-o" and all(ground(x) for x in t[1:] if isinstance(x, tuple))
+    return lacks(t, "-o")
 
 
 def flat(t):
-    return t[0] not in ("-o", "bag") and all(flat(x) for x in t[1:] if isinstance(x, tuple))
+    return lacks(t, "-o", "bag")
+
+
+def same(a, b):
+    """Whether two types are equal."""
+    seen, left = set(), [(a, b)]
+    while left:
+        a, b = left.pop()
+        if a is b or (id(a), id(b)) in seen:
+            continue
+        if not (isinstance(a, tuple) and isinstance(b, tuple)):
+            if a != b:
+                return False
+        elif len(a) != len(b):
+            return False
+        else:
+            seen.add((id(a), id(b)))
+            left += zip(a, b)
+    return True
 
 
 def well_formed(node):
@@ -455,7 +491,7 @@ def mismatch(node, found, wanted):
 
 
 def want(node, found, wanted):
-    if found != wanted:
+    if not same(found, wanted):
         raise mismatch(node, found, wanted)
 
 
@@ -678,17 +714,19 @@ def deep(call):
     def run():
         try:
             result.append((call(), None))
-        except Refused as refusal:
-            result.append((None, refusal))
+        except BaseException as fault:
+            result.append((None, fault))
 
     sys.setrecursionlimit(200_000)
-    threading.stack_size(512 * 2**20)
-    thread = threading.Thread(target=run, name="deep")
-    thread.start()
+    thread, size = threading.Thread(target=run, name="deep"), threading.stack_size(512 * 2**20)
+    try:
+        thread.start()
+    finally:
+        threading.stack_size(size)
     thread.join()
-    value, refusal = result[0]
-    if refusal is not None:
-        raise refusal
+    value, fault = result[0]
+    if fault is not None:
+        raise fault
     return value
 
 

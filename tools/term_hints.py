@@ -26,6 +26,8 @@ def hint_of_column(refusal, place):
 
 def hint_of_token(refusal):
     """Of the place, and of the statement, or the call, of SQL that the program may be."""
+    if len(refusal.data) > PROGRAM_LIMIT:
+        return f"A program has at most {PROGRAM_LIMIT} bytes, and this one has {len(refusal.data)}."
     tables = [table for table, _ in refusal.house.tables]
     first = tokens_of(refusal.data[: int(refusal.words[1])])[:2]
     called = SQL.get(first[0][1].lower()) if [token[0] for token in first] == ["name", "("] and first[0][1] not in tables else None
@@ -36,8 +38,6 @@ def hint_of_token(refusal):
 def hint_of_byte(refusal):
     data, place = refusal.data, int(refusal.words[1])
     first, rest = data[place], data[place:]
-    if len(data) > PROGRAM_LIMIT:
-        return f"A program has at most {PROGRAM_LIMIT} bytes, and this one has {len(data)}."
     if in_comment(data, place):
         return NO_COMMENTS
     if len(tokens_of(data[:place])) == TOKEN_LIMIT:

@@ -3,7 +3,7 @@ or nothing."""
 import difflib
 
 from program_parts import found_at, parents_of, shown, traced, type_text, with_parents
-from programs import BOOL, HALF, INF, NUM, TEXT, Checker, Refused, deep, sensitivity_text
+from programs import BOOL, HALF, INF, NUM, TEXT, Checker, Refused, deep, same, sensitivity_text
 from programs import read as read_term
 from sql_words import SQL, sql_statement, taken_apart
 from tables import row_type
@@ -142,11 +142,11 @@ def hint_of_bags(refusal, found, wanted, parent):
 
 
 def hint_of_bangs(found, wanted):
-    if wanted[0] == "!" and wanted != "!" and wanted[2] == found:
+    if wanted[0] == "!" and wanted != "!" and same(wanted[2], found):
         return f"It is handed over as `![{sensitivity_text(wanted[1])}] (..)`."
     if wanted == "!":
         return "`let !x` opens what stands behind `![..]`. Here is nothing to open: write `let x = .. in ..`."
-    if found[0] == "!" and found[2] == wanted:
+    if found[0] == "!" and same(found[2], wanted):
         return "Open it first: `let !x = .. in ..`."
     return None
 
@@ -159,7 +159,7 @@ def hint_of_mismatch(refusal, term, node, parent):
         return hint
     if parent is not None and parent.form == "<=" and found == TEXT and not (node.form == "text" and node.parts[0].isdigit()):
         return "Texts have no order: they are compared by `==` alone."
-    if {found, wanted} == {NUM, TEXT}:
+    if (found, wanted) in ((NUM, TEXT), (TEXT, NUM)):
         return 'A number is written without `"`, a text with: `30`, `"30"`.'
     if parent is not None and parent.form in ("if", "case") and wanted != BOOL:
         return "Both branches must have the same type."
