@@ -139,6 +139,7 @@ GRANTS = [
     (nothing, GRANT, "", 2, ["`grant` takes 4 words, CATALOG KEY OWNER AMOUNT, and 3 stand there", "hitchseason grant CATALOG KEY OWNER AMOUNT"]),
     (nothing, f"{GRANT} 0", "", 2, [f"`0`: AMOUNT is a whole number of millionths from 1 to {MOST}, such as 500000"]),
     (nothing, f"{GRANT} {MOST + 1}", "", 2, [f"`{MOST + 1}`: AMOUNT is a whole number"]),
+    (nothing, f"{GRANT} {5000 * '9'}", "", 2, ["AMOUNT is a whole number of millionths from 1 to"]),
     (nothing, f"{GRANT} 1.5", "", 2, ["`1.5`: AMOUNT is a whole number"]),
     (nothing, f"{GRANT} -1", "", 2, ["`-1` begins with a hyphen and is taken for an option, which `grant` hasn't", "!a file of this name"]),
     (nothing, "grant catalog.json key labour 5", "", 3, ["refused labour: the catalog has no owner of this name; it has census, health"]),
@@ -172,6 +173,7 @@ MADE = [
     (nothing, "gen 7", "", 2, ["`gen` takes 2 or 3 words, SEED N [WORKERS], and 1 stand there", "hitchseason gen SEED N [WORKERS]"]),
     (nothing, "gen 4294967296 100001 17", "", 2, ["`4294967296`: SEED is a whole number from 0 to 4294967295", "`100001`: N is a whole number from 1 to "
         "100000", "`17`: WORKERS is a whole number from 1 to 16"]),
+    (nothing, f"gen {5000 * '9'} 1", "", 2, ["SEED is a whole number from 0 to 4294967295"]),
     (nothing, "gen -1 2", "", 2, ["`-1` begins with a hyphen and is taken for an option, which `gen` hasn't", "!a file of this name"]),
     (nothing, "audit -x key", "", 2, ["`-x` begins with a hyphen", "`audit` takes 2 words, CATALOG KEY, and 1 stand there"]),
     (nothing, "audit catalog.json $'k\\xffy'", "", 2, ["Word 2 isn't UTF-8"]),
@@ -182,6 +184,9 @@ MADE = [
     (written("key", bytes(31) + b"\n\n"), AUDIT, "", 3, ["refused key: it has 33 bytes, and a key has 32", "A line end stands behind it"]),
     (written("people.csv", b"town,age\nA,1.5\nB,2\nA,n/a\n"), RUN, "< script", 3,
      ["refused people.csv: line 2, row 0 (the first is 0), column 1: age is '1.5'", "column age: no whole number in 2 cells", "'n/a' once (first in line 4)"]),
+    (written("people.csv", b"town,age\n" + b"".join(b"A,x%d\n" % number for number in range(12))), RUN, "< script", 3,
+     ["no whole number in 12 cells", "and 2 more (tools/find_fault --all tells them)"]),
+    (of_owner("budget", 2**64), RUN, "< script", 3, ["owners[0].budget: a whole number from 0 on and below 2^64, without a point or an exponent, is wanted"]),
     (written("people.csv", b"Town,age\nA,1\n"), CHECK, "", 3, ["refused people.csv: line 1: the header is 'Town,age'", "'Town' differs from the column "
         "'town'"]),
     (lambda: os.remove("stays.csv"), AUDIT, "", 3, ["refused stays.csv: there is no such file"]),

@@ -18,12 +18,12 @@ import socket
 import stat
 
 from catalog import OWNERS
-from faults import Fault, Unreadable, bytes_of, catalog_of, check_key, survey_lines, table_of, whoever
+from faults import ALL, Fault, Unreadable, bytes_of, catalog_of, check_key, survey_lines, table_of, whoever
 from journal import GATE, HEAD, MOST_BUDGET, SLOT, VERSION_AT, Area, Grant, Refused, Reservation, Settlement, begun, book_of, capacity_in, contents, decoded
 from journal import fields, header, live_area, version_of
 from holders import holders
 from journal_changes import House, changes
-from lines import amount_of
+from lines import amount_of, whole_of
 from meanings import COMMANDS, STATUSES
 
 WORKERS = 16
@@ -116,7 +116,8 @@ def about_name(name):
 def about_numbers(found):
     """Of `gen`: which word isn't a number of its range."""
     for word, (name, (least, most)) in zip(found.words, GENERATED.items()):
-        if not re.fullmatch("[+]?[0-9]+", word) or not least <= int(word) <= most:
+        number = whole_of(word)
+        if number is None or not least <= number <= most:
             yield f"`{shown(word)}`: {name} is a whole number from {least} to {most}."
 
 
@@ -242,7 +243,7 @@ class BadTable(Fault):
 
     def __init__(self, survey):
         super().__init__(str(survey.first))
-        self.lines = [f"    {line}" for line in survey_lines(survey, MOST_TOLD)]
+        self.lines = [f"    {line}".replace(ALL, ALL.replace("--all", "tools/find_fault --all")) for line in survey_lines(survey, MOST_TOLD)]
 
 
 def tables_differ(first, second):

@@ -35,6 +35,8 @@ FORMS = {
     "keys": "a key has 1 to 64 bytes, and no blank and no control byte among them",
 }
 NAME_FORM = "a name is a letter or `_`, then letters, digits and `_`, 32 bytes at most, without other letters than a to z and A to Z"
+# What tools/find_fault, whose option that is, says beside what it leaves out.
+ALL = "(--all tells them)"
 NO_CAUSE = "it is nested over 127 deep, or has half of a pair of \\u escapes"
 
 
@@ -88,7 +90,7 @@ def wanted_kind(fault, is_item):
         return "a text" if fault.member in ("analysts", "keys") else "an object"
     if fault.member in COUNTS:
         return "a list"
-    return "a whole number from 0 without a point or an exponent" if fault.member in RANGES else "a text"
+    return "a whole number from 0 on and below 2^64, without a point or an exponent," if fault.member in RANGES else "a text"
 
 
 def reason(fault, data):
@@ -163,7 +165,7 @@ def plural(count, word):
 def listed(parts, limit):
     """Parts, of which at most so many are said, and how many are left out."""
     parts = list(parts)
-    more = f", and {len(parts) - limit} more (--all tells them)" if len(parts) > limit else ""
+    more = f", and {len(parts) - limit} more {ALL}" if len(parts) > limit else ""
     return ", ".join(parts[:limit]) + more
 
 
