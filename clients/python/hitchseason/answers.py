@@ -3,8 +3,9 @@
 An interval at 95 of 100 holds the exact value in at least 95 of 100 answers, whatever the tables have. An answer's ends are whole numbers: those
 of the value less and plus its noise's margin (noise.py). No end is moved to where values can be, as counts from 0 on.
 """
-from decimal import Decimal
-from math import inf, nextafter
+from decimal import ROUND_CEILING, ROUND_FLOOR, ROUND_HALF_EVEN, Decimal, localcontext
+from fractions import Fraction
+from math import inf, isfinite, nextafter
 
 from . import noise, pictures
 from .borrowed import explain
@@ -12,16 +13,26 @@ from .borrowed import explain
 PERCENTS = ("50", "95", "99.9")
 
 
-def written(number):
-    """A number as it is told, whole or with the digits that count."""
-    if isinstance(number, int) or number == int(number):
+def written(number, rounding=ROUND_HALF_EVEN):
+    """A number as it is told: whole, or with the digits that count, which are six, and two of them at least behind the point."""
+    if isinstance(number, float) and not isfinite(number):
+        return str(number)
+    if number == int(number):
         return str(int(number))
-    return f"{float(number):.6g}"
+    number = Fraction(number)
+    with localcontext() as context:
+        context.prec, context.rounding = max(6, len(str(abs(int(number)))) + 2), rounding
+        return f"{(Decimal(number.numerator) / number.denominator).normalize():f}"
 
 
-def rounded(number):
+def ends_written(low, high):
+    """An interval as it is told. It is rounded outwards, so that it holds as often as it says."""
+    return f"{written(low, ROUND_FLOOR)} to {written(high, ROUND_CEILING)}"
+
+
+def rounded(number, rounding=ROUND_HALF_EVEN):
     """With the digits that count."""
-    return number if isinstance(number, int) else exact(float(written(number)))
+    return number if isinstance(number, int) else exact(float(written(number, rounding)))
 
 
 def units(millionths):
@@ -65,8 +76,7 @@ class Known:
         return {"value": exact(self.value), "intervals": ends, "taken": self.taken, "left": left, "numbers": self.numbers}
 
     def __str__(self):
-        low, high = self.interval(95)
-        return f"{written(self.value)} (95 of 100: {written(low)} to {written(high)}); {paid(self)}"
+        return f"{written(self.value)} (95 of 100: {ends_written(*self.interval(95))}); {paid(self)}"
 
     __repr__ = __str__
 
@@ -134,11 +144,14 @@ class Worked(Known):
     def at(self, level):
         """The ends are whole, or rounded outwards."""
         low, high = self.ends(level)
-        return (exact(low) if low == int(low) else nextafter(low, -inf)), (exact(high) if high == int(high) else nextafter(high, inf))
+        least, most = exact(low), exact(high)
+        return (least if least <= low else nextafter(least, -inf)), (most if most >= high else nextafter(most, inf))
 
 
 def total(answers):
     """The sum of counts, by the distribution of the sum of their noises."""
+    if not answers:
+        raise ValueError("a total is of one answer at least")
     value = sum(answer.value for answer in answers)
 
     def ends(level):
@@ -181,7 +194,10 @@ class Groups:
 
     def total(self, keys=None):
         """The sum over some keys, or all. Rows of no key aren't in it. Of what is worked out of several answers there is none."""
-        found = [self.answers[key] for key in (self.answers if keys is None else keys)]
+        keys = list(self.answers if keys is None else [keys] if isinstance(keys, str) else keys)
+        if len(set(keys)) < len(keys):
+            raise ValueError("each key of a total is named once: a key's answer has one noise")
+        found = [self.answers[key] for key in keys]
         if not all(isinstance(answer, Answer) for answer in found):
             raise ValueError("a total is of counts or sums, of which each is one answer")
         return total(found)
@@ -204,8 +220,8 @@ class Groups:
 
     def svg(self, title=None, percent="95"):
         """The histogram with its error bars, as tools/plot draws it; of what has a point in it, the digits that count."""
-        groups = self.as_dict()
-        bars = [(key, *map(rounded, drawn)) for key, *drawn in pictures.bars_of(groups, percent)]
+        groups, percent = self.as_dict(), str(percent)
+        bars = [(key, rounded(value), rounded(low, ROUND_FLOOR), rounded(high, ROUND_CEILING)) for key, value, low, high in pictures.bars_of(groups, percent)]
         return pictures.histogram_svg(bars, title or self.partition, percent, pictures.eps_of(groups))
 
     def as_dict(self):

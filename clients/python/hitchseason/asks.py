@@ -2,31 +2,46 @@
 
     View(CATALOG, OWNER)          an owner's tables, by what tools/public gives; `ask` makes an Ask, or raises Refused
     price(..), divided(..)        EPS in millionths, of an EPS or of a charge; a charge, divided by shares
+    fraction_of(NUMBER)           a number that somebody gave, exactly, or nothing
     Plan, Forecast                the asks of a statistic, and what is known of them before anything is asked
 """
 from decimal import Decimal, InvalidOperation
-from fractions import Fraction
 from math import ceil
 
 from . import faults, names, noise
 from .answers import PERCENTS, units
 from .borrowed import explain, lines, program_parts, programs
 
-MOST_EPS = 10**9
+# In millionths; no budget is greater.
+MOST_EPS, MOST_CHARGE = 10**9, 10**18
+# Numbers with more digits than that before or behind the point are none that is meant.
+FAR = 1000
 
 
 def number_text(number):
-    return f"{Decimal(str(number)):f}" if not isinstance(number, str) else number
+    """As it is written without an exponent, if it is a number."""
+    if isinstance(number, str):
+        return number
+    try:
+        found = Decimal(str(number))
+    except InvalidOperation:
+        return str(number)
+    return f"{found:f}" if found.is_finite() and abs(found.adjusted()) < FAR else str(number)
+
+
+def fraction_of(number):
+    """A number, exactly; nothing where it is none."""
+    try:
+        return lines.fraction_of(number_text(number))
+    except (ValueError, ZeroDivisionError):
+        return None
 
 
 def millionths(number, what):
     """A positive decimal in millionths, exactly."""
-    try:
-        found = Fraction(number_text(number)) * 10**6
-    except (ValueError, InvalidOperation):
-        found = 0
-    if found <= 0 or found.denominator != 1:
-        raise ValueError(f"{what} is a decimal over 0 with at most six places, as 0.5, and not {number}")
+    found = (fraction_of(number) or 0) * 10**6
+    if not 0 < found <= MOST_CHARGE or found.denominator != 1:
+        raise ValueError(f"{what} is a decimal over 0, and at most {units(MOST_CHARGE)}, with at most six places, as 0.5, and not {number}")
     return int(found)
 
 
@@ -45,12 +60,13 @@ def price(sensitivity, eps=None, charge=None):
     return min(e, MOST_EPS)
 
 
-def divided(charge, shares):
-    """A charge in millionths, divided by shares."""
-    whole, total = millionths(charge, "a charge"), sum(Fraction(str(share)) for share in shares)
-    if any(share <= 0 for share in shares):
-        raise ValueError("shares are over 0")
-    found = [int(whole * Fraction(str(share)) / total) for share in shares]
+def divided(charge, shares, number):
+    """A charge in millionths, divided among so many asks by shares."""
+    whole, shares = millionths(charge, "a charge"), [fraction_of(share) for share in shares]
+    if len(shares) != number or not all(share and share > 0 for share in shares):
+        raise ValueError(f"shares are numbers over 0, one for each of the {number} asks")
+    total = sum(shares)
+    found = [int(whole * share / total) for share in shares]
     if 0 in found:
         raise ValueError(f"a charge of {charge} can't be divided in {len(found)}")
     return [units(part) for part in found]

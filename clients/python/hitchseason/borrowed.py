@@ -1,9 +1,13 @@
 """What the package takes of the repository's tools, which stand in `tools/` at its top: words of refusals, the language's second reader, and
 what an owner gives to analysts. Nothing of it is copied here.
+
+The tools import one another by short names (`tables`, `lines`), by which whoever imports the package may mean other modules: so these names stand
+for tools only while the tools are loaded, and sys.path is left as it was.
 """
 import importlib.machinery
 import importlib.util
 import sys
+from os import listdir
 from os.path import abspath, dirname
 
 TOP = dirname(dirname(dirname(dirname(abspath(__file__)))))
@@ -22,6 +26,8 @@ def command(name):
     return module
 
 
+NAMES = [name.removesuffix(".py") for name in listdir(TOOLS) if name.endswith(".py")]
+others, path = {name: sys.modules.pop(name) for name in NAMES if name in sys.modules}, list(sys.path)
 sys.path.insert(0, TOOLS)
 try:
     import lines
@@ -35,6 +41,9 @@ try:
     explain = command("explain")
     public = command("public")
 finally:
-    sys.path.remove(TOOLS)
+    sys.path[:] = path
+    for name in NAMES:
+        sys.modules.pop(name, None)
+    sys.modules.update(others)
 
 __all__ = ["TOOLS", "TOP", "explain", "lines", "meanings", "program_parts", "programs", "public", "runs", "sql_words", "tables"]

@@ -103,7 +103,7 @@ def fit(name, words, more):
 
 
 class Client:
-    def __init__(self, transport, catalog, analyst, owner=None):
+    def __init__(self, transport, catalog, analyst=None, owner=None):
         names = [entry["name"] for entry in catalog["owners"]]
         if owner is None and len(names) > 1:
             raise Refused(f"there are several owners, and one is asked: {', '.join(f'`{name}`' for name in names)}.")
@@ -213,7 +213,7 @@ class Client:
         except Stopped as stopped:
             self.keep(stopped.heard)
             return self.recover(f"{stopped}. ")
-        except (Failed, Waited):
+        except (Failed, Refused, Waited):
             self.pending = None
             raise
         except KeyboardInterrupt as ended:
@@ -272,11 +272,16 @@ class Client:
         while True:
             asked = [self.hello(), *(f"recall {self.view.name} {number}" for number in range(at, at + RECALLS)), f"left {self.view.name}"]
             replies = [reply.split(" ") for reply in self.transport.replies(asked)]
+            if replies[0] != asked[0].split(" "):
+                said = " ".join(replies[0])
+                raise Refused(f"{said}: nothing was asked.", said)
             for number, words in enumerate(replies[1:-1], at):
                 if words[:2] == ["no", "60"]:
                     return number, found, self.left_of(" ".join(replies[-1]))
                 if words[0] == "recall":
                     found.append((number, words[2:-1]))
+                elif words[:2] != ["no", "61"]:
+                    raise Failed(f"`{' '.join(words)}` is no reply to a recall.", " ".join(words))
             at += RECALLS
 
     def recover(self, why=""):

@@ -6,8 +6,8 @@ import json
 import os
 import sys
 
-from . import pictures
-from .answers import PERCENTS, Groups, units
+from . import noise, pictures
+from .answers import PERCENTS, Groups, numbers_said, units
 from .client import connect
 from .faults import Fault
 from .transport import Waited
@@ -30,23 +30,42 @@ def client_of(given, analyst, owner):
 
 
 def text_of(name):
-    with sys.stdin if name == "-" else open(name, encoding="utf-8") as file:
-        return file.read()
+    if name == "-" and sys.stdin is None:
+        raise OSError("standard input is closed")
+    try:
+        with open(sys.stdin.fileno() if name == "-" else name, encoding="utf-8", closefd=name != "-") as file:
+            return file.read()
+    except UnicodeDecodeError as fault:
+        raise ValueError(f"{'standard input' if name == '-' else name} is no UTF-8, from byte {fault.start} on") from None
 
 
 def run(name, call, parser, words):
-    """The status of a command: 1 where something was refused or failed, 2 where the words are none, 130 where Ctrl-C ended it."""
+    """The status of a command: 1 where something was refused or failed, 2 where the words are none, 130 where Ctrl-C ended it. Where nobody can read
+    what it says, nothing is asked."""
     given = parser.parse_intermixed_args(words)
     try:
+        if sys.stdout is None:
+            raise OSError("standard output is closed")
+        sys.stdout.reconfigure(errors="backslashreplace")
         call(given)
+        sys.stdout.flush()
         return 0
     except KeyboardInterrupt as ended:
-        print(f"tools/{name}: {ended if isinstance(ended, Interrupted) else 'given up; nothing was asked'}", file=sys.stderr)
-        return 130
+        return failed(name, ended if isinstance(ended, Interrupted) else "given up; nothing was asked", 130)
     except (Fault, ValueError, OSError) as fault:
-        sys.stdout.flush()
-        print(f"tools/{name}: {fault}", file=sys.stderr)
-        return 1
+        return failed(name, fault, 1)
+
+
+def failed(name, why, status):
+    """Says why, behind what was said before. What can't be written is let go, so that Python doesn't try it once more at its end."""
+    for file, said in ((sys.stdout, ""), (sys.stderr, f"tools/{name}: {why}\n")):
+        try:
+            if file:
+                file.write(said)
+                file.flush()
+        except OSError:
+            os.dup2(os.open(os.devnull, os.O_WRONLY), file.fileno())
+    return status
 
 
 class Interrupted(KeyboardInterrupt):
@@ -73,6 +92,7 @@ def askparts(words, doc):
     parser.set_defaults(form=text_lines)
 
     def call(given):
+        noise.level_of(given.level)
         client, program = client_of(given, given.analyst, given.owner), text_of(given.file)
         try:
             groups = client.groups(given.partition, program, eps=given.eps, keys=given.keys or None)
@@ -85,11 +105,19 @@ def askparts(words, doc):
             if fault.answers:
                 known = {answer.ask.part[1]: answer for answer in fault.answers}
                 wanted = dict.fromkeys(given.keys or client.view.partition(given.partition)["keys"])
-                print(given.form(Groups(given.partition, known), given.level, [key for key in wanted if key not in known]))
+                tell(given.form, Groups(given.partition, known), given.level, [key for key in wanted if key not in known])
             raise
-        print(given.form(groups, given.level, []))
+        tell(given.form, groups, given.level, [])
 
     return run("askparts", call, parser, words)
+
+
+def tell(form, groups, percent, missing):
+    try:
+        print(form(groups, percent, missing), flush=True)
+    except OSError as fault:
+        told = f"what was answered is paid, and tools/shell tells it again (\\r N): {numbers_said(groups.numbers)}"
+        raise OSError(f"what it says can't be written: {fault.strerror}; {told}") from None
 
 
 def text_lines(groups, percent, missing):

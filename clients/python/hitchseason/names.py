@@ -9,6 +9,8 @@ left as it stands, and a program without such types is sent as it is. TABLES are
 from .borrowed import lines, program_parts, programs
 
 NAME_LIMIT = 32
+# A token that is sent comes of three at most, as a column's name of `p.age`.
+MOST_TOKENS = 3 * programs.TOKEN_LIMIT
 
 
 class BadName(programs.Refused):
@@ -69,11 +71,11 @@ def known(name, names, what):
 
 
 def tokens_of(data):
-    """The tokens, up to the first place where none begins."""
+    """The tokens, up to the first place where none begins, or where there are so many that what is sent has too many, too."""
     found, at = [], 0
     while True:
         at = programs.run_of(data, at, set(b" \t\r\n"))
-        if at == len(data):
+        if at == len(data) or len(found) > MOST_TOKENS:
             return found
         token = (".", ".", at, at + 1) if data[at : at + 1] == b"." else programs.token_at(data, at)
         if token is None:

@@ -12,7 +12,7 @@ An answer at EPS, which is E millionths, has the noise K where P(K = k) is propo
 probabilities in floating point, and want a level by SLACK greater than is asked for, which is far over their error: so no margin is too small.
 Neither knows that a noise which takes over 4,096 draws has no answer, which hardly ever happens and leaves out the greatest noises alone.
 """
-from decimal import Decimal, InvalidOperation, localcontext
+from decimal import Decimal, localcontext
 from fractions import Fraction
 from functools import lru_cache
 from math import ceil, exp, expm1, floor, log, pi, sin, sinh, sqrt
@@ -26,9 +26,9 @@ def level_of(percent):
     """95 of 100 as 0.95."""
     try:
         level = Decimal(str(percent)) / 100
-    except InvalidOperation:
-        level = 0
-    if not 0 < level <= MOST:
+    except ArithmeticError:
+        level = Decimal(0)
+    if not (level.is_finite() and 0 < level <= MOST):
         raise ValueError(f"a level is over 0 and at most {100 * MOST} of 100, as 95 or 99.9, and not {percent}")
     return level
 

@@ -21,6 +21,8 @@ try:
 except ImportError:
     readline = None
 
+# What some editors write before the first line of a file.
+MARK = "\ufeff"
 HISTORY = 1000
 LONGEST = 2**15
 # How much of what stands before a word is looked at.
@@ -40,6 +42,8 @@ class Plain:
         """A line, or nothing at the end."""
         line = sys.stdin.readline()
         self.number += 1
+        if self.number == 1:
+            line = line.removeprefix(MARK)
         return line.rstrip("\n").removesuffix("\r") if line else None
 
     def keep(self, statement):

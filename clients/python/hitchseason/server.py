@@ -8,7 +8,6 @@ Both are transports (transport.py). A worker serves one connection at a time, so
 a while, as the service may be started anew. Where replies to later lines are missing that is said (`Stopped`), and nothing is sent again.
 Where a connection ends within a line, what came of the line is a line to the service. So programs are `closed`: they go in parentheses (asks.py).
 """
-import json
 import select
 import signal
 import socket
@@ -20,7 +19,7 @@ from contextlib import contextmanager, suppress
 
 from .borrowed import meanings
 from .faults import Failed, Refused
-from .transport import Stopped, Waited
+from .transport import Stopped, Waited, published
 
 # How long a service that isn't there is tried again, and after how long that is told; lines that are sent ahead of their replies.
 PATIENCE, PAUSE, LATE = 20, 0.5, 1
@@ -67,8 +66,7 @@ class Server:
     def public(self):
         if self.given is None:
             raise Failed("what the owner made with `tools/public --json CATALOG` is wanted: public=FILE, or --public FILE")
-        with open(self.given, encoding="utf-8") as file:
-            return json.load(file)
+        return published(self.given)
 
     @contextmanager
     def kept(self):
@@ -130,9 +128,10 @@ class Server:
             return self.first(line)
 
     def first(self, line):
-        """The reply to the first line of a new connection. A wait for one is told, once."""
-        begun, told = time.monotonic(), False
+        """The reply to the first line of a new connection. A wait for one is told, once. What was waited behind another connection doesn't count."""
+        begun, told = None, False
         while True:
+            tried = time.monotonic()
             try:
                 self.waiting = True
                 self.link = self.behind_others(self.opened(PATIENCE if told else LATE))
@@ -141,8 +140,11 @@ class Server:
             except KeyboardInterrupt:
                 raise Waited() from None
             except (OSError, Ended) as fault:
+                now = time.monotonic()
+                if begun is None or (self.link and now - tried > TOLD_AFTER):
+                    begun = now if self.link else tried
                 self.drop()
-                waited = time.monotonic() - begun
+                waited = now - begun
                 if waited > PATIENCE or isinstance(fault, Refusal):
                     raise Failed(f"{self.name} can't be reached: {fault}. Nothing was asked.") from None
                 told = told or (waited >= LATE and tell(f"waiting for {self.name.rstrip(',')}, up to {PATIENCE} s"))

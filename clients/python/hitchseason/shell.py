@@ -351,6 +351,8 @@ class Shell:
         if not re.fullmatch("[0-9]{1,10}", number):
             raise Unsaid(f"\\r N has a number, and `{number[:40]}` is none")
         value, found = self.client.recall(int(number)), self.told.get((self.client.view.name, int(number)))
+        if found is None and self.as_json:
+            return json.dumps({"value": value, "number": int(number), "recalled": True})
         if found is None:
             return f"{value}\nnumber {int(number)}, recalled; its interval is known where it was asked, since it is by the EPS"
         again = Answer(found.ask, found.number, value, None, recalled=True)
@@ -405,7 +407,8 @@ def read(name, word):
         if not re.fullmatch("-?[0-9]{1,20}", word):
             raise Unsaid(f"{name.upper()} is a whole number, and not `{word[:40]}`")
         return int(word)
-    return word.split(",") if name in ("keys", "shares") else tuple(word.split(",")) if name == "part" else word
+    # A key may have commas in it, and a partition's name has none.
+    return word.split(",") if name in ("keys", "shares") else tuple(word.split(",", 1)) if name == "part" else word
 
 
 def told_here(fault):

@@ -9,15 +9,16 @@ distribution of their noises:
 - a quantile: a bound is too low or too high where its answer says so by more than a margin that at the level no step passes to the wrong side.
 """
 from collections import Counter
+from decimal import ROUND_CEILING
 from fractions import Fraction
 
 from . import noise
 from .answers import Crosstab, Groups, Worked, written
-from .asks import Plan, divided
+from .asks import Plan, divided, fraction_of
 from .faults import Fault
 
 MOST_SQUARED = 2**16 - 1
-STEPS = 8
+STEPS, MOST_STEPS = 8, 1000
 # An EPS in millionths under which its rounding would cost more than 1 of 20.
 FINE, SHRUNK = 20, 2**24
 
@@ -127,9 +128,12 @@ def sum_of(view, table, column, low, high, where=None, eps=None, charge=None, pa
 def groups(view, partition, program, *words, keys=None, made=Groups, **more):
     """A program of each key of a partition, or of some, each once; or a statistic by its name, with its words but for the table, which is the
     partition's, and `part`: groups("areas", "mean", "income", 0, 5000, charge=1). The charge is each key's, and the dearest key's alone is taken."""
-    table, keys = view.partition(partition)["table"], view.partition(partition)["keys"] if keys is None else [keys] if isinstance(keys, str) else keys
+    table, every = view.partition(partition)["table"], view.partition(partition)["keys"]
+    keys = dict.fromkeys(every if keys is None else [keys] if isinstance(keys, str) else keys)
+    if not keys:
+        raise ValueError("of a partition one key at least is asked")
     of, first = (OF_KEYS[program], (table,)) if is_statistic(program) else (single, (program,))
-    plans = {key: of(view, *first, *words, part=(partition, key), **more) for key in dict.fromkeys(keys)}
+    plans = {key: of(view, *first, *words, part=(partition, key), **more) for key in keys}
     asks, note = [ask for plan in plans.values() for ask in plan.asks], next((plan.note for plan in plans.values()), None)
     if any(isinstance(plan, Search) for plan in plans.values()):
         return Searches(partition, plans, asks, made, note)
@@ -185,7 +189,7 @@ def mean(view, table, column, low, high, where=None, charge=None, shares=(1, 1),
     """Of the column cut off at its bounds. The charge is divided between sum and count by the shares."""
     low, high = bounds(low, high)
     middle, size = middle_of(low, high)
-    of_sum, of_count = divided(charge, shares)
+    of_sum, of_count = divided(charge, shares, 2)
     total = single(view, summed(table, less(column, middle), low - middle, high - middle, where), charge=of_sum, part=part)
     rows = count(view, table, where, charge=of_count, part=part)
     asks = total.asks + rows.asks
@@ -224,7 +228,7 @@ def variance(view, table, column, low, high, where=None, charge=None, shares=(1,
     middle, size = middle_of(low, high)
     if size > MOST_SQUARED:
         raise ValueError(f"bounds of a variance are at most {2 * MOST_SQUARED} apart: ask of the column in a greater unit")
-    of_sum, of_squares, of_count = divided(charge, shares)
+    of_sum, of_squares, of_count = divided(charge, shares, 3)
     unit = unit_of(size * size, Fraction(of_squares))
     total = summed(table, less(column, middle), low - middle, high - middle, where)
     program, half = squares(table, column, low, high, unit, where)
@@ -238,7 +242,7 @@ def variance(view, table, column, low, high, where=None, charge=None, shares=(1,
 def unit_of(most, charge):
     """The least power of 2 in which squares up to `most` can be asked at this charge: one, or one that leaves no more than SHRUNK of them."""
     unit = 1
-    while unit < most and (FINE * most > 2 * unit * 10**6 * charge or (unit > 1 and most // unit >= SHRUNK)):
+    while 2 * unit <= most and (FINE * most > 2 * unit * 10**6 * charge or (unit > 1 and most // unit >= SHRUNK)):
         unit *= 2
     return unit
 
@@ -282,17 +286,24 @@ def quantile(view, table, column, share, low, high, where=None, charge=None, ste
     The charge is divided evenly among the steps, or by shares, a share a step. There are 8 steps, fewer where the bounds are near, or as many as
     are said: more tell more where the bounds are wide, and each of them less."""
     low, high = bounds(low, high)
-    share = Fraction(str(share))
-    if not 0 < share < 1 or share.denominator > 1000:
-        raise ValueError(f"a share is over 0 and under 1, of at most a thousandth, as 0.9, and not {share}")
+    share = share_of(share)
+    if steps is not None and not (isinstance(steps, int) and 1 <= steps <= MOST_STEPS):
+        raise ValueError(f"how many steps is a whole number from 1 to {MOST_STEPS}, and not {steps!r}")
     number = len(shares) if shares else steps or min((high - low).bit_length() + 2, STEPS)
-    charges = divided(charge, shares or [1] * number)
+    charges = divided(charge, shares or [1] * number, number)
 
     def ask(step, bound):
         program = summed(table, below(column, bound, share), -share.numerator, share.denominator - share.numerator, where)
         return view.ask(program, charge=charges[step], part=part)
 
     return Search([ask(step, (low + high) // 2) for step in range(number)], ask, low, high, share)
+
+
+def share_of(given):
+    share = fraction_of(given)
+    if share is None or not 0 < share < 1 or share.denominator > 1000:
+        raise ValueError(f"a share is over 0 and under 1, of at most a thousandth, as 0.9, and not {given}")
+    return share
 
 
 def median(view, table, column, low, high, where=None, charge=None, steps=None, shares=None, part=None):
@@ -304,8 +315,8 @@ class Search(Plan):
     """A search by bounds: each step asks of one, by how much the rows at or below it are more than their share."""
 
     def __init__(self, asks, ask, low, high, share):
-        margin = noise.one_sided(asks[-1].e, noise.each_of(len(asks), noise.LEVELS[1]))
-        rows = written(Fraction(margin, share.denominator))
+        margin = noise.one_sided(min(ask.e for ask in asks), noise.each_of(len(asks), noise.LEVELS[1]))
+        rows = written(Fraction(margin, share.denominator), ROUND_CEILING)
         note = f"A bound is told from the quantile, in 95 of 100 searches, where the rows at or below it are over {rows} more or fewer than their share."
         super().__init__(asks, None, note)
         self.ask, self.low, self.high = ask, low, high

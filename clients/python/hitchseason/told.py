@@ -7,18 +7,13 @@
 import re
 import textwrap
 
-from . import faults
-from .answers import PERCENTS, Crosstab, Groups, Top, laid_out, paid, units, written
+from . import borrowed, faults
+from .answers import PERCENTS, Crosstab, Groups, Top, ends_written, laid_out, paid, units, written
 
 MARK = re.compile(r" *\^+")
-# What moves a terminal's cursor, or turns the order of what is written.
-CONTROLS = re.compile("[\x00-\x08\x0b-\x1f\x7f-\x9f\u200e\u200f\u202a-\u202e\u2066-\u2069]")
 LEAST = 20
 
-
-def harmless(text):
-    """Without what a terminal would take for a command."""
-    return CONTROLS.sub(lambda found: found[0].encode("unicode_escape").decode(), text)
+harmless = borrowed.lines.harmless
 
 
 def folded(text, columns):
@@ -77,8 +72,7 @@ def answered(known, columns):
 
 
 def ends_of(known, percent):
-    low, high = known.interval(percent)
-    return f"{written(low)} to {written(high)}"
+    return ends_written(*known.interval(percent))
 
 
 def groups_table(groups, columns):

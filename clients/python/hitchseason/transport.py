@@ -6,6 +6,7 @@ where replies are missing and lines may have been answered all the same, or Fail
     Folder(FOLDER, ..)      runs `hitchseason run` in a folder, as an owner or who tries out does: the folder has the catalog, the key, the
                             tables and the journals. Who may read the key and the tables needs no answers.
     transport_of(PLACE)     the one that a place stands for: a folder's, or a service's (server.py)
+    published(FILE)         what tools/public --json wrote into a file
 """
 import fcntl
 import json
@@ -16,11 +17,13 @@ import subprocess
 import time
 from contextlib import contextmanager
 
-from .borrowed import TOP, meanings, public
+from .borrowed import TOP, lines, meanings, public
 from .faults import Failed
 
 NEVER_ASKED = (2, 3, 4, 6, 8)
 PAUSE = 0.1
+SCRIPT_LIMIT, MOST_PORT = lines.SCRIPT_LIMIT, 65_535
+OF_OWNERS = {"name", "budget", "capacity", "tables", "partitions"}
 
 
 class Stopped(Exception):
@@ -44,8 +47,7 @@ class Folder:
 
     def public(self):
         if self.given is not None:
-            with open(self.given, encoding="utf-8") as file:
-                return json.load(file)
+            return published(self.given)
         name = os.path.join(self.folder, self.catalog)
         try:
             with open(name, "rb") as file:
@@ -57,6 +59,9 @@ class Folder:
 
     def replies(self, lines):
         script = "".join(f"{line}\n" for line in lines).encode()
+        if len(script) > SCRIPT_LIMIT:
+            raise Failed(f"a run takes a script of at most {SCRIPT_LIMIT} bytes, and these asks have {len(script)}: ask fewer in a call, as of some keys at a "
+                "time. Nothing was asked.")
         with self.locked() as lock:
             ran = self.ran(script, lock)
         said = ran.stdout.decode(errors="backslashreplace")
@@ -125,14 +130,29 @@ def ended(status):
     return f"the run ended with status {status}, {meanings.STATUSES.get(status, 'which the program never ends with')}" if status else "replies are missing"
 
 
+def published(name):
+    with open(name, encoding="utf-8") as file:
+        try:
+            found = json.load(file)
+        except (ValueError, RecursionError):
+            found = None
+    owners = found.get("owners") if isinstance(found, dict) and isinstance(found.get("analysts"), list) else None
+    if not (isinstance(owners, list) and owners and all(isinstance(owner, dict) and OF_OWNERS <= owner.keys() for owner in owners)):
+        raise Failed(f"{name} isn't what tools/public --json writes")
+    return found
+
+
 def transport_of(place, public=None, ssh=("ssh",), words=(), wait=None, **of_folder):
     """A folder's; a service's behind `ssh://DESTINATION`, for which WORDS are ssh's own, or at `HOST:PORT`."""
     from .server import Address, Login
 
+    place = os.fspath(place)
     if place.startswith("ssh://"):
         return Login(place.removeprefix("ssh://"), public, ssh, words, wait)
     host, colon, port = place.rpartition(":")
-    if colon and port.isdigit() and not os.path.isdir(place):
+    if colon and port.isascii() and port.isdigit() and not os.path.isdir(place):
+        if len(port) > len(str(MOST_PORT)) or not 1 <= int(port) <= MOST_PORT:
+            raise Failed(f"{place}: a port is from 1 to {MOST_PORT}")
         return Address(host.strip("[]"), int(port), public, wait)
     if not os.path.isdir(place):
         raise Failed(f"{place} is no folder, no HOST:PORT and no ssh://DESTINATION")

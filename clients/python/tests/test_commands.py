@@ -90,6 +90,63 @@ class Commands(unittest.TestCase):
         self.assertIn("is `age` meant?\nline 1:\n", ran.stderr)
         self.assertIn("^^^^^^", ran.stderr)
 
+    def spent(self):
+        return json.loads(self.said("left", self.folder, "labour", "--json"))["spent"]
+
+    def test_levels(self):
+        """A level that is none is refused before anything is asked."""
+        before = self.spent()
+        for level in ("100", "foo", "0", "nan", "-1", "1e9999999"):
+            ran = tool("askparts", self.folder, "mia", "labour", "areas", "0.5", self.file, "--level", level)
+            self.assertEqual((ran.returncode, ran.stdout), (1, ""))
+            self.assertRegex(ran.stderr, "^tools/askparts: a level is over 0 and at most 99.999")
+        self.assertEqual(self.spent(), before)
+
+    def in_shell(self, line):
+        """What a line of a shell comes to, by Python as it buffers by itself."""
+        environment = {name: value for name, value in os.environ.items() if name != "PYTHONUNBUFFERED"}
+        words = {"folder": self.folder, "file": self.file, "empty": self.empty, "tools": f"{TOP}/tools"}
+        return subprocess.run(["bash", "-c", line.format(**words)], capture_output=True, text=True, env={**environment, "PROGRAM": PROGRAM})
+
+    def test_no_output(self):
+        """Where standard output is closed nothing is asked; where it fails that is said, and what is paid."""
+        before, asks = self.spent(), "{tools}/askparts {folder} mia labour areas 0.5 {file}"
+        for line, said in (
+            (f"{asks} >&-", "tools/askparts: standard output is closed\n"),
+            ("{tools}/left {folder} labour >&-", "tools/left: standard output is closed\n"),
+            ("{tools}/left /nowhere labour >&-", "tools/left: standard output is closed\n"),
+            ("{tools}/left {folder} labour >/dev/full", "tools/left: [Errno 28] No space left on device\n"),
+            ("{tools}/forecast {folder} labour 0.5 {file} >/dev/full", "tools/forecast: [Errno 28] No space left on device\n"),
+            ("{tools}/forecast {folder} labour x {file} >/dev/full", "tools/forecast: `x` is no number"),
+            ("{tools}/plot histogram <&-", "tools/plot: standard input is closed\n"),
+            ("{tools}/plot histogram {empty} >/dev/full 2>/dev/full", ""),
+        ):
+            ran = self.in_shell(line)
+            self.assertEqual((ran.returncode, ran.stdout), (1, ""), line)
+            self.assertTrue(ran.stderr.startswith(said), (line, ran.stderr))
+            self.assertLessEqual(ran.stderr.count("\n"), 1)
+        self.assertEqual(self.spent(), before)
+        ran = self.in_shell(f"{asks} >/dev/full")
+        said = r"tools/askparts: what it says can't be written: No space left on device; what was answered is paid, and tools/shell tells it again \(\\r N\): "
+        self.assertRegex(ran.stderr, f"^{said}numbers [0-9]+ to [0-9]+\n$")
+        self.assertEqual((ran.returncode, self.spent()), (1, before + 500_000))
+
+    def test_no_text(self):
+        """A program that isn't UTF-8, and a public file that is nested too deep, are told by their names."""
+        name = f"{self.folder}/latin"
+        with open(name, "wb") as file:
+            file.write(b'size persons + "\xe9"')
+        with open(name, "rb") as given:
+            for words in (name, "-"):
+                command = [f"{TOP}/tools/forecast", self.folder, "labour", "0.5", words]
+                ran = subprocess.run(command, stdin=given, capture_output=True, text=True, env={**os.environ, "PYTHONUTF8": "1"})
+                said = f"tools/forecast: {'standard input' if words == '-' else name} is no UTF-8, from byte 16 on\n"
+                self.assertEqual((ran.returncode, ran.stderr), (1, said))
+        with open(name, "w") as file:
+            file.write(10**5 * "[")
+        ran = tool("left", self.folder, "labour", "--public", name)
+        self.assertEqual((ran.returncode, ran.stderr), (1, f"tools/left: {name} isn't what tools/public --json writes\n"))
+
     def test_some_answered(self):
         """What was answered before a refusal is told."""
         with survey(budget=20_000_000, capacity=6) as place:

@@ -1,5 +1,6 @@
 """Runs that are cut: what the client finds of its asks by `recall`, and that it never asks again."""
 import fcntl
+import json
 import os
 import random
 import subprocess
@@ -89,6 +90,26 @@ class Cuts(unittest.TestCase):
         groups = self.client.histogram("areas", eps=1)
         self.assertEqual([answer.number for answer in groups.answers.values()], [0, 1, 2, 3, 4])
         self.assertTrue(all(answer.recalled for answer in groups.answers.values()))
+
+    def test_unknown(self):
+        """An analyst, or an owner, of the public file whom the catalog of the folder hasn't: nothing is asked, and no number is looked for."""
+        with open(f"{self.place.folder}/catalog.json") as file:
+            catalog = json.load(file)
+        for owner in catalog["owners"]:
+            for table in owner["tables"]:
+                del table["file"]
+        catalog["analysts"].append("eve")
+        catalog["owners"].append({**catalog["owners"][0], "name": "others"})
+        with open(f"{self.place.folder}/public.json", "w") as file:
+            json.dump(catalog, file)
+        for names, fault, said in ((("eve", "labour"), Refused, "no 12 1: nothing was asked."), (("mia", "others"), Failed, "no 12 1: the analyst")):
+            client = connect(self.place.folder, *names, program=PROGRAM, public=f"{self.place.folder}/public.json")
+            for call in (lambda: client.count("persons", eps=1), lambda: client.histogram("areas", eps=1)):
+                with self.assertRaises(fault) as caught:
+                    call()
+                self.assertTrue(str(caught.exception).startswith(said), caught.exception)
+                self.assertIsNone(client.pending)
+        self.assertEqual(self.spent(), (0, 0))
 
     def test_others(self):
         """Numbers of other analysts are none of its own."""

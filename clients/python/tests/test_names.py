@@ -11,7 +11,7 @@ import unittest
 from common import PROGRAM, Place, often
 from hitchseason import Refused, asks
 from hitchseason.borrowed import programs, runs, tables
-from hitchseason.names import BadName, written
+from hitchseason.names import BadName, tokens_of, written
 
 NAMES = "age income p q x y row _ p_ size in map people".split() + ["c" * 32, "C" * 31]
 TEXTS = ("a", "b", "")
@@ -241,22 +241,9 @@ def compare(seed):
     return not isinstance(said, str), named.count(".")
 
 
-def compared(seeds):
-    """Each of the seeds, or the first fault as it is raised: in a thread of its own, what is raised is lost."""
-    found = []
-    try:
-        for seed in seeds:
-            found.append(compare(seed))
-    except Exception as fault:
-        return fault
-    return [one for one in found if one]
-
-
 class Random(unittest.TestCase):
     def test_beside_those_by_hand(self):
-        found = programs.deep(lambda: compared(range(often(250, 2000))))
-        if isinstance(found, Exception):
-            raise found
+        found = programs.deep(lambda: [one for one in map(compare, range(often(250, 2000))) if one])
         accepted, columns = sum(one for one, _ in found), sum(count for _, count in found)
         self.assertGreater(accepted, len(found) * 0.8)
         print(f"    {accepted} accepted and {len(found) - accepted} refused programs, {columns} columns by name")
@@ -354,6 +341,18 @@ class ByHand(unittest.TestCase):
             self.assertEqual(str(caught.exception).split("\n")[0], said)
             self.assertEqual(caught.exception.reply, said.split("`")[-2])
 
+    def test_long(self):
+        """Programs that are far too long for what is sent are refused as such, wherever they name columns."""
+        view = asks.View({"owners": []}, {"name": "census", "tables": PEOPLE, "partitions": []})
+        column = "(fn (p : row people) => p.age)"
+        left, right = 31_000 * "(", 31_000 * ")"
+        for program in (f"size {left}{column}{right}", f"{left}1{right} + {column}", 4 * f"size people + {column} + {4000 * ' 1 +'}"):
+            with self.assertRaises(Refused) as caught:
+                view.ask(program, "0.5")
+            self.assertEqual(caught.exception.reply, "no 20 16000")
+        # Three tokens for one: as many as fit are read.
+        self.assertEqual(len(tokens_of(b"p.age " * 3000)), 9000)
+        self.assertEqual(len(tokens_of(b"p.age " * 5000)), 3 * programs.TOKEN_LIMIT + 1)
 
     def test_hints(self):
         """They speak of the client's calls, and of columns by their names."""

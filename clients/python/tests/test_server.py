@@ -355,8 +355,27 @@ class Served(unittest.TestCase):
                 self.assertTrue(ran.stdout.endswith("left; without an answer: west, capital\n"), ran.stdout)
 
 
+class Keeps(Between):
+    """Keeps its first connection for so long, and ends it; behind it each is told the same, or ended, too."""
+
+    def __init__(self, seconds, said):
+        self.seconds, self.said = [seconds], said
+        super().__init__(None)
+
+    def taken(self):
+        return (self.seconds.pop() if self.seconds else None,)
+
+    def serve(self, link, seconds):
+        with link, link.makefile("rb") as lines:
+            if seconds is not None:
+                time.sleep(seconds)
+            elif self.said:
+                for _ in lines:
+                    link.sendall(self.said)
+
+
 class Says(Between):
-    """What listens is another program: it says the same to whatever comes, and how many lines came is counted."""
+    """What listens is another program: it says the same to whatever comes, or one after the other, and how many lines came is counted."""
 
     def __init__(self, said, port=0):
         self.said, self.lines = said, []
@@ -369,7 +388,7 @@ class Says(Between):
         with link, link.makefile("rb") as lines:
             for line in lines:
                 self.lines.append(line)
-                link.sendall(self.said)
+                link.sendall(self.said if isinstance(self.said, bytes) else b"bye\n" if line == b"bye\n" else next(self.said))
 
 
 class OtherPrograms(unittest.TestCase):
@@ -437,6 +456,36 @@ class OtherPrograms(unittest.TestCase):
                     other.close()
         finally:
             server.PATIENCE = patience
+
+    def test_ends_behind_another(self):
+        """A service ends while it serves another connection, which took longer than one that isn't there is waited for: it is waited for from there on."""
+        kept = server.PATIENCE, server.TOLD_AFTER
+        self.addCleanup(lambda: (setattr(server, "PATIENCE", kept[0]), setattr(server, "TOLD_AFTER", kept[1])))
+        server.PATIENCE, server.TOLD_AFTER = 1, 0.2
+        for keeps, answers in ((1.5, True), (0, False)):
+            other = Keeps(keeps, b"left 0 20000000 0\n" if answers else None)
+            client = connect("127.0.0.1", other.port, "mia", "labour", public=self.public)
+            said = io.StringIO()
+            with redirect_stderr(said):
+                if answers:
+                    self.assertEqual(client.left().records, 0)
+                else:
+                    with self.assertRaises(Failed):
+                        client.left()
+            self.assertEqual("serves another connection" in said.getvalue(), answers)
+            other.close()
+
+    def test_hello_refused(self):
+        """By another connection than the one by which the next number was learnt: nothing was asked, and the client goes on."""
+        replies = iter([b"left 0 20000000 0\n", b"hello mia\n", *[b"no 60 0 0\n"] * 64, b"left 0 20000000 0\n", b"no 12 1\n", b"left 0 20000000 0\n"])
+        other = Says(replies)
+        client = connect("127.0.0.1", other.port, "mia", "labour", public=self.public)
+        client.learn()
+        with self.assertRaises(Refused) as caught:
+            client.count("persons", eps=1)
+        self.assertEqual((str(caught.exception), client.pending), ("no 12 1: nothing was asked.", None))
+        self.assertEqual(client.left().records, 0)
+        other.close()
 
     def test_refusals_of_a_service(self):
         """A line of the protocol is told as it was."""

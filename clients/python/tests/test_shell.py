@@ -108,6 +108,26 @@ class Pipes(unittest.TestCase):
             self.assertEqual((ran.returncode, asked(ran)), (1, []))
             self.assertIn(b"isn't asked", ran.stderr)
 
+    def test_commas(self):
+        """A key with a comma in it."""
+        with open(f"{TOP}/examples/survey/catalog.json") as file:
+            catalog = json.load(file)
+        owner = {**catalog["owners"][0], "budget": 10**12}
+        owner["tables"][0]["file"], owner["partitions"][0]["keys"] = "persons.csv", ["north,south", "west"]
+        rows = [[row[0].replace("north", "north,south"), *row[1:]] for row in rows_of(f"{TOP}/examples/survey/persons.csv")]
+        with Place({**catalog, "owners": [owner]}, {"persons.csv": rows}) as place:
+            lines = ["\\a count persons eps=100 part=areas,north,south", "\\p areas north,south", "\\e 100", "size persons;"]
+            said = piped(place.folder, *lines, words=("mia",)).stdout.decode().splitlines()
+            count = sum(row[0] == "north,south" for row in rows)
+            self.assertEqual([line.split()[0] for line in said[::2]], [str(count)] * 2)
+
+    def test_mark(self):
+        """What some editors write before the first line isn't of it."""
+        for before in ("\ufeff", "\ufeff\r\n"):
+            ran = piped(self.folder, given=f"{before}\\e 0.1\nsize persons;\n".encode())
+            self.assertEqual((ran.returncode, ran.stderr, len(asked(ran))), (0, b"", 1))
+        self.assertIn("line 2: ", self.refused("", "\ufeff\\d persons;"))
+
     def test_parts(self):
         keys = ["north", "south", "east", "west", "capital"]
         lines = self.said("\\e 0.5", "\\p areas", YOUNG, "", "\\p areas west", "size persons;", "\\p", "size persons;").splitlines()
@@ -154,6 +174,7 @@ class Pipes(unittest.TestCase):
         one, left, forecast, groups, mean, top, tenth, variance, again = map(json.loads, said)
         self.assertEqual((one["taken"], one["left"], one["sent"], one["recalled"]), (500_000, 19_500_000, "size persons", False))
         self.assertEqual(again, {**one, "taken": None, "left": None, "recalled": True})
+        self.assertEqual(json.loads(self.said("\\r 0", words=("mia", "labour", "--json"))), {"value": one["value"], "number": 0, "recalled": True})
         self.assertEqual((left["left"], forecast["charge"], len(groups["groups"])), (19_500_000, 500_000, 5))
         self.assertEqual((len(mean["numbers"]), len(top["top"]), top["taken"]), (2, 2, 500_000))
         for known in (mean, tenth, variance):
@@ -165,10 +186,12 @@ class Pipes(unittest.TestCase):
         lines += ["\\a median persons income 0 5000 charge=1 steps=3"]
         lines += ["\\a sum persons income 0 5000 charge=1", "\\a histogram areas eps=0.1 keys=north,west"]
         lines += ["\\a groups areas 'size persons' 'eps=0.1'"]
-        lines += ["\\a groups areas mean income 0 5000 charge=1 keys=north,west"]
+        lines += ["\\a groups areas mean income 0 5000 charge=1 keys=north,west", "\\a mean persons income 0 5000 charge=1 shares=1,2"]
         said = self.said(*lines)
-        self.assertEqual(len(re.findall("^numbers? ", said, re.M)), 7)
-        self.assertRegex(said.splitlines()[-1], "^numbers [0-9]+ to [0-9]+, 1 taken, ")
+        self.assertEqual(len(re.findall("^numbers? ", said, re.M)), 8)
+        self.assertRegex(said.splitlines()[-3], "^numbers [0-9]+ to [0-9]+, 1 taken, ")
+        # Of the price 1/3 and 2/3, whole EPS in millionths for a sensitivity of 2500 and of 1.
+        self.assertRegex(said.splitlines()[-1], "^numbers [0-9]+ [0-9]+, 0.999166 taken, ")
         for line, why in (
             ("\\a", "there is no statistic ``"),
             ("\\a maen persons", "is `mean` meant?"),
@@ -185,6 +208,10 @@ class Pipes(unittest.TestCase):
             ("\\a mean persons 'income 0 5 charge=1", "No closing quotation"),
             ("\\a count person eps=1", "is `persons` meant?"),
             ("\\a crosstab areas eps=1", "no partition by a joint column"),
+            ("\\a mean persons income 0 5000 charge=1 shares=1/0,2", "shares are numbers over 0, one for each of the 2 asks"),
+            ("\\a median persons income 0 5000 charge=1 steps=-1", "how many steps is a whole number from 1 to 1000, and not -1"),
+            ("\\a quantile persons income 1/0 0 5000 charge=1", "a share is over 0 and under 1, of at most a thousandth, as 0.9, and not 1/0"),
+            ("\\a top areas 2 eps=1 percent=nan", "a level is over 0"),
             ("\\a mean persons income 0 5000 charge=100", "none of them was asked"),
         ):
             self.assertIn(why, self.refused(line), line)
@@ -199,6 +226,7 @@ class Pipes(unittest.TestCase):
             ("size persons;", "\\e 0.5 sets one, and \\g asks then"),
             ("\\e 1e3", "write 1000"),
             ("\\e 0", "EPS is 0.000001 to 1000"),
+            ("\\e 1e400", "`1e400` is over 1000"),
             ("\\e", "no epsilon is set"),
             ("\\g", "no program that waits"),
             ("\\f", "there is no program yet"),
