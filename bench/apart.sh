@@ -2,7 +2,7 @@
 # Times how far two tables of 2^20 rows of numbers are apart, in a program that is proved and built for it.
 # usage: bench/apart.sh [ROUNDS]
 # Bar: 2 seconds of processor time for both tables and their distance.
-. "$(dirname "$0")/common.sh"
+. "$(dirname "$0")/../tests/lib/common.sh"
 rounds=${1:-3}
 need_tool /usr/bin/time time
 make_room

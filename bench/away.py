@@ -15,6 +15,8 @@ import time
 from statistics import median
 
 os.environ.setdefault("PROGRAM", f"{os.path.dirname(os.path.dirname(os.path.abspath(__file__)))}/crates/hitchseason/out/hitchseason")
+sys.path.insert(0, f"{os.path.dirname(os.path.abspath(__file__))}/../tests/lib")
+import places  # noqa: E402,F401
 from beginning import numbers  # noqa: E402
 import served  # noqa: E402
 from journal import ONE, WHOLE, Reservation, Settlement, appended, made  # noqa: E402

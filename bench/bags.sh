@@ -8,7 +8,7 @@
 # answer or in `no 51` within 2 GB of address space; the deepest values and runs, and 64 walks within one another, end well on a stack of
 # 1 MiB; and 40 lets that each use the bag before twice are told `no 90` within a second. It ends with status 1 where one isn't met.
 # A cost is that of a script with many asks of a program, less that of one with one, by ask: the least of the rounds.
-. "$(dirname "$0")/common.sh"
+. "$(dirname "$0")/../tests/lib/common.sh"
 rounds=${1:-5}
 need_program
 need_tool /usr/bin/time time
@@ -59,7 +59,7 @@ query() {
 }
 # exact EPSILON ANSWER: the value in a first answer, by the second implementation's noise.
 exact() {
-    python3 - "$top/tools" "$1" "$2" <<'END'
+    python3 - "$top/tools/lib" "$1" "$2" <<'END'
 import sys
 sys.path.insert(0, sys.argv[1])
 from reference import key_draws, millionths, noise
@@ -143,10 +143,11 @@ above() {
 
 # turns: a program of 20,000 turns and without bags, in which functions call the one before twice.
 turns() {
-    python3 - "$top/bench" <<'END'
+    python3 - "$top/tests/lib" <<'END'
 import random
 import sys
 sys.path.insert(0, sys.argv[1])
+import places
 from random_programs import turning
 print(turning(random.Random(1), 12, "x", 20_000, "7"))
 END

@@ -7,7 +7,7 @@
 # and take at most 256 KiB more than a short program. It ends with status 1 where one isn't met.
 # A cost is processor time, the least of the rounds. Beside each program of the first part stands what reading alone costs:
 # the same program with a name near its front that nothing binds, which ends the checking there.
-. "$(dirname "$0")/common.sh"
+. "$(dirname "$0")/../tests/lib/common.sh"
 rounds=${1:-5}
 need_program
 need_tool /usr/bin/time time

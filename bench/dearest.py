@@ -5,7 +5,7 @@ usage: bench/dearest.py [SECONDS]    (PROGRAM=FILE times another build; SECONDS 
 Of each depth there are two: the shortest program, a `filter` in `map`s of the table; and the longest, of nearly 20,000 turns in the innermost
 function, over bags 64, 8 and 4 tables wide, since a program may walk 64 bags, by whichever of some bodies takes longest a turn. Beside them is a
 `filter` of a `map` over a bag of 64 tables, which makes pairs. All are charged nothing. First a program is timed over tables of 1, 2, 4, .. rows
-until it takes a second. By what it takes for each visit of a row or a term (tools/walks.py says how many there are at most, and here
+until it takes a second. By what it takes for each visit of a row or a term (tools/lib/walks.py says how many there are at most, and here
 none is left out) the rest is worked out, in parentheses. What would then take over twice SECONDS isn't run.
 It ends with status 1 where a program isn't accepted, has another depth, or isn't answered.
 """
@@ -18,9 +18,10 @@ import tempfile
 import time
 from functools import cache
 
-TOP = os.path.dirname(os.path.dirname(os.path.abspath(__file__)))
+sys.path.insert(0, f"{os.path.dirname(os.path.abspath(__file__))}/../tests/lib")
+from places import TOP  # noqa: E402
+
 PROGRAM = os.path.abspath(os.environ.get("PROGRAM", f"{TOP}/crates/hitchseason/out/hitchseason"))
-sys.path.insert(0, f"{TOP}/tools")
 import random_programs  # noqa: E402
 from afresh import renew  # noqa: E402
 from catalog import catalog, owner  # noqa: E402

@@ -1,7 +1,7 @@
 #!/usr/bin/env bash
 # A script of 2^24 line ends, the longest that is taken, and one a byte longer: time, peak memory, status and output.
 # usage: bench/empty_lines.sh [ROUNDS]    (PROGRAM=FILE measures another build)
-. "$(dirname "$0")/common.sh"
+. "$(dirname "$0")/../tests/lib/common.sh"
 rounds=${1:-3}
 need_program
 need_tool /usr/bin/time time

@@ -2,7 +2,7 @@
 # Compares a table of 2^20 rows with another one: the whole command, and what is left of it without the comparison.
 # usage: bench/gap.sh [ROUNDS]    (PROGRAM=FILE measures another build)
 # Bar: the whole command takes under 2 seconds. It ends with status 1 where that isn't met.
-. "$(dirname "$0")/common.sh"
+. "$(dirname "$0")/../tests/lib/common.sh"
 rounds=${1:-3}
 need_program
 make_room

@@ -16,6 +16,8 @@ import tempfile
 import threading
 import time
 
+sys.path.insert(0, f"{os.path.dirname(os.path.abspath(__file__))}/../tests/lib")
+import places  # noqa: E402,F401
 from beginning import numbers
 from served import NAMES, Room, Service, Wrong, need_program, place
 

@@ -8,7 +8,7 @@
 # 1.1 times as long as one behind none; the dearest ask, which opens the area of 262,144 slots, at most 1.5 times the loop's; `audit` of 131,072
 # reservations with their settlements under 0.25 seconds; at most 128 bytes of memory a record. Each time is the least of the rounds. It ends with
 # status 1 where one isn't met.
-. "$(dirname "$0")/common.sh"
+. "$(dirname "$0")/../tests/lib/common.sh"
 rounds=${1:-7}
 disk=${2:-$top/out}
 answers=2000
@@ -36,7 +36,7 @@ asks "$behind" >some
 asks 0 >none
 # filled RECORDS FILE [VERSION]: a journal of full.json with so many records, each reservation with its settlement; of version 3, unless said.
 filled() {
-    python3 - "$top/tools" "$1" "$2" "${3:-3}" <<'END'
+    python3 - "$top/tools/lib" "$1" "$2" "${3:-3}" <<'END'
 import sys
 sys.path.insert(0, sys.argv[1])
 from journal import ONE, WHOLE, Reservation, Settlement, appended, contents, header, made
@@ -127,8 +127,8 @@ if [ -d /dev/shm ]; then
 fi
 few=$(one_behind 0)
 many=$(one_behind 200000)
-bar "an ask behind 200,000 records" "$many us" "1.1 * $few us" "$many <= 1.1 * $few"
-echo "    behind 4,100, where no area is opened as behind 200,000, $(one_behind 4100) us; behind none six are opened"
+bar "an ask after 200,000 records" "$many us" "1.1 * $few us" "$many <= 1.1 * $few"
+echo "    after 4,100, where no area is opened as after 200,000, $(one_behind 4100) us; after none six are opened"
 filled 131072 filled.bud
 echo "hello ann
 ask census 1 size people" >one

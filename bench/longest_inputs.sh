@@ -3,7 +3,7 @@
 # Bar of a table: at most 8 times its file and 64 MB, 586,788 KiB. A record of 2^26 fields takes the csv crate 8 bytes a field beside the
 # file's own, so the two of commas are some 5 MB over it.
 # usage: bench/longest_inputs.sh    (PROGRAM=FILE measures another build)
-. "$(dirname "$0")/common.sh"
+. "$(dirname "$0")/../tests/lib/common.sh"
 need_program
 need_tool /usr/bin/time time
 make_room

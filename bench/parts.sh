@@ -7,7 +7,7 @@
 # usage: bench/parts.sh [KEYS]    (PROGRAM=FILE measures another build)
 # It ends with status 1 where they take more.
 set -euo pipefail
-. "$(dirname "$0")/common.sh"
+. "$(dirname "$0")/../tests/lib/common.sh"
 need_program
 need_tool python3 python3
 program=$(realpath "$program")

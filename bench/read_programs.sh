@@ -5,7 +5,7 @@
 # Bars: under 5 ms a program, and at most 2.3 times what half of it costs. It ends with status 1 where one isn't met.
 # A cost is the processor time of 1,000 pairs of lines, less that of the short ones: the least of the rounds. The names are
 # unbound, so that the first of them ends what comes after the reading.
-. "$(dirname "$0")/common.sh"
+. "$(dirname "$0")/../tests/lib/common.sh"
 rounds=${1:-5}
 need_program
 make_room

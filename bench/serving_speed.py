@@ -19,6 +19,8 @@ import time
 from statistics import median
 
 os.environ.setdefault("PROGRAM", f"{os.path.dirname(os.path.dirname(os.path.abspath(__file__)))}/crates/hitchseason/out/hitchseason")
+sys.path.insert(0, f"{os.path.dirname(os.path.abspath(__file__))}/../tests/lib")
+import places  # noqa: E402,F401
 from beginning import numbers  # noqa: E402
 from served import MEMORY, PROGRAM, TOP, Room, Service, Wrong, free_ports, is_listened_at  # noqa: E402
 

@@ -3,7 +3,7 @@
 # usage: bench/table.sh [ROUNDS]    (PROGRAM=FILE measures another build)
 # Bars: of one column of numbers, a fifth of sqlite3's wall time; of four columns, two of them texts, a third; and a peak of at most 8
 # times the file and 64 MB. It ends with status 1 where one isn't met.
-. "$(dirname "$0")/common.sh"
+. "$(dirname "$0")/../tests/lib/common.sh"
 rounds=${1:-7}
 need_program
 need_tool /usr/bin/time time

@@ -28,9 +28,10 @@ import tempfile
 import time
 from statistics import median
 
-TOP = os.path.dirname(os.path.dirname(os.path.abspath(__file__)))
+sys.path.insert(0, f"{os.path.dirname(os.path.abspath(__file__))}/../tests/lib")
+from places import TOP  # noqa: E402
+
 PROGRAM = os.path.abspath(os.environ.get("PROGRAM", f"{TOP}/crates/hitchseason/out/hitchseason"))
-sys.path.insert(0, f"{TOP}/tools")
 from catalog import catalog, owner  # noqa: E402
 
 OWNERS = ("o1", "o2", "o3", "o4")
@@ -125,7 +126,7 @@ def one_worker(table, rounds, answers, disk, loop):
     folder = Folder(disk, OWNERS[:1], 3, answers)
     folder.script("script", [(OWNERS[0], answers, SHORT)])
     (ours, _), (theirs, _) = in_turn(rounds, lambda: timed([folder], "script", 1, answers), lambda: looped(loop, disk, 1, answers))
-    table.row(f"{answers} asks, one worker, on the disk, beside the loop", f"{ours:.3f} s", f"1.25 * {theirs:.3f} s", ours <= 1.25 * theirs)
+    table.row(f"{answers} asks, one worker, on the disk, next to the loop", f"{ours:.3f} s", f"1.25 * {theirs:.3f} s", ours <= 1.25 * theirs)
 
 
 def four_in_memory(table, rounds, answers):
@@ -137,7 +138,7 @@ def four_in_memory(table, rounds, answers):
         rounds, lambda: timed([all_of_them], "script", 4, 4 * answers), lambda: timed(apart, "script", 1, 4 * answers)
     )
     ours, theirs = 4 * answers / ours, 4 * answers / theirs
-    table.row("4 workers, 4 owners, in memory, beside 4 processes", f"{ours:.0f} a second", f"0.75 * {theirs:.0f} a second", ours >= 0.75 * theirs)
+    table.row("4 workers, 4 owners, in memory, next to 4 processes", f"{ours:.0f} a second", f"0.75 * {theirs:.0f} a second", ours >= 0.75 * theirs)
     print(f"    processor time an answer {used / answers / 4 * 1000:.3f} ms, of the 4 processes {used_apart / answers / 4 * 1000:.3f} ms")
 
 
@@ -146,7 +147,7 @@ def four_on_disk(table, rounds, answers, disk, loop):
     folder.script("script", [(name, answers, SHORT) for name in OWNERS])
     (ours, _), (theirs, _) = in_turn(rounds, lambda: timed([folder], "script", 4, 4 * answers), lambda: looped(loop, disk, 4, answers))
     ours, theirs = 4 * answers / ours, 4 * answers / theirs
-    table.row("4 workers, 4 owners, on the disk, beside 4 loops", f"{ours:.0f} a second", f"0.8 * {theirs:.0f} a second", ours >= 0.8 * theirs)
+    table.row("4 workers, 4 owners, on the disk, next to 4 loops", f"{ours:.0f} a second", f"0.8 * {theirs:.0f} a second", ours >= 0.8 * theirs)
 
 
 def at_one_owner(table, rounds, answers, place, where):

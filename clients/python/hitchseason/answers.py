@@ -7,8 +7,9 @@ from decimal import ROUND_CEILING, ROUND_FLOOR, ROUND_HALF_EVEN, Decimal, localc
 from fractions import Fraction
 from math import inf, isfinite, nextafter
 
-from . import noise, pictures
+from . import grids, noise, pictures
 from .borrowed import explain
+from .shows import Drawn, Shown, lines_html
 
 PERCENTS = ("50", "95", "99.9")
 
@@ -40,24 +41,43 @@ def units(millionths):
     return f"{Decimal(millionths) / 10**6:f}"
 
 
-class Left:
-    """What is spent of a budget, in millionths, and how many records there are."""
+def for_person(millionths, rows):
+    """Epsilon for a person, in units: what is said of a price where it is known how many rows a person may have."""
+    return "" if rows is None else f" ({units(millionths * rows)} for a person)"
 
-    def __init__(self, owner, spent, budget, records, time):
-        self.owner, self.spent, self.budget, self.records, self.time = owner, spent, budget, records, time
+
+class Left:
+    """What is spent of a budget, in millionths, and how many records there are; `person` is how many rows a person may have, or nothing."""
+
+    def __init__(self, owner, spent, budget, records, time, person=None):
+        self.owner, self.spent, self.budget, self.records, self.time, self.person = owner, spent, budget, records, time, person
 
     @property
     def left(self):
         return self.budget - self.spent
 
     def as_dict(self):
-        return {"owner": self.owner, "time": self.time, "spent": self.spent, "budget": self.budget, "left": self.left, "records": self.records}
+        told = {"owner": self.owner, "time": self.time, "spent": self.spent, "budget": self.budget, "left": self.left, "records": self.records}
+        return told if self.person is None else {**told, "person_rows": self.person, "person_spent": self.spent * self.person}
+
+    def _repr_html_(self):
+        return lines_html(self)
 
     def __str__(self):
-        return f"{self.owner}: {units(self.left)} left of {units(self.budget)}, {units(self.spent)} spent; {self.records} records"
+        said = f"{self.owner}: {units(self.left)} left of {units(self.budget)}, {units(self.spent)} spent; {self.records} records"
+        if self.person is None:
+            return said
+        spent, budget = (units(millionths * self.person) for millionths in (self.spent, self.budget))
+        return f"{said}; epsilon for a person, who has at most {rows_said(self.person)}: {spent} spent of {budget}"
+
+    __repr__ = __str__
 
 
-class Known:
+def rows_said(rows):
+    return f"{rows} row{'' if rows == 1 else 's'}"
+
+
+class Known(Shown):
     """A value with intervals: `value`, `interval(PERCENT)`, `taken` in millionths, `left` (a Left), the answers' `numbers`."""
 
     def at(self, level):
@@ -75,16 +95,30 @@ class Known:
         left = self.left.left if self.left else None
         return {"value": exact(self.value), "intervals": ends, "taken": self.taken, "left": left, "numbers": self.numbers}
 
+    def row(self):
+        """As tools/askparts --csv has it."""
+        ends = {f"{side}_{percent}": exact(end) for percent, ends in self.intervals().items() for side, end in zip(("low", "high"), ends)}
+        number = {"number": self.numbers[0]} if isinstance(self, Answer) else {"numbers": self.numbers}
+        return {"value": exact(self.value), **ends, **number, "taken": self.taken}
+
+    def as_rows(self):
+        return [self.row()]
+
+    def table(self):
+        ends = [(f"{percent} of 100", ends_written(*self.interval(percent))) for percent in PERCENTS]
+        return ["value", *(head for head, _ in ends)], [[written(self.value), *(said for _, said in ends)]]
+
+    def below(self):
+        return paid(self)
+
     def __str__(self):
         return f"{written(self.value)} (95 of 100: {ends_written(*self.interval(95))}); {paid(self)}"
-
-    __repr__ = __str__
 
 
 def paid(known):
     """Which numbers it has, what it took, and what is left."""
     left = f", {units(known.left.left)} left" if known.left else ""
-    taken = "recalled" if known.taken is None else f"{units(known.taken)} taken"
+    taken = "recalled" if known.taken is None else f"{units(known.taken)} taken{for_person(known.taken, known.left and known.left.person)}"
     return f"{numbers_said(known.numbers)}, {taken}{left}"
 
 
@@ -161,7 +195,7 @@ def total(answers):
     return Worked(value, answers, ends)
 
 
-class Groups:
+class Groups(Drawn):
     """What is known of each key of a partition, in its order: an answer, or what is worked out of several."""
 
     def __init__(self, partition, answers):
@@ -218,11 +252,20 @@ class Groups:
 
         return Top(self, [(key, self.answers[key], sure(key)) for key in order], percent)
 
+    def as_rows(self):
+        return [{"key": key, **answer.row()} for key, answer in self.items()]
+
+    def table(self):
+        return ["", "value", "95 of 100"], [[key, written(answer.value), ends_written(*answer.interval(95))] for key, answer in self.items()]
+
+    def below(self):
+        return paid(self)
+
     def svg(self, title=None, percent="95"):
         """The histogram with its error bars, as tools/plot draws it; of what has a point in it, the digits that count."""
         groups, percent = self.as_dict(), str(percent)
         bars = [(key, rounded(value), rounded(low, ROUND_FLOOR), rounded(high, ROUND_CEILING)) for key, value, low, high in pictures.bars_of(groups, percent)]
-        return pictures.histogram_svg(bars, title or self.partition, percent, pictures.eps_of(groups))
+        return pictures.histogram_svg(bars, title or self.partition, percent, pictures.eps_of(groups), pictures.least_of(groups, percent))
 
     def as_dict(self):
         return {"partition": self.partition, "taken": self.taken, "groups": {key: answer.as_dict() for key, answer in self.items()}}
@@ -231,7 +274,7 @@ class Groups:
         return "\n".join(f"{key}: {answer}" for key, answer in self.items())
 
 
-class Top:
+class Top(Shown):
     """Of GROUPS the keys with the greatest answers: each with its answer, and whether it is surely among the so many greatest."""
 
     def __init__(self, groups, found, percent):
@@ -248,6 +291,15 @@ class Top:
         found = [{"key": key, "surely": sure, **answer.as_dict()} for key, answer, sure in self.found]
         return {"partition": self.groups.partition, "taken": self.taken, "percent": str(self.percent), "top": found}
 
+    def as_rows(self):
+        return [{"key": key, "surely": sure, **answer.row()} for key, answer, sure in self.found]
+
+    def table(self):
+        return ["", "value", "among them"], [[key, short(answer), "surely" if sure else "perhaps"] for key, answer, sure in self.found]
+
+    def below(self):
+        return paid(self)
+
     def __str__(self):
         return laid_out([[key, short(answer), "surely" if sure else "perhaps"] for key, answer, sure in self.found])
 
@@ -261,6 +313,7 @@ class Crosstab(Groups):
         odd = [key for key, found in parts.items() if len(found) != 2]
         if odd:
             raise ValueError(f"`{odd[0]}` isn't two keys with one `{separator}` between them: {partition} is no partition by a joint column")
+        self.separator = separator
         self.cells = {tuple(found): answers[key] for key, found in parts.items()}
         self.rows = list(dict.fromkeys(row for row, _ in self.cells))
         self.columns = list(dict.fromkeys(column for _, column in self.cells))
@@ -276,10 +329,22 @@ class Crosstab(Groups):
         columns = {column: self.column_total(column).as_dict() for column in self.columns}
         return {**super().as_dict(), "totals": {"rows": rows, "columns": columns, "all": self.total().as_dict()}}
 
-    def __str__(self):
+    def as_rows(self):
+        return [{"row": row, "column": column, **answer.row()} for (row, column), answer in self.cells.items()]
+
+    def svg(self, title=None, percent="95"):
+        """The grid of cells, each shaded by its value, with totals."""
+        groups, percent = self.as_dict(), str(percent)
+        return grids.grid_svg(grids.table_of(groups, percent, self.separator), title or self.partition, percent, pictures.eps_of(groups))
+
+    def table(self):
         head = ["", *self.columns, "total"]
         rows = [[row, *(self.cell(row, column) for column in self.columns), short(self.row_total(row))] for row in self.rows]
         rows.append(["total", *(short(self.column_total(column)) for column in self.columns), short(self.total())])
+        return head, rows
+
+    def __str__(self):
+        head, rows = self.table()
         return laid_out([head, *rows])
 
     def cell(self, row, column):

@@ -8,9 +8,10 @@
 from decimal import Decimal, InvalidOperation
 from math import ceil
 
-from . import faults, names, noise
-from .answers import PERCENTS, units
-from .borrowed import explain, lines, program_parts, programs
+from . import faults, noise
+from .answers import PERCENTS, for_person, rows_said, units
+from .borrowed import explain, lines, names, program_parts, programs, public
+from .shows import lines_html
 
 # In millionths; no budget is greater.
 MOST_EPS, MOST_CHARGE = 10**9, 10**18
@@ -92,12 +93,10 @@ class Ask:
 
 
 class Forgotten:
-    """An ask of which the owner and EPS alone are said."""
+    """An ask of an earlier session: its owner and EPS, and its program and part where these are known."""
 
-    sent = part = None
-
-    def __init__(self, owner, e):
-        self.owner, self.e = owner, e
+    def __init__(self, owner, e, sent=None, part=None):
+        self.owner, self.e, self.sent, self.part = owner, e, sent, part
 
 
 class View:
@@ -109,6 +108,11 @@ class View:
     @property
     def name(self):
         return self.entry["name"]
+
+    @property
+    def person(self):
+        """How many rows a person may have in the owner's tables together, by which epsilon for a person is reckoned; nothing where that isn't said."""
+        return public.rows_of_person(self.entry["tables"])
 
     def named(self, what, name, entries):
         found = next((entry for entry in entries if entry["name"] == name), None)
@@ -187,10 +191,11 @@ def charge_of(asks):
 
 class Forecast:
     """Before anything is asked: the `charge` in millionths, of parts the most that it can be, and for each kind of ask its margins. `left` is what was
-    left when that was told last, or nothing; the margins of `sums` are those of sums of answers, as totals."""
+    left when that was told last, or nothing; the margins of `sums` are those of sums of answers, as totals; `person` is how many rows a person may have,
+    or nothing."""
 
-    def __init__(self, plan, left=None, budget=None):
-        self.asks, self.note, self.sums, self.left, self.budget = plan.asks, plan.note, plan.sums, left, budget
+    def __init__(self, plan, left=None, budget=None, person=None):
+        self.asks, self.note, self.sums, self.left, self.budget, self.person = plan.asks, plan.note, plan.sums, left, budget, person
         self.charge = charge_of(self.asks)
 
     def kinds(self):
@@ -237,20 +242,28 @@ class Forecast:
         ]
         sums = [{"name": name, "answers": count, "margins": margins} for name, count, margins in self.margins_of_sums()]
         told = {"charge": self.charge, "at_most": self.at_most(), "left": self.left, "too_much": bool(self.too_much())}
+        if self.person is not None:
+            told.update(person_rows=self.person, person_charge=self.charge * self.person)
         return {**told, "kinds": kinds, "sums": sums, "note": self.note}
 
     def __str__(self):
         most = "at most " if self.at_most() else ""
         said = [f"charge: {most}{units(self.charge)} ({len(self.asks)} {'ask' if len(self.asks) == 1 else 'asks'})"]
+        if self.person is not None:
+            said.append(f"epsilon for a person, who has at most {rows_said(self.person)}: {most}{units(self.charge * self.person)}")
         for ask, count in self.kinds():
             margins = {percent: noise.margin(ask.e, noise.level_of(percent)) for percent in PERCENTS}
             sensitivity = programs.sensitivity_text(ask.sensitivity)
             times = f"{count} times " if count > 1 else ""
-            said.append(f"{times}EPS {explain.in_units(ask.e)}, sensitivity {sensitivity}, charge {units(ask.charge)}: {told(margins)}")
+            charge = f"{units(ask.charge)}{for_person(ask.charge, self.person)}"
+            said.append(f"{times}EPS {explain.in_units(ask.e)}, sensitivity {sensitivity}, charge {charge}: {told(margins)}")
         said += [f"{name}, of {count} answers: {told(margins)}" for name, count, margins in self.margins_of_sums()]
         return "\n".join(said + ([self.note] if self.note else []) + self.too_much())
 
     __repr__ = __str__
+
+    def _repr_html_(self):
+        return lines_html(self)
 
 
 def told(margins):

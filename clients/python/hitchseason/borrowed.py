@@ -1,5 +1,6 @@
-"""What the package takes of the repository's tools, which stand in `tools/` at its top: words of refusals, the language's second reader, and
-what an owner gives to analysts. Nothing of it is copied here.
+"""What the package takes of the repository's tools, which stand in `tools/` at its top, and their modules in `tools/lib/`: words of refusals, the
+language's second reader, and what an owner gives to analysts. Nothing of it is copied here; where the package is installed without the repository,
+they stand in its own folder (backend/wheels.py).
 
 The tools import one another by short names (`tables`, `lines`), by which whoever imports the package may mean other modules: so these names stand
 for tools only while the tools are loaded, and sys.path is left as it was.
@@ -8,10 +9,12 @@ import importlib.machinery
 import importlib.util
 import sys
 from os import listdir
-from os.path import abspath, dirname
+from os.path import abspath, dirname, isdir
 
-TOP = dirname(dirname(dirname(dirname(abspath(__file__)))))
+HERE = dirname(abspath(__file__))
+TOP = HERE if isdir(f"{HERE}/tools/lib") else dirname(dirname(dirname(HERE)))
 TOOLS = f"{TOP}/tools"
+LIB = f"{TOOLS}/lib"
 
 
 def command(name):
@@ -26,12 +29,14 @@ def command(name):
     return module
 
 
-NAMES = [name.removesuffix(".py") for name in listdir(TOOLS) if name.endswith(".py")]
+NAMES = [name.removesuffix(".py") for name in listdir(LIB) if name.endswith(".py")]
 others, path = {name: sys.modules.pop(name) for name in NAMES if name in sys.modules}, list(sys.path)
-sys.path.insert(0, TOOLS)
+sys.path.insert(0, LIB)
 try:
     import lines
     import meanings
+    import name_hints
+    import names
     import program_parts
     import programs
     import runs
@@ -46,4 +51,4 @@ finally:
         sys.modules.pop(name, None)
     sys.modules.update(others)
 
-__all__ = ["TOOLS", "TOP", "explain", "lines", "meanings", "program_parts", "programs", "public", "runs", "sql_words", "tables"]
+__all__ = ["TOOLS", "TOP", "explain", "lines", "meanings", "name_hints", "names", "program_parts", "programs", "public", "runs", "sql_words", "tables"]

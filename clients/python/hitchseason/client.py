@@ -16,6 +16,8 @@ from .asks import Forecast, Forgotten, View, charge_of, price
 from .borrowed import meanings
 from .cuts import Kept, Pending, least_of
 from .faults import BadCall, Cut, Failed, Fault, Refused, Unanswered, known, of_reply
+from .shows import lines_html
+from .told import owner_told
 from .transport import Stopped, Waited, transport_of
 
 RECALLS = 64
@@ -24,6 +26,12 @@ PLANS = {
     "quantile": statistics.quantile, "variance": statistics.variance, "groups": statistics.groups, "histogram": statistics.histogram,
     "crosstab": statistics.crosstab, "top": statistics.top,
 }  # fmt: skip
+
+
+def must_be_reply(reply):
+    """A line that a service, or its door, says."""
+    if meanings.meaning(reply) is None and not reply.startswith("door "):
+        raise Failed(f"`{reply}` is no reply of a service.", reply)
 
 
 def connect(place, *names, **words):
@@ -155,10 +163,20 @@ class Client:
 
     # What costs nothing.
 
+    def __str__(self):
+        """The owner's tables and partitions, and the budget as it was told last."""
+        return owner_told(self.view, self.known)
+
+    __repr__ = __str__
+
+    def _repr_html_(self):
+        return lines_html(self)
+
     def forecast(self, name, *words, **more):
         """What a call would be charged, and how far its answers are off: forecast("count", "people", eps=0.5). It asks nothing. What is left is known
         from the last answer or the last left(); else it is compared with the catalog's budget, which the owner may have raised since."""
-        return Forecast(self.plan(name, *words, **more), self.known.left if self.known else None, self.view.entry["budget"])
+        plan = self.plan(name, *words, **more)
+        return Forecast(plan, self.known.left if self.known else None, self.view.entry["budget"], self.view.person)
 
     def sent(self, program):
         """A program as it is sent, with its columns' names written out."""
@@ -175,6 +193,7 @@ class Client:
         except ValueError as fault:
             raise BadCall(str(fault)) from None
         reply = self.told([self.hello(), f"recall {self.view.name} {number}"])[1]
+        must_be_reply(reply)
         words = reply.split(" ")
         if words[0] != "recall":
             raise Refused(f"{reply}: {meanings.meaning(reply)}.", reply)
@@ -193,9 +212,10 @@ class Client:
 
     def left_of(self, reply):
         words = reply.split(" ")
+        must_be_reply(reply)
         if words[0] != "left":
             raise Failed(f"{reply}: {meanings.meaning(reply)}.", reply)
-        self.known = Left(self.view.name, *map(int, words[1:4]), time.strftime("%Y-%m-%dT%H:%M:%SZ", time.gmtime()))
+        self.known = Left(self.view.name, *map(int, words[1:4]), time.strftime("%Y-%m-%dT%H:%M:%SZ", time.gmtime()), self.view.person)
         return self.known
 
     # Asking.
@@ -276,6 +296,7 @@ class Client:
                 said = " ".join(replies[0])
                 raise Refused(f"{said}: nothing was asked.", said)
             for number, words in enumerate(replies[1:-1], at):
+                must_be_reply(" ".join(words))
                 if words[:2] == ["no", "60"]:
                     return number, found, self.left_of(" ".join(replies[-1]))
                 if words[0] == "recall":
@@ -283,6 +304,9 @@ class Client:
                 elif words[:2] != ["no", "61"]:
                     raise Failed(f"`{' '.join(words)}` is no reply to a recall.", " ".join(words))
             at += RECALLS
+            # Each number has a record at least, and there is room for so many.
+            if at > min(self.left_of(" ".join(replies[-1])).records, self.view.entry["capacity"]):
+                raise Failed("more numbers are recalled than were reserved: what answers is no hitchseason service, or its catalog is another.")
 
     def recover(self, why=""):
         """What came of the asks of a run that was cut: the replies that were heard, and behind them `recall`, which costs nothing. Their answers, where the

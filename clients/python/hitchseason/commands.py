@@ -6,14 +6,14 @@ import json
 import os
 import sys
 
-from . import noise, pictures
-from .answers import PERCENTS, Groups, numbers_said, units
+from . import grids, noise, pictures
+from .answers import PERCENTS, Groups, for_person, laid_out, numbers_said, units
 from .client import connect
 from .faults import Fault
 from .transport import Waited
 
 FOLDER = ("public", "program", "catalog", "key")
-WRITES = {"histogram": "tools/askparts --json", "budget": "tools/left --json"}
+WRITES = {"histogram": "tools/askparts --json", "crosstab": "tools/askparts --json", "budget": "tools/left --json"}
 
 
 def place_words(parser):
@@ -125,7 +125,9 @@ def text_lines(groups, percent, missing):
     rows = [[key, str(answer.value), "{} to {}".format(*answer.interval(percent))] for key, answer in groups.items()]
     widths = [max(len(row[place]) for row in rows) for place in range(3)]
     lines = [f"{key.ljust(widths[0])}  {value.rjust(widths[1])}  {ends.rjust(widths[2])}" for key, value, ends in rows]
-    taken = "some were recalled, and what they took isn't told" if groups.taken is None else f"taken {units(groups.taken)}"
+    taken = "some were recalled, and what they took isn't told"
+    if groups.taken is not None:
+        taken = f"taken {units(groups.taken)}{for_person(groups.taken, groups.left and groups.left.person)}"
     left = f"; {units(groups.left.left)} left" if groups.left else ""
     without = f"; without an answer: {', '.join(missing)}" if missing else ""
     return "\n".join([*lines, f"{percent} of 100; {taken}{left}{without}"])
@@ -189,7 +191,7 @@ def forecast(words, doc):
 
 def plot(words, doc):
     parser = parser_of("plot", doc)
-    parser.add_argument("what", choices=("histogram", "budget"))
+    parser.add_argument("what", choices=tuple(DRAWN))
     parser.add_argument("file", nargs="?", default="-", metavar="FILE", help="of tools/askparts --json, or of lines of tools/left --json; else standard input")
     parser.add_argument("--text", action="store_true", help="for a terminal; else SVG")
     parser.add_argument("--level", default="95", choices=PERCENTS, help="of the error bars, of 100")
@@ -198,7 +200,7 @@ def plot(words, doc):
     def call(given):
         said = text_of(given.file)
         try:
-            print(histogram(said, given) if given.what == "histogram" else budget(said, given), end="")
+            print(DRAWN[given.what](said, given), end="")
         except (KeyError, TypeError, AttributeError, IndexError):
             raise ValueError(f"this isn't what {WRITES[given.what]} writes") from None
 
@@ -209,14 +211,28 @@ def histogram(said, given):
     groups = json.loads(said)
     bars, title, eps = pictures.bars_of(groups, given.level), given.title or groups["partition"], pictures.eps_of(groups)
     if given.text:
-        return pictures.histogram_text(bars, title, given.level, columns(), eps)
-    return pictures.histogram_svg(bars, title, given.level, eps)
+        return pictures.histogram_text(bars, title, given.level, columns(), eps, pictures.least_of(groups, given.level))
+    return pictures.histogram_svg(bars, title, given.level, eps, pictures.least_of(groups, given.level))
+
+
+def crosstab(said, given):
+    """Of a partition by a joint column, whose keys are two with a point between them."""
+    groups = json.loads(said)
+    table, title, eps = grids.table_of(groups, given.level), given.title or groups["partition"], pictures.eps_of(groups)
+    if not given.text:
+        return grids.grid_svg(table, title, given.level, eps)
+    cells = [[table.cells.get((row, column)) for column in table.columns] for row in table.rows]
+    lines = [[row, *(f"{cell[0]} ±{cell[2] - cell[0]}" if cell else "" for cell in of_row)] for row, of_row in zip(table.rows, cells)]
+    return f"{title}\n{laid_out([['', *table.columns], *lines])}\n± holds in at least {given.level} of 100 answers\n"
 
 
 def budget(said, given):
     lefts = [json.loads(line) for line in said.splitlines() if line.strip()]
     points, title = pictures.points_of(lefts), given.title or f"{lefts[0].get('owner', 'budget')}: epsilon spent"
     return pictures.budget_text(points, title, columns()) if given.text else pictures.budget_svg(points, title)
+
+
+DRAWN = {"histogram": histogram, "crosstab": crosstab, "budget": budget}
 
 
 def columns():

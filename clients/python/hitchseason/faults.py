@@ -7,9 +7,9 @@
     Failed                       the program didn't run, or closed a journal: nothing of what was asked is known to be charged
     Cut                          the run was cut, and what came of it isn't known, or not which answer is whose, or a part of it came to nothing
 """
-from .borrowed import explain, lines, meanings, program_parts
-from .hints import for_client
-from .names import Places, known
+from .borrowed import explain, lines, meanings, name_hints, names, program_parts
+
+known, Places = names.known, names.Places
 
 OF_PROGRAMS = explain.OF_PROGRAMS
 OF_LINES = ("10", "11", "12", "13", "14")
@@ -67,7 +67,7 @@ def of_program(house, written, words, exception):
     refusal = program_parts.Refusal(house, written.sent, words, exception)
     refusal.text = Places(written)
     explanation, reply = explain.Explanation(refusal), f"no {' '.join(words)}"
-    explanation.hint = for_client(explanation.hint, refusal, written.source)
+    explanation.hint = name_hints.for_client(explanation.hint, refusal, written.source)
     part = f"\n(Of a part: {house.shown_alone()})" if house.partition and house.hidden else ""
     place = written.place(*explanation.place) if explanation.place else None
     counts = "; its place counts in the program as it was sent" if written.named and program_parts.place_of(refusal) else ""

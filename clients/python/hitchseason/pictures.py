@@ -1,16 +1,21 @@
 """Pictures of what `--json` tells: a histogram with its error bars, and a budget over time; as SVG, and as text for a terminal.
 
     bars_of(GROUPS), points_of(LEFTS)      what is drawn, of the dictionaries that tools/askparts --json and tools/left --json write
-    histogram_svg, histogram_text          of bars: (key, value, low, high)
+    least_of(GROUPS)                       how far below 0 the axis goes
+    histogram_svg, histogram_text          of bars: (key, value, low, high); LEAST is where the axis begins, at most 0
     budget_svg, budget_text                of points: (time or nothing, spent, budget), in millionths
 
-A bar goes from 0 to the value. Its error bar is the interval at the level that is said below. `bench/pictures.py` looks at them in a browser.
+A bar goes from 0 to the value. Its error bar is the interval at the level that is said below. The axis goes below 0 for what surely lies there, and
+not for what noise alone puts there: an error bar that goes on below the axis has no foot. grids.py draws cross tables. `tests/tools/pictures.py` looks
+at them in a browser.
 """
 import html
 import re
 from datetime import datetime, timezone
 from math import ceil
 from unicodedata import category, east_asian_width
+
+from .signs import never_negative
 
 WIDTH, EDGE, TOP, BOTTOM, BAR_WIDE = 720, 16, 52, 56, 80
 NAME, NAMES = 14, 280  # how high a name is, and how long one may be that stands on end
@@ -27,6 +32,18 @@ def bars_of(groups, percent="95"):
     if not found:
         raise ValueError("there is no answer in it")
     return found
+
+
+def least_of(groups, percent="95"):
+    """The least end of those whose interval at 99.9 of 100 lies below 0, and whose program may have such a value; 0 where there is none."""
+    answers = groups["groups"].values()
+    below = [one for one in answers if one["intervals"].get("99.9", (0, 0))[1] < 0 and not never_negative(one.get("sent"))]
+    return min([0, *(one["intervals"][percent][0] for one in below)])
+
+
+def least_of_bars(bars):
+    """The same of bars alone: the least end of those that lie below 0."""
+    return min([0, *(low for _, _, low, high in bars if high < 0)])
 
 
 def eps_of(groups):
@@ -129,13 +146,14 @@ def line_at(x1, y1, x2, y2, color, width=1, more=""):
     return f'<line x1="{x1:.1f}" y1="{y1:.1f}" x2="{x2:.1f}" y2="{y2:.1f}" stroke="{color}" stroke-width="{width:g}"{more}/>'
 
 
-def document(height, title, parts):
+def document(height, title, parts, wide=WIDTH):
     """The title stands above the parts, in as many lines as it takes: all but the last are above 0."""
-    lines = lines_of(title, WIDTH - 2 * EDGE, 15)
+    lines = lines_of(title, wide - 2 * EDGE, 15)
     above = 18 * (len(lines) - 1)
-    head = f'<svg xmlns="http://www.w3.org/2000/svg" viewBox="0 {-above} {WIDTH} {height + above:g}" width="{WIDTH}" height="{height + above:g}"'
+    size = f'width="{wide:g}" height="{height + above:g}"'
+    head = f'<svg xmlns="http://www.w3.org/2000/svg" viewBox="0 {-above} {wide:g} {height + above:g}" {size}'
     head += f' role="img" aria-label="{escape(title)}" font-family="sans-serif" font-size="12" fill="{INK}">'
-    ground = f'<rect y="{-above}" width="{WIDTH}" height="{height + above:g}" fill="white"/>'
+    ground = f'<rect y="{-above}" {size} fill="white"/>'
     said = [text_at(EDGE, 22 - above + 18 * number, line, "start", ' font-size="15"') for number, line in enumerate(lines)]
     return "\n".join([head, f"<title>{escape(title)}</title>", ground, *said, *parts, "</svg>"]) + "\n"
 
@@ -154,37 +172,42 @@ def grid(ticks, place, name, left):
     return parts
 
 
-def histogram_svg(bars, title, percent="95", eps=None):
+FOOTLESS = "An error bar without a foot goes on below the axis"
+
+
+def histogram_svg(bars, title, percent="95", eps=None, least=None):
     """Bars side by side. Where there are many, names stand on end, and where there are very many not all of them."""
-    first, last, ticks = scale_of([end for bar in bars for end in bar[1:]])
+    least = least_of_bars(bars) if least is None else least
+    first, last, ticks = scale_of([max(end, least) for bar in bars for end in bar[1:]])
     left = left_of(ticks, told)
     slot = (WIDTH - EDGE - left) / len(bars)
     longest = max(breadth(key) for key, *_ in bars)
     on_end, valued = longest + 6 > slot, max(breadth(told(bar[1]), 11) for bar in bars) + 4 <= slot
     floor = TOP + 300
-    height = floor + (44 + ceil(min(NAMES, longest)) if on_end else 60)
+    said = [f"Noisy answers{f' at EPS {eps}' if eps else ''}. Error bars: each holds the exact value in at least {percent} of 100 answers"]
+    said += [FOOTLESS] if any(bar[2] < first for bar in bars) else []
+    height = floor + (44 + ceil(min(NAMES, longest)) if on_end else 60) + 16 * (len(said) - 1)
 
     def place(value):
-        return floor - (value - first) / (last - first) * 300
+        return floor - max(0, value - first) / (last - first) * 300
 
     parts, each = grid(ticks, place, told, left), ceil(NAME / slot)
     for number, bar in enumerate(bars):
-        parts += bar_svg(bar, left + slot * (number + 0.5), slot, place, valued)
+        parts += bar_svg(bar, left + slot * (number + 0.5), slot, place, valued, first)
         if number % each == 0:
             parts.append(name_svg(bar[0], left + slot * (number + 0.5), floor + 16, on_end))
-    said = f"Noisy answers{f' at EPS {eps}' if eps else ''}. Error bars: each holds the exact value in at least {percent} of 100 answers"
-    parts.append(text_at(EDGE, height - 10, said, "start", ' font-size="11"'))
+    parts += [text_at(EDGE, height - 10 - 16 * number, line, "start", ' font-size="11"') for number, line in enumerate(reversed(said))]
     return document(height, title, parts)
 
 
-def bar_svg(bar, middle, slot, place, valued):
-    """Where bars are narrow, lines are thin, so that what is behind them is seen."""
+def bar_svg(bar, middle, slot, place, valued, first):
+    """Where bars are narrow, lines are thin, so that what is behind them is seen. An end below the axis isn't drawn."""
     key, value, low, high = bar
     wide, whisker, thin = min(BAR_WIDE, slot * 0.7), min(8, slot * 0.25), min(1.5, slot * 0.2)
     top, bottom = place(max(value, 0)), place(min(value, 0))
     said = f"<title>{escape(key)}: {value} ({low} to {high})</title>"
     drawn = f'<rect x="{middle - wide / 2:.1f}" y="{top:.1f}" width="{wide:.1f}" height="{max(0, bottom - top):.1f}" fill="{BAR}">{said}</rect>'
-    ends = [line_at(middle - whisker, place(end), middle + whisker, place(end), ERROR, thin) for end in (low, high)]
+    ends = [line_at(middle - whisker, place(end), middle + whisker, place(end), ERROR, thin) for end in (low, high) if end >= first]
     label = [text_at(middle, place(max(high, 0)) - 6, told(value), more=' font-size="11"')] if valued else []
     return [drawn, line_at(middle, place(low), middle, place(high), ERROR, thin), *ends, *label]
 
@@ -241,18 +264,20 @@ def moment(text):
 # Text.
 
 
-def histogram_text(bars, title, percent="95", columns=COLUMNS, eps=None):
-    """A line a bar: its key, its value, and the bar with its interval between `├` and `┤`, the value being at `┼`; `│` is at 0, unless that is at the left."""
+def histogram_text(bars, title, percent="95", columns=COLUMNS, eps=None, least=None):
+    """A line a bar: its key, its value, and the bar with its interval between `├` and `┤`, the value being at `┼`; `│` is at 0, unless that is at the
+    left. What lies below the axis is at its beginning, and has no `├`."""
     keys = [shortened(key, columns // 2 - 4, cells_of) for key, *_ in bars]
     keys_wide, values = max(map(cells_of, keys)), max(len(str(bar[1])) for bar in bars)
     wide = max(16, columns - keys_wide - values - 4)
-    low, high = min([0, *(bar[2] for bar in bars)]), max([1, *(bar[3] for bar in bars)])
+    low, high = least_of_bars(bars) if least is None else least, max([1, *(bar[3] for bar in bars)])
 
     def cell(value):
-        return round((value - low) / (high - low) * (wide - 1))
+        return round((max(value, low) - low) / (high - low) * (wide - 1))
 
-    lines = [f"{padded(key, keys_wide)}  {str(bar[1]).rjust(values)}  {bar_text(*bar[1:], cell, wide)}" for key, bar in zip(keys, bars)]
+    lines = [f"{padded(key, keys_wide)}  {str(bar[1]).rjust(values)}  {bar_text(*bar[1:], cell, wide, low)}" for key, bar in zip(keys, bars)]
     said = f"{f'EPS {eps}; ' if eps else ''}{'│ is 0; ' if cell(0) else ''}each ├─┤ holds the exact value in at least {percent} of 100 answers"
+    said += "; one without ├ goes on to the left" if any(bar[2] < low for bar in bars) else ""
     return "\n".join([title, *lines, said]) + "\n"
 
 
@@ -260,7 +285,7 @@ def padded(text, wide):
     return text + " " * (wide - cells_of(text))
 
 
-def bar_text(value, low, high, cell, wide):
+def bar_text(value, low, high, cell, wide, first):
     cells = [" "] * wide
     for at in range(cell(min(value, 0)), cell(max(value, 0))):
         cells[at] = "█"
@@ -268,7 +293,9 @@ def bar_text(value, low, high, cell, wide):
         cells[at] = "─"
     if cell(0):
         cells[cell(0)] = "│"
-    cells[cell(low)], cells[cell(high)], cells[cell(value)] = "├┤┼"
+    for end, sign in ((low, "├"), (high, "┤"), (value, "┼")):
+        if end >= first:
+            cells[cell(end)] = sign
     return "".join(cells).rstrip()
 
 

@@ -1,7 +1,7 @@
 """Lines to a service and replies back, over a connection, or by a login over ssh.
 
     Address(HOST, PORT, PUBLIC)        a connection to a worker's port, as on the machine of the service
-    Login(DESTINATION, PUBLIC, ..)     `ssh DESTINATION`, where a door says the analyst's name (docs/serving.md)
+    Login(DESTINATION, PUBLIC, ..)     `ssh DESTINATION`, where a door says the analyst's name (docs/operators-guide.md)
 
 Both are transports (transport.py). A worker serves one connection at a time, so one is kept only for as long as a call asks (`kept`), and ends with
 `bye`. The first line of each connection goes alone, and asks nothing: where it isn't answered nothing was asked, and another connection is tried for
@@ -13,13 +13,14 @@ import signal
 import socket
 import subprocess
 import sys
+import threading
 import time
 from collections import deque
 from contextlib import contextmanager, suppress
 
-from .borrowed import meanings
+from .borrowed import lines, meanings
 from .faults import Failed, Refused
-from .transport import Stopped, Waited, published
+from .transport import LINE_LIMIT, Stopped, Waited, published, reply_of
 
 # How long a service that isn't there is tried again, and after how long that is told; lines that are sent ahead of their replies.
 PATIENCE, PAUSE, LATE = 20, 0.5, 1
@@ -214,12 +215,14 @@ class Link:
             awaited, self.awaited = self.awaited, None
             awaited()
         while b"\n" not in self.told:
+            if len(self.told) > LINE_LIMIT:
+                raise Refusal(f"a line of over {LINE_LIMIT} bytes came, which is no reply")
             data = self.read()
             if not data:
                 raise self.end()
             self.told += data
         line, _, self.told = self.told.partition(b"\n")
-        reply = line.decode(errors="backslashreplace")
+        reply = reply_of(line.removesuffix(b"\r"))
         if reply.startswith(CLOSED):
             raise (Refusal if "refuses" in reply else Ended)(reply)
         return reply
@@ -290,11 +293,18 @@ class Login(Server):
 
 
 class Process(Link):
-    """Ctrl-C at a terminal doesn't reach it, so that what is asked isn't cut by it; its own words, as of a passphrase, go to the terminal."""
+    """Ctrl-C at a terminal doesn't reach it, so that what is asked isn't cut by it; it asks at the terminal itself, as for a passphrase. What comes on its
+    standard error, of which the server may have a part, is told without what a terminal would take for a command."""
 
     def __init__(self, command):
         quiet = {"preexec_fn": lambda: signal.signal(signal.SIGINT, signal.SIG_IGN)}
-        self.process = subprocess.Popen(command, stdin=subprocess.PIPE, stdout=subprocess.PIPE, bufsize=0, **quiet)
+        self.process = subprocess.Popen(command, stdin=subprocess.PIPE, stdout=subprocess.PIPE, stderr=subprocess.PIPE, bufsize=0, **quiet)
+        self.noise = threading.Thread(target=self.hand_on, daemon=True)
+        self.noise.start()
+
+    def hand_on(self):
+        for line in iter(lambda: self.process.stderr.readline(LINE_LIMIT), b""):
+            tell(lines.harmless(line.decode(errors="backslashreplace").rstrip("\r\n")))
 
     def fileno(self):
         return self.process.stdout.fileno()
@@ -324,3 +334,7 @@ class Process(Link):
         except subprocess.TimeoutExpired:
             self.process.kill()
             self.process.wait()
+        # Another process may have its standard error, and keep it.
+        self.noise.join(1)
+        if not self.noise.is_alive():
+            self.process.stderr.close()

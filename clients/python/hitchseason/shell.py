@@ -8,13 +8,15 @@ import os
 import re
 import shlex
 import sys
+from contextlib import suppress
 
 from .answers import Answer, Groups, units
-from .asks import price
+from .asks import Forgotten, price
 from .borrowed import explain, programs
 from .client import PLANS, form_of, takes_of
 from .commands import client_of, parser_of, place_words
 from .faults import BadCall, Cut, Failed, Fault, Refused, known
+from .kept import Sessions, answers_file
 from .prompt import GivenUp, Held, Plain, Terminal, candidates
 from .told import answered, folded, harmless, listed, named, owner_told
 from .transport import Waited
@@ -32,10 +34,11 @@ HELP = [
     ("\\s [PROGRAM]", "the program as it is sent, with the columns' names written out"),
     ("\\g", "asks what \\f or \\s was shown last, or what was refused"),
     ("\\a NAME WORDS", f"asks a statistic: {', '.join(list(PLANS)[1:])}; \\a NAME says its words"),
-    ("\\r N", "tells the answer with this number again, for nothing; \\r alone, what came of a run that was cut"),
+    ("\\r N [EPS]", "tells the answer with this number again, for nothing; \\r alone, what came of a run that was cut"),
     ("\\b", "the budget"),
-    ("\\q", "ends, as Ctrl-D does; Ctrl-C gives up what is typed"),
+    ("\\q", "ends, as `quit`, `exit` and Ctrl-D do; Ctrl-C gives up what is typed"),
 ]
+WORDS = {"help": "\\h", "?": "\\h", "quit": "\\q", "exit": "\\q"}
 NO_EPS = "no epsilon is set: \\e 0.5 sets one, and \\g asks then"
 
 
@@ -50,8 +53,8 @@ class Unread(Exception):
 class Shell:
     """LINES gives what is typed; CONNECT makes an owner's client. `part` is nothing, (PARTITION, KEY), or (PARTITION, None) for each key."""
 
-    def __init__(self, connect, owner, lines=None, as_json=False):
-        self.connect, self.clients, self.as_json = connect, {}, as_json
+    def __init__(self, connect, owner, lines=None, as_json=False, sessions=None):
+        self.connect, self.clients, self.as_json, self.sessions = connect, {}, as_json, sessions
         self.client = self.client_of(owner)
         self.lines = lines or Terminal(lambda before, word: candidates(self, before, word), history_file())
         self.eps = self.part = self.left = self.unknown = self.program = None
@@ -117,9 +120,10 @@ class Shell:
         return self.left
 
     def take(self, line):
-        """A line: a command, or a part of a program, or the ends of several."""
+        """A line: a command, or a part of a program, or the ends of several. A word that other prompts have is no program by itself."""
         if not line.strip():
             return self.end_of_program()
+        line = WORDS.get(line.strip().rstrip(";").lower(), line) if not self.typed else line
         begin = 0
         for end in () if line.lstrip().startswith("\\") else END.finditer(line):
             if end[0] == ";":
@@ -187,6 +191,8 @@ class Shell:
         self.left = units(known.left.left) if known.left else None
         for answer in answers_of(known):
             self.told[self.client.view.name, answer.number] = answer
+            if self.sessions:
+                self.sessions.keep(self.client.view.name, answer)
         return self.in_form(known, lambda: answered(known, self.columns))
 
     def in_form(self, known, text):
@@ -281,8 +287,13 @@ class Shell:
         self.over, self.typed = True, ""
 
     def do_d(self, name):
+        """The budget is asked for, since the owner may have granted more; where nothing answers it is the catalog's."""
         view = self.client.view
-        return named(view, name, self.lines.columns) if name else owner_told(view)
+        if name:
+            return named(view, name, self.lines.columns)
+        with suppress(Fault):
+            self.left = units(self.client.left().left)
+        return owner_told(view, self.client.known)
 
     def do_b(self, _):
         left = self.client.left()
@@ -345,18 +356,31 @@ class Shell:
             raise Unsaid("there is no program that waits to be asked: one that was asked is entered again")
         return self.ask(self.program)
 
-    def do_r(self, number):
-        if not number:
+    def do_r(self, rest):
+        if not rest:
             return self.recovered()
-        if not re.fullmatch("[0-9]{1,10}", number):
-            raise Unsaid(f"\\r N has a number, and `{number[:40]}` is none")
-        value, found = self.client.recall(int(number)), self.told.get((self.client.view.name, int(number)))
-        if found is None and self.as_json:
-            return json.dumps({"value": value, "number": int(number), "recalled": True})
-        if found is None:
-            return f"{value}\nnumber {int(number)}, recalled; its interval is known where it was asked, since it is by the EPS"
-        again = Answer(found.ask, found.number, value, None, recalled=True)
-        return self.in_form(again, lambda: answered(again, self.columns))
+        number, *eps = rest.split()
+        if not re.fullmatch("[0-9]{1,10}", number) or len(eps) > 1:
+            raise Unsaid(f"\\r N has a number, and may have the EPS at which it was asked; `{rest[:40]}` is none")
+        number, e = int(number), price(1, eps=eps[0]) if eps else None
+        value = self.client.recall(number)
+        ask = Forgotten(self.client.view.name, e) if e else self.asked_before(number, value)
+        if ask is None:
+            return self.recalled_alone(number, value)
+        again = Answer(ask, number, value, None, recalled=True)
+        return self.in_form(again, lambda: answered(again, self.columns) + (f"\nasked: {ask.sent}" if ask.sent and isinstance(ask, Forgotten) else ""))
+
+    def asked_before(self, number, value):
+        """The ask of a number, of this session or of an earlier one."""
+        found = self.told.get((self.client.view.name, number))
+        if found is not None:
+            return found.ask
+        return self.sessions.of(self.client.view.name, number, value) if self.sessions else None
+
+    def recalled_alone(self, number, value):
+        if self.as_json:
+            return json.dumps({"value": value, "number": number, "recalled": True})
+        return f"{value}\nnumber {number}, recalled; \\r {number} EPS gives its interval, by the EPS at which it was asked"
 
     def do_a(self, rest):
         # What is asked, or refused, is no program, which \\g could ask.
@@ -448,7 +472,8 @@ def shell(words, doc):
     sys.stdout.reconfigure(errors="backslashreplace")
     is_terminal, prompt = sys.stdin.isatty() and sys.stdout.isatty(), None
     try:
-        prompt = Shell(lambda owner: client_of(given, given.analyst, owner), given.owner, None if is_terminal else Plain(), given.json)
+        sessions = Sessions(answers_file(), given.place, given.analyst)
+        prompt = Shell(lambda owner: client_of(given, given.analyst, owner), given.owner, None if is_terminal else Plain(), given.json, sessions)
         if is_terminal:
             prompt.say(f"{given.analyst} asks {prompt.client.view.name}: \\h says how, \\d what there is, and \\e EPS sets the epsilon first.")
         return prompt.run()

@@ -8,7 +8,7 @@ import re
 import textwrap
 
 from . import borrowed, faults
-from .answers import PERCENTS, Crosstab, Groups, Top, ends_written, laid_out, paid, units, written
+from .answers import PERCENTS, Crosstab, Groups, Top, ends_written, laid_out, paid, rows_said, units, written
 
 MARK = re.compile(r" *\^+")
 LEAST = 20
@@ -89,9 +89,15 @@ def groups_table(groups, columns):
 # Tables and partitions.
 
 
-def owner_told(view):
+def owner_told(view, left=None):
+    """With the budget of the catalog, or as it is now, by what `left` says."""
     entry = view.entry
     lines = [f"{view.name}: budget {units(entry['budget'])}, room for {entry['capacity'] // 2} answers"]
+    if left is not None and left.budget != entry["budget"]:
+        granted = f"{units(left.budget)}, of which {units(left.budget - entry['budget'])} were granted since"
+        lines = [f"{view.name}: budget {granted}; {units(left.left)} left, room for {(entry['capacity'] - left.records) // 2} more answers"]
+    if view.person is not None:
+        lines.append(f"a person has at most {rows_said(view.person)} in all tables together: epsilon for a person is what is taken, times {view.person}")
     for table in entry["tables"]:
         lines.append(f"table {table['name']}: {', '.join(column['name'] + ' ' + column['type'] for column in table['columns'])}")
     return "\n".join([*lines, *map(partition_told, entry["partitions"])])
@@ -117,7 +123,8 @@ def table_told(table, partitions):
     rows = [[f"  p.{column['name']}", column["type"], column.get("meaning", "")] for column in table["columns"]]
     widths = [max(len(row[place]) for row in rows) for place in range(2)]
     lines = [f"{row[0].ljust(widths[0])}  {row[1].ljust(widths[1])}  {row[2]}".rstrip() for row in rows]
-    of_it = [partition_told(one) for one in partitions if one["table"] == table["name"]]
+    of_it = [line.strip() for line in borrowed.public.persons_line(table.get("person"))] + [table[name] for name in ("left_out",) if name in table]
+    of_it += [partition_told(one) for one in partitions if one["table"] == table["name"]]
     return "\n".join([f"table {table['name']}, whose rows are bound by `fn (p : row {table['name']}) => ..`", *lines, *of_it])
 
 

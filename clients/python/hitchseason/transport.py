@@ -11,6 +11,7 @@ where replies are missing and lines may have been answered all the same, or Fail
 import fcntl
 import json
 import os
+import re
 import shutil
 import signal
 import subprocess
@@ -23,6 +24,9 @@ from .faults import Failed
 NEVER_ASKED = (2, 3, 4, 6, 8)
 PAUSE = 0.1
 SCRIPT_LIMIT, MOST_PORT = lines.SCRIPT_LIMIT, 65_535
+# A reply has printable ASCII alone, and no number of more digits.
+LINE_LIMIT, DIGITS = lines.LINE_LIMIT, 40
+OTHER_BYTES, LONG_NUMBER = re.compile(rb"[^ -~]"), re.compile(f"[0-9]{{{DIGITS + 1},}}")
 OF_OWNERS = {"name", "budget", "capacity", "tables", "partitions"}
 
 
@@ -32,6 +36,12 @@ class Stopped(Exception):
     def __init__(self, said, heard=()):
         super().__init__(said)
         self.heard = list(heard)
+
+
+def reply_of(line):
+    """A line of a server as text. What isn't printable is escaped, and a number that is too long is cut, so that neither is taken for a reply's."""
+    text = OTHER_BYTES.sub(lambda found: b"\\x%02x" % ord(found[0]), line[:LINE_LIMIT]).decode()
+    return LONG_NUMBER.sub(lambda found: f"{found[0][:DIGITS]}..", text)
 
 
 class Waited(KeyboardInterrupt):
@@ -64,11 +74,12 @@ class Folder:
                 "time. Nothing was asked.")
         with self.locked() as lock:
             ran = self.ran(script, lock)
-        said = ran.stdout.decode(errors="backslashreplace")
+        replies = [reply_of(line) for line in ran.stdout.split(b"\n")]
+        said = replies[0].strip()
         if ran.returncode in NEVER_ASKED:
             more = f"`tools/why run {self.catalog} {self.key} < /dev/null` in {self.folder} says more"
-            raise Failed(f"the program ended with status {ran.returncode}: {meanings.STATUSES[ran.returncode]} ({said.strip()}). {more}.", said.strip())
-        found = said.split("\n")[:-1]
+            raise Failed(f"the program ended with status {ran.returncode}: {meanings.STATUSES[ran.returncode]} ({said}). {more}.", said)
+        found = replies[:-1]
         if ran.returncode != 0 or len(found) != len(lines):
             raise Stopped(ended(ran.returncode), found[: len(lines)])
         return found
@@ -142,18 +153,33 @@ def published(name):
     return found
 
 
+def port_of(place, text):
+    if not text.isascii() or not text.isdigit() or len(text) > len(str(MOST_PORT)) or not 1 <= int(text) <= MOST_PORT:
+        raise Failed(f"{place}: a port is from 1 to {MOST_PORT}")
+    return int(text)
+
+
+def login_of(place):
+    """The destination of `ssh://[USER@]HOST[:PORT]`, as ssh takes it, and the port or nothing. HOST may be a name of ~/.ssh/config, or an address of IPv6
+    in brackets."""
+    user, at, host = place.removeprefix("ssh://").removesuffix("/").rpartition("@")
+    found = re.fullmatch(r"(\[[^]]*\]|[^:\[\]]*)(?::(.*))?", host)
+    if not found or not found[1].strip("[]"):
+        raise Failed(f"{place} is no ssh://USER@HOST:PORT; an address with colons stands in brackets")
+    return f"{user}{at}{found[1].strip('[]')}", None if found[2] is None else str(port_of(place, found[2]))
+
+
 def transport_of(place, public=None, ssh=("ssh",), words=(), wait=None, **of_folder):
-    """A folder's; a service's behind `ssh://DESTINATION`, for which WORDS are ssh's own, or at `HOST:PORT`."""
+    """A folder's; a service's behind `ssh://USER@HOST:PORT`, for which WORDS are ssh's own, or at `HOST:PORT`."""
     from .server import Address, Login
 
     place = os.fspath(place)
     if place.startswith("ssh://"):
-        return Login(place.removeprefix("ssh://"), public, ssh, words, wait)
+        destination, port = login_of(place)
+        return Login(destination, public, ssh, (*(("-p", port) if port else ()), *words), wait)
     host, colon, port = place.rpartition(":")
     if colon and port.isascii() and port.isdigit() and not os.path.isdir(place):
-        if len(port) > len(str(MOST_PORT)) or not 1 <= int(port) <= MOST_PORT:
-            raise Failed(f"{place}: a port is from 1 to {MOST_PORT}")
-        return Address(host.strip("[]"), int(port), public, wait)
+        return Address(host.strip("[]"), port_of(place, port), public, wait)
     if not os.path.isdir(place):
-        raise Failed(f"{place} is no folder, no HOST:PORT and no ssh://DESTINATION")
+        raise Failed(f"{place} is no folder, no HOST:PORT and no ssh://USER@HOST:PORT")
     return Folder(place, public=public, wait=wait, **of_folder)

@@ -19,6 +19,9 @@ PROGRAM = os.path.abspath(os.environ.get("PROGRAM", f"{TOP}/out/hitchseason"))
 LONG = os.environ.get("LONG") == "1"
 SURVEY = f"{TOP}/examples/survey"
 BUDGET, CAPACITY = 10**15, 2**18
+# What prompts keep of their answers, which is nobody's own here.
+KEPT = tempfile.TemporaryDirectory()
+os.environ["HITCHSEASON_ANSWERS"] = f"{KEPT.name}/answers"
 
 
 def often(short, long):
@@ -113,3 +116,9 @@ def persons():
 def enough(hits, tries, level):
     """Whether something held as often as is said, but for what happens in less than 1 of 30,000 tests."""
     return hits >= tries * level - 4 * sqrt(tries * level * (1 - level))
+
+
+def register():
+    """The register, with its partition by a joint column."""
+    with open(f"{TOP}/examples/register/catalog.json") as file:
+        return Place(json.load(file), {"people.csv": rows_of(f"{TOP}/examples/register/people.csv")})

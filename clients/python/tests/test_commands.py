@@ -10,8 +10,9 @@ from math import exp
 from xml.etree import ElementTree
 
 from common import PROGRAM, TOP, Place, published, rows_of, survey
-from hitchseason import Refused, connect, pictures
+from hitchseason import Refused, connect, grids, pictures
 from hitchseason.answers import short
+from hitchseason.signs import never_negative
 
 YOUNG = "size (filter (fn (p : row persons) =>\n  p.age <= 30) persons)\n"
 REGISTER = f"{TOP}/examples/register"
@@ -270,10 +271,25 @@ class Register(unittest.TestCase):
             low, high = table.row_total("f").interval("99.9")
             self.assertTrue(low <= sum(count for key, count in groups.items() if key.startswith("f.")) <= high)
             self.assertEqual(len(str(table).splitlines()), 5)
-            self.assertEqual(len(ElementTree.fromstring(table.svg("cells")).findall(f"{SVG}rect")), 1 + 15)
+            self.of_grid(table)
             nobody = connect(place.folder, None, program=PROGRAM)
             with self.assertRaises(Refused):
                 nobody.count("people", eps="0.1")
+
+
+    def of_grid(self, table):
+        """Three rows and five columns of cells, with totals of each: each number and margin stands there, and the greatest cell alone has the full color."""
+        drawn = ElementTree.fromstring(table.svg("cells"))
+        boxes, texts = drawn.findall(f"{SVG}rect")[1:], [one.text for one in drawn.findall(f"{SVG}text")]
+        self.assertEqual(len(boxes), 4 * 6)
+        greatest = max(table.cells, key=lambda cell: table.cells[cell].value)
+        full = [one.find(f"{SVG}title").text for one in boxes if one.get("fill") == pictures.BAR]
+        self.assertEqual(full, [f"{greatest[0]}, {greatest[1]}: {table.cells[greatest].value} ({' to '.join(map(str, table.cells[greatest].interval(95)))})"])
+        for answer in (*table.cells.values(), table.row_total("f"), table.total()):
+            self.assertIn(pictures.told(answer.value), texts)
+        self.assertTrue({"f", "m", "unknown", "under_18", "from_65", "total", "±6", "±13", "±10", "±21"} <= set(texts))
+        rows = table.as_rows()
+        self.assertEqual((len(rows), rows[0]["row"], rows[0]["column"]), (15, *next(iter(table.cells))))
 
 
 class Pictures(unittest.TestCase):
@@ -296,13 +312,50 @@ class Pictures(unittest.TestCase):
 
     def test_ends(self):
         """Worked by hand: ticks are at -50, 0, 50 and 100, which is 300 px, from 52 down to 352."""
-        drawn = ElementTree.fromstring(pictures.histogram_svg([("a", 50, -50, 100), ("b", -20, -40, 0)], "ends"))
+        drawn = ElementTree.fromstring(pictures.histogram_svg([("a", 50, -50, 100), ("b", -20, -40, -1)], "ends"))
         texts = [one.text for one in drawn.findall(f"{SVG}text")]
         self.assertEqual(texts[1:5], ["\u221250", "0", "50", "100"])
         bars = [(float(one.get("y")), float(one.get("height"))) for one in drawn.findall(f"{SVG}rect")[1:]]
         self.assertEqual(bars, [(152, 100), (252, 40)])
         ends = [(float(one.get("y1")), float(one.get("y2"))) for one in drawn.findall(f"{SVG}line") if one.get("x1") == one.get("x2")]
-        self.assertEqual(ends, [(352, 52), (332, 252)])
+        self.assertEqual(ends, [(352, 52), (332, 254)])
+
+    def test_below_by_noise(self):
+        """Worked by hand: `b` may be 0, so ticks are at 0, 20 .. 100, which is 300 px; the first line is the axis, and of four ends
+        two are below, which have no foot."""
+        svg = pictures.histogram_svg([("a", 50, -50, 100), ("b", -20, -40, 0)], "ends")
+        drawn = ElementTree.fromstring(svg)
+        self.assertEqual([one.text for one in drawn.findall(f"{SVG}text")][1:7], ["0", "20", "40", "60", "80", "100"])
+        self.assertEqual([(float(one.get("y")), float(one.get("height"))) for one in drawn.findall(f"{SVG}rect")[1:]], [(202, 150), (352, 0)])
+        errors = [one for one in drawn.findall(f"{SVG}line") if one.get("stroke") == pictures.ERROR][1:]
+        self.assertEqual([(float(one.get("y1")), float(one.get("y2"))) for one in errors], [(352, 52), (52, 52), (352, 352), (352, 352)])
+        self.assertIn(pictures.FOOTLESS, svg)
+        self.assertNotIn(pictures.FOOTLESS, pictures.histogram_svg([("a", 50, 0, 100)], "ends"))
+
+    def test_least(self):
+        """A count is never below 0; a sum of what may be is, where its interval at 99.9 of 100 says so."""
+        def groups(*answers):
+            return {"groups": {str(number): answer for number, answer in enumerate(answers)}}
+
+        def answer(value, sent):
+            return {"value": value, "intervals": {percent: [value - off, value + off] for percent, off in (("50", 1), ("95", 6), ("99.9", 14))}, "sent": sent}
+
+        for answers, least in (
+            ([answer(-20, "size people")], 0),
+            ([answer(-20, "sum[-5,5] people")], -26),
+            ([answer(-14, "sum[-5,5] people"), answer(30, "size people")], 0),
+            ([answer(-20, "sum[0,5] people"), answer(-15, "-1 * size people")], -21),
+        ):
+            self.assertEqual(pictures.least_of(groups(*answers)), least)
+
+    def test_signs(self):
+        for program, said in (
+            ("size people", True), ("(2 * (size people + 3))", True), ("let n = size people in n + n", True), ("sum[0,9] people", True),
+            ("if 1 <= 2 then size people else 0", True), ("clip[0,9] (size people - 5)", True), ("let (a, b) = (1, 2) in size people", True),
+            ("size people - 1", False), ("sum[-1,9] people", False), ("-1 * size people", False), ("let n = 0 - 1 in n", False), ("-3", False),
+            ("let n = 3 in let (n, m) = (0 - 1, 2) in n", False), ("least <1, 2>", False), ("size (", False), (None, False),
+        ):  # fmt: skip
+            self.assertEqual(never_negative(program), said, program)
 
     def test_any_text(self):
         """A title in several lines, texts that XML can't have, long keys by both their ends, all in ASCII."""
@@ -317,14 +370,18 @@ class Pictures(unittest.TestCase):
         self.assertEqual([text[-1] for text in texts if "…" in text and text.startswith("aaa")], ["1", "2"])
 
     def test_text(self):
-        """Worked by hand: a sign of Japanese takes two cells; 41 cells from -20 to 20, of which the 21st is 0."""
+        """Worked by hand: a sign of Japanese takes two cells; 41 cells from -20 to 20, of which the 21st is 0; and 41 from 0 to 20 for what may be 0."""
         lines = pictures.histogram_text([("ab", 1, 0, 2), ("東京", 1, 0, 2)], "two", columns=40).splitlines()
         bar = f"├{'─' * 14}┼{'─' * 14}┤"
         self.assertEqual(lines[1:3], [f"ab    1  {bar}", f"東京  1  {bar}"])
-        lines = pictures.histogram_text([("a", -5, -20, 10), ("b", 10, 5, 20)], "below", columns=48, eps="0.5").splitlines()
-        self.assertEqual(lines[1], f"a  -5  ├{'─' * 14}┼────│{'─' * 9}┤")
-        self.assertEqual(lines[2], f"b  10  {' ' * 20}│████├────┼{'─' * 9}┤")
+        lines = pictures.histogram_text([("a", -15, -20, -10), ("b", 10, 5, 20)], "below", columns=49, eps="0.5").splitlines()
+        self.assertEqual(lines[1], f"a  -15  ├────┼────┤{'█' * 9}│")
+        self.assertEqual(lines[2], f"b   10  {' ' * 20}│████├────┼{'─' * 9}┤")
         self.assertEqual(lines[3], "EPS 0.5; │ is 0; each ├─┤ holds the exact value in at least 95 of 100 answers")
+        lines = pictures.histogram_text([("a", -5, -20, 10), ("b", 10, 5, 20)], "noise", columns=48, eps="0.5").splitlines()
+        self.assertEqual(lines[1], f"a  -5  {'─' * 20}┤")
+        self.assertEqual(lines[2], f"b  10  {'█' * 10}├{'─' * 9}┼{'─' * 19}┤")
+        self.assertEqual(lines[3], "EPS 0.5; each ├─┤ holds the exact value in at least 95 of 100 answers; one without ├ goes on to the left")
 
     def test_steps(self):
         """Worked by hand: ticks to 20, which are 260 px, from 52 down to 312, and 640 px across from 64. The budget is stepped too."""
@@ -339,6 +396,18 @@ class Pictures(unittest.TestCase):
         for points in ([(None, 0, 10**6)], [("2026-01-01T00:00:00Z", 5, 10), ("2026-01-03T00:00:00Z", 10, 10)], [(None, number, 20) for number in range(9)]):
             ElementTree.fromstring(pictures.budget_svg(points, "a budget").encode())
             self.assertEqual(len(pictures.budget_text(points, "a budget").splitlines()), len(points) + 2)
+
+    def test_grids(self):
+        """Worked by hand: half of the greatest is half of the way from white to the bars' color; below 0 is white."""
+        cells = {("a", "x"): (100, 90, 110), ("a", "y"): (50, 40, 60), ("b", "x"): (-5, -15, 5)}
+        drawn = ElementTree.fromstring(grids.grid_svg(grids.Table(cells), "of <these>"))
+        self.assertEqual([one.get("fill") for one in drawn.findall(f"{SVG}rect")[1:]], ["#4c78a8", "#a6bcd4", "#ffffff"])
+        self.assertEqual([one.text for one in drawn.findall(f"{SVG}text")][1:-1], ["x", "y", "a", "100", "±10", "50", "±10", "b", "\u22125", "±10"])
+        many = {(f"row number {row}", f"column {column}"): (row * column, 0, 9) for row in range(30) for column in range(60)}
+        self.assertEqual(len(ElementTree.fromstring(grids.grid_svg(grids.Table(many), "many")).findall(f"{SVG}rect")), 1801)
+        for said in ('{"groups": {}}', '{"groups": {"north": {"value": 1, "intervals": {"95": [0, 2]}}}}'):
+            with self.assertRaises(ValueError):
+                grids.table_of(json.loads(said))
 
     def test_scales(self):
         for low, high in ((0, 1), (0, 7), (-3, 5), (0, 999), (-10**9, 10**12), (0, 10**18)):

@@ -10,8 +10,10 @@ import unittest
 
 from common import PROGRAM, Place, often
 from hitchseason import Refused, asks
+from hitchseason.borrowed import names as written_names
 from hitchseason.borrowed import programs, runs, tables
-from hitchseason.names import BadName, tokens_of, written
+
+BadName, tokens_of, written = written_names.BadName, written_names.tokens_of, written_names.written
 
 NAMES = "age income p q x y row _ p_ size in map people".split() + ["c" * 32, "C" * 31]
 TEXTS = ("a", "b", "")

@@ -15,7 +15,7 @@ import test_server
 from common import PROGRAM, TOP, Between, often, survey
 from hitchseason import Cut, Failed, connect, server
 
-sys.path.insert(0, f"{TOP}/tools")
+sys.path.insert(0, f"{TOP}/tools/lib")
 from catalog import read  # noqa: E402
 from journal import book_of, contents, header  # noqa: E402
 

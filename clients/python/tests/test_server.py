@@ -15,8 +15,10 @@ from contextlib import redirect_stderr
 from common import PROGRAM, TOP, Between, often, published, survey
 from hitchseason import Cut, Failed, Refused, connect, server
 from hitchseason.answers import Left
+from hitchseason.transport import transport_of
 
-sys.path.insert(0, f"{TOP}/bench")
+sys.path.insert(0, f"{TOP}/tests/lib")
+import places  # noqa: E402,F401
 from served import free_ports, is_listened_at  # noqa: E402
 
 WORKERS = 2
@@ -61,6 +63,9 @@ class Proxy(Between):
                     return
                 reply = replies.readline()
                 if mode == "answered":
+                    # A reset would take away replies that weren't read yet, where lines are still being sent.
+                    link.shutdown(socket.SHUT_WR)
+                    lines.read()
                     return
                 link.sendall(reply)
 
@@ -298,6 +303,22 @@ class Served(unittest.TestCase):
         self.assertTrue(caught.exception.reply.startswith("door deep 1: "))
         self.assertEqual(client.left().records, 2)
 
+    def test_destinations(self):
+        """What ssh is called with, by the place."""
+        for place, words in (
+            ("ssh://stats", "-T -- stats"),
+            ("ssh://tom@stats.example", "-T -- tom@stats.example"),
+            ("ssh://tom@stats.example:2222", "-T -p 2222 -- tom@stats.example"),
+            ("ssh://stats.example:1/", "-T -p 1 -- stats.example"),
+            ("ssh://tom@[::1]:65535", "-T -p 65535 -- tom@::1"),
+            ("ssh://[fe80::1]", "-T -- fe80::1"),
+        ):
+            self.assertEqual(transport_of(place).command, ["ssh", *words.split()])
+        self.assertEqual(transport_of("ssh://a:2", words=("-i", "key")).command, "ssh -T -p 2 -i key -- a".split())
+        for place in ("ssh://a:0", "ssh://a:65536", "ssh://a:x", "ssh://a:", "ssh://", "ssh://tom@", "ssh://::1", "ssh://a:1:2"):
+            with self.assertRaises(Failed):
+                transport_of(place)
+
     def test_no_way(self):
         failing = f"{self.place.folder}/ssh"
         with open(failing, "w") as file:
@@ -431,6 +452,48 @@ class OtherPrograms(unittest.TestCase):
             fault, lines, _ = self.fault(web, call)
             self.assertIn("is no hitchseason service", str(fault))
             self.assertEqual(len(lines), 1)
+
+    def test_lying_replies(self):
+        """Control characters, numbers of over 40 digits and lines without an end are no replies, and none of them is told as it came."""
+        recall = lambda client: client.recall(0)
+        for said, call, told in (
+            ([b"hello mia\n", b"recall 0 answer " + b"9" * 41 + b" 2\n"], recall, f"recall 0 answer {'9' * 40}.. 2"),
+            ([b"hello mia\n", b"no 60 \x1b]0;x\x07\xc2\x9b31m 2\n"], recall, r"no 60 \x1b]0;x\x07\xc2\x9b31m 2"),
+            ([b"left 0 " + b"9" * 5000 + b" 2\n"], lambda client: client.left(), f"(it said `left 0 {'9' * 40}.. 2`)"),
+            ([b"hello mia\n", b"x" * 20_000], recall, "a line of over 16384 bytes came, which is no reply"),
+            ([b"x" * 20_000], lambda client: client.left(), "a line of over 16384 bytes came, which is no reply. Nothing was asked."),
+        ):
+            begun = time.monotonic()
+            fault, _, _ = self.fault(iter(said), call)
+            self.assertIn(told, str(fault))
+            self.assertTrue(str(fault).isprintable(), str(fault))
+            self.assertLess(time.monotonic() - begun, 10)
+
+    def test_recalls_have_an_end(self):
+        """A server that recalls whatever is asked for is asked for no more numbers than there is room for, and a step of them."""
+        def replies():
+            yield b"left 0 20000000 9\n"
+            while True:
+                yield b"hello mia\n"
+                yield from (b"recall %d answer 5 9\n" % number for number in range(64))
+                yield b"left 0 20000000 %d\n" % 10**30
+
+        other = Says(replies())
+        with self.assertRaises(Failed) as caught:
+            connect("127.0.0.1", other.port, "mia", "labour", public=self.public).learn()
+        other.close()
+        self.assertIn("more numbers are recalled than were reserved", str(caught.exception))
+        self.assertEqual(sum(line.startswith(b"recall") for line in other.lines), 64)
+
+    def test_noise_of_a_login(self):
+        """What a login says on its standard error has no control characters when it is told."""
+        ssh, said = f"{self.place.folder}/noisy", io.StringIO()
+        with open(ssh, "w") as file:
+            file.write("#!/bin/sh\nprintf 'a \\033[31mred\\302\\23331m\\r\\n' >&2\nread line\necho 'left 0 20000000 0'\nread line\necho bye\n")
+        os.chmod(ssh, 0o755)
+        with redirect_stderr(said):
+            self.assertEqual(connect("ssh://there", "mia", "labour", public=self.public, ssh=(ssh,)).left().records, 0)
+        self.assertEqual(said.getvalue(), "a \\x1b[31mred\\x9b31m\n")
 
     def test_waiting(self):
         """A service that isn't there: that it is waited for is told once, after a second, and not where it comes before."""

@@ -20,8 +20,9 @@ from hitchseason import told
 from hitchseason.prompt import candidates
 
 SHELL = f"{TOP}/tools/shell"
+ANSWERS = os.environ["HITCHSEASON_ANSWERS"]
 REGISTER = f"{TOP}/examples/register"
-PAGE = f"{TOP}/docs/client.md"
+PAGE = next(page for page in (f"{TOP}/docs/client.md", f"{TOP}/docs/dev/client.md") if os.path.isfile(page))
 YOUNG = "size (filter (fn (p : row persons) =>\n  p.age <= 30) persons)"
 
 
@@ -160,11 +161,51 @@ class Pipes(unittest.TestCase):
     def test_recalls(self):
         first = self.said("\\e 0.5", "size persons;", "\\r 0").splitlines()
         self.assertEqual((first[2], first[3]), (first[0], "number 0, recalled"))
-        self.assertEqual(self.said("\\r 0").splitlines()[0], first[0].split()[0])
+        # Of an earlier session: by what was kept of it, by the EPS that is typed, or the value alone.
+        self.assertEqual(self.said("\\r 0").splitlines(), [*first[2:4], "asked: size persons"])
+        os.environ["HITCHSEASON_ANSWERS"] = ""
+        try:
+            alone = [first[0].split()[0], "number 0, recalled; \\r 0 EPS gives its interval, by the EPS at which it was asked"]
+            self.assertEqual(self.said("\\r 0").splitlines(), alone)
+            self.assertEqual(self.said("\\r 0 0.5").splitlines(), first[2:4])
+        finally:
+            os.environ["HITCHSEASON_ANSWERS"] = ANSWERS
         self.assertIn("no number 7 was ever reserved", self.refused("\\r 7"))
         self.assertIn("another analyst made", self.refused("\\r 0", words=("tom", "labour")))
         self.assertIn("is none", self.refused("\\r x"))
         self.assertIn("no run was cut", self.refused("\\r"))
+
+    def test_other_sessions(self):
+        """What is kept counts for its folder, analyst and owner, where the value is the one that is recalled. It is kept for the analyst alone."""
+        first = self.said("\\e 0.5", "\\p areas north", "size persons;").splitlines()
+        with survey(budget=20_000_000, capacity=1000, key="another key") as other:
+            value = piped(other.folder, "\\e 2", "size persons;").stdout.decode().split()[0]
+            self.assertEqual(self.said("\\r 0").splitlines()[0], first[0])
+            self.assertEqual(piped(other.folder, "\\r 0").stdout.decode().split()[:6], [value, "50", "of", "100:", value, "to"])
+        with open(ANSWERS) as file:
+            lines = file.read().splitlines()
+        self.assertEqual(os.stat(ANSWERS).st_mode & 0o777, 0o600)
+        kept = [json.loads(line) for line in lines if json.loads(line)["place"] == os.path.realpath(self.folder)]
+        self.assertEqual([(one["eps"], one["sent"], one["part"]) for one in kept], [("0.5", "size persons", ["areas", "north"])])
+        with open(ANSWERS, "a") as file:
+            file.write(json.dumps({**kept[0], "value": kept[0]["value"] + 1, "eps": "9"}) + "\nno JSON\n[]\n{}\n")
+        self.assertEqual(self.said("\\r 0").splitlines()[0], first[0])
+
+    def test_words_of_others(self):
+        """`help`, `quit` and `exit` where a line begins anew, and nowhere else."""
+        self.assertEqual(self.said("help"), self.said("\\h"))
+        for word in ("quit", "exit", "quit;", " EXIT "):
+            self.assertEqual(self.said(word, "size persons;"), "")
+        self.assertIn("no 30 unbound 5 9", self.refused("\\e 1", "size", "quit;"))
+
+    def test_granted(self):
+        """What was granted since is in \\d, with what is left."""
+        self.assertEqual(self.said("\\d").splitlines()[0], "labour: budget 20, room for 500 answers")
+        self.said("\\e 0.5", "size persons;")
+        subprocess.run([PROGRAM, "grant", "catalog.json", "key", "labour", "2500000"], cwd=self.folder, check=True, stdout=subprocess.DEVNULL)
+        # Three records of 1,000 are written: room for 498 pairs.
+        wanted = "labour: budget 22.5, of which 2.5 were granted since; 22 left, room for 498 more answers"
+        self.assertEqual(self.said("\\d").splitlines()[0], wanted)
 
     def test_json(self):
         lines = ["\\e 0.5", "size persons;", "\\b", "\\f size persons", "\\p areas", "size persons;", "\\p"]
@@ -174,7 +215,7 @@ class Pipes(unittest.TestCase):
         one, left, forecast, groups, mean, top, tenth, variance, again = map(json.loads, said)
         self.assertEqual((one["taken"], one["left"], one["sent"], one["recalled"]), (500_000, 19_500_000, "size persons", False))
         self.assertEqual(again, {**one, "taken": None, "left": None, "recalled": True})
-        self.assertEqual(json.loads(self.said("\\r 0", words=("mia", "labour", "--json"))), {"value": one["value"], "number": 0, "recalled": True})
+        self.assertEqual(json.loads(self.said("\\r 0", words=("mia", "labour", "--json"))), again)
         self.assertEqual((left["left"], forecast["charge"], len(groups["groups"])), (19_500_000, 500_000, 5))
         self.assertEqual((len(mean["numbers"]), len(top["top"]), top["taken"]), (2, 2, 500_000))
         for known in (mean, tenth, variance):

@@ -1,6 +1,6 @@
 -- The option's text is accepted exactly where it is a number in range.
 use Rattle.std.proofs.Common.{◌≡◌, ℕ, Bool, true, false, refl, sym, ap, ap₂, [], ◌∷◌, ◌∙◌, Option, Some, None, arith, codes}
-use Rattle.std.specs.Prelude.{option_map}
+use Rattle.std.specs.Prelude.{option_map, if◌then◌else◌}
 use Rattle.std.specs.List.{fold}
 use Rattle.clap.specs.Lexer.{without_minus}
 use Rattle.clap.specs.ValueTests.{accepts}
@@ -78,13 +78,12 @@ run_walk catalog key text a b c =
 abbrev settled_by : Text → Text → Text → Kinds
 settled_by catalog key text = settle_fault run_shape.rules run_shape.args_override_self (after_value catalog key text).held
 
-settles : (catalog key text : Text) → accepts false workers_parser text ≡ true → settled_by catalog key text ≡ []
-unfolding walked
-settles catalog key text e = rw e refl
+abbrev fault_by : Bool → Kinds
+fault_by accepted = or_else (if accepted then [] else kind.ValueValidation ∷ []) []
 
-refuses : (catalog key text : Text) → accepts false workers_parser text ≡ false → settled_by catalog key text ≡ kind.ValueValidation ∷ []
+settled_is : (catalog key text : Text) → settled_by catalog key text ≡ fault_by (accepts false workers_parser text)
 unfolding walked
-refuses catalog key text e = rw e refl
+settled_is catalog key text = refl
 
 said_is : (catalog key text : Text) → command_by run_shape [] (after_value catalog key text)
     ≡ said_by catalog key (accepts false workers_parser text) (number_written (without_minus text))
@@ -99,8 +98,8 @@ said_is catalog key text = go (accepts false workers_parser text) refl
         (check_fault run_shape (finished run_shape.rules held) false))) (command_named run_shape.name (finished run_shape.rules held))
 
     go : (b : Bool) → accepts false workers_parser text ≡ b → from (settled_by catalog key text) ≡ said_by catalog key b (number_written (without_minus text))
-    go true e = ap from (settles catalog key text e)
-    go false e = ap from (refuses catalog key text e)
+    go true e = ap from (settled_is catalog key text ∙ ap fault_by e)
+    go false e = ap from (settled_is catalog key text ∙ ap fault_by e)
 
 pub workers_are_said : (catalog key text : Text) → IsPlainWord catalog → IsPlainWord key → IsPlainWord text
     → command_of (codes "run" ∷ catalog ∷ key ∷ codes "--workers" ∷ text ∷ []) ≡ option_map (run catalog key) (workers_said text)

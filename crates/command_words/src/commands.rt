@@ -1,10 +1,10 @@
 //! The program's commands, as clap is told of them.
 
-ghost use Rattle.std.specs.Prelude.{◌≡◌, IfOk, Ok, codes, false};
-ghost use Rattle.clap.specs.Words.{AddsSubcommand, app_of, rule_of};
-ghost use Rattle.clap.specs.declared.builder.command.Command.TheViews.{out-Command};
+ghost use Rattle.std.specs.Prelude.{◌≡◌, IfOk, codes, false};
+ghost use Rattle.clap.specs.Words.{App, Rule, app_of, rule_of, with_rule, with_subcommand};
+ghost use Rattle.command_words.specs.Made.{IsMadeAs};
 ghost use Rattle.command_words.specs.Program.{address_option, bare_program, check_app, files_app, gap_app, gen_app, grant_app, number_rule, or_else_is};
-ghost use Rattle.command_words.specs.Program.{program_app, required_number, required_option, required_word, run_app, serve_app, workers_option, workers_rule};
+ghost use Rattle.command_words.specs.Program.{program_app, required_number, required_option, required_word, run_app, serve_app, with_word, workers_option, workers_rule};
 
 use clap::builder::ValueParser;
 use clap::{Arg, Command};
@@ -35,25 +35,51 @@ fn word<'a>(alloc: Global, name: &'a str) -> Arg<'a>
     Arg::new(alloc, name).required(true)
 }
 
+/// A command with one more argument, where it was made.
+fn with_arg<'a>(
+    made: Result<Command<'a>, AllocError>,
+    arg: Arg<'a>,
+) -> Result<Command<'a>, AllocError>
+    requires local { arg.global ≡ false }
+    ensures { (app : App) (rule : Rule) → rule_of arg.entry ≡ rule → IfOk made.entry (IsMadeAs app) → IfOk result (IsMadeAs (with_rule app rule)) }
+{
+    match made {
+        Ok(command) => command.arg(arg),
+        Err(error) => Err(error),
+    }
+}
+
+/// A command with one more word, where it was made.
+fn with_word<'a>(
+    alloc: Global,
+    made: Result<Command<'a>, AllocError>,
+    name: &'a str,
+) -> Result<Command<'a>, AllocError>
+    ensures { (app : App) → IfOk made.entry (IsMadeAs app) → IfOk result (IsMadeAs (with_word app name.entry.now)) }
+{
+    match made {
+        Ok(command) => command.arg(word(alloc, name)),
+        Err(error) => Err(error),
+    }
+}
+
 /// `check CATALOG OWNER FILE`.
 fn check_command<'a>(alloc: Global) -> Result<Command<'a>, AllocError>
-    ensures shape { IfOk result (λ c. app_of c ≡ check_app) }
-    ensures local { IfOk result (λ c. (out-Command c).has_globals ≡ false) }
+    ensures { IfOk result (IsMadeAs check_app) }
 {
-    Command::new(alloc, "check")
-        .arg(word(alloc, "catalog"))?
-        .arg(word(alloc, "owner"))?
-        .arg(word(alloc, "file"))
+    let command = Ok(Command::new(alloc, "check"));
+    let command = with_word(alloc, command, "catalog");
+    let command = with_word(alloc, command, "owner");
+    with_word(alloc, command, "file")
 }
 
 /// The command of this name, with the names of a catalog and of a key.
 fn files_command<'a>(alloc: Global, name: &'a str) -> Result<Command<'a>, AllocError>
-    ensures shape { IfOk result (λ c. app_of c ≡ files_app name.entry.now) }
-    ensures local { IfOk result (λ c. (out-Command c).has_globals ≡ false) }
+    ensures { IfOk result (IsMadeAs (files_app name.entry.now)) }
 {
-    Command::new(alloc, name)
-        .arg(word(alloc, "catalog"))?
-        .arg(word(alloc, "key"))
+    let command = Ok(Command::new(alloc, name));
+    let command = with_word(alloc, command, "catalog");
+    with_word(alloc, command, "key")
 }
 
 /// A number in this range.
@@ -108,55 +134,53 @@ fn address_option<'a>(alloc: Global) -> Arg<'a>
 
 /// `run CATALOG KEY --workers W`.
 fn run_command<'a>(alloc: Global) -> Result<Command<'a>, AllocError>
-    ensures shape { IfOk result (λ c. app_of c ≡ run_app) }
-    ensures local { IfOk result (λ c. (out-Command c).has_globals ≡ false) }
+    ensures { IfOk result (IsMadeAs run_app) }
 {
-    files_command(alloc, "run")?.arg(workers_option(alloc))
+    with_arg(files_command(alloc, "run"), workers_option(alloc))
 }
 
 /// `grant CATALOG KEY OWNER AMOUNT`.
 fn grant_command<'a>(alloc: Global) -> Result<Command<'a>, AllocError>
-    ensures shape { IfOk result (λ c. app_of c ≡ grant_app) }
-    ensures local { IfOk result (λ c. (out-Command c).has_globals ≡ false) }
+    ensures { IfOk result (IsMadeAs grant_app) }
 {
-    files_command(alloc, "grant")?
-        .arg(word(alloc, "owner"))?
-        .arg(required_number(alloc, "amount", ValueParser::signed(1, GREATEST_AMOUNT)))
+    let amount = ValueParser::signed(1, GREATEST_AMOUNT);
+    let command = with_word(alloc, files_command(alloc, "grant"), "owner");
+    with_arg(command, required_number(alloc, "amount", amount))
 }
 
 /// `gap CATALOG OWNER CATALOG2 FILE`.
 fn gap_command<'a>(alloc: Global) -> Result<Command<'a>, AllocError>
-    ensures shape { IfOk result (λ c. app_of c ≡ gap_app) }
-    ensures local { IfOk result (λ c. (out-Command c).has_globals ≡ false) }
+    ensures { IfOk result (IsMadeAs gap_app) }
 {
-    Command::new(alloc, "gap")
-        .arg(word(alloc, "catalog"))?
-        .arg(word(alloc, "owner"))?
-        .arg(word(alloc, "second_catalog"))?
-        .arg(word(alloc, "file"))
+    let command = Ok(Command::new(alloc, "gap"));
+    let command = with_word(alloc, command, "catalog");
+    let command = with_word(alloc, command, "owner");
+    let command = with_word(alloc, command, "second_catalog");
+    with_word(alloc, command, "file")
 }
 
 /// `serve CATALOG KEY --addr A --port P --workers W --each N`.
 fn serve_command<'a>(alloc: Global) -> Result<Command<'a>, AllocError>
-    ensures shape { IfOk result (λ c. app_of c ≡ serve_app) }
-    ensures local { IfOk result (λ c. (out-Command c).has_globals ≡ false) }
+    ensures { IfOk result (IsMadeAs serve_app) }
 {
-    files_command(alloc, "serve")?
-        .arg(address_option(alloc))?
-        .arg(required_option(alloc, "port", ValueParser::signed(1, GREATEST_PORT)))?
-        .arg(workers_option(alloc))?
-        .arg(required_option(alloc, "each", ValueParser::signed(1, GREATEST_EACH)))
+    let port = ValueParser::signed(1, GREATEST_PORT);
+    let each = ValueParser::signed(1, GREATEST_EACH);
+    let command = with_arg(files_command(alloc, "serve"), address_option(alloc));
+    let command = with_arg(command, required_option(alloc, "port", port));
+    let command = with_arg(command, workers_option(alloc));
+    with_arg(command, required_option(alloc, "each", each))
 }
 
 /// `gen SEED N WORKERS`.
 fn gen_command<'a>(alloc: Global) -> Result<Command<'a>, AllocError>
-    ensures shape { IfOk result (λ c. app_of c ≡ gen_app) }
-    ensures local { IfOk result (λ c. (out-Command c).has_globals ≡ false) }
+    ensures { IfOk result (IsMadeAs gen_app) }
 {
-    Command::new(alloc, "gen")
-        .arg(required_number(alloc, "seed", ValueParser::signed(0, GREATEST_SEED)))?
-        .arg(required_number(alloc, "asks", ValueParser::signed(1, GREATEST_ASKS)))?
-        .arg(workers(alloc))
+    let seed = ValueParser::signed(0, GREATEST_SEED);
+    let asks = ValueParser::signed(1, GREATEST_ASKS);
+    let command = Ok(Command::new(alloc, "gen"));
+    let command = with_arg(command, required_number(alloc, "seed", seed));
+    let command = with_arg(command, required_number(alloc, "asks", asks));
+    with_arg(command, workers(alloc))
 }
 
 /// The program without its commands, of which one is required. Calls for help and for the version are no words of it.
@@ -170,15 +194,19 @@ fn bare_program<'a>(alloc: Global) -> Command<'a>
         .disable_help_subcommand(true)
 }
 
-/// The program with one more command, where that was made.
+/// The program with one more command, where both were made.
 fn with_command<'a>(
-    program: Command<'a>,
+    program: Result<Command<'a>, AllocError>,
     made: Result<Command<'a>, AllocError>,
 ) -> Result<Command<'a>, AllocError>
-    ensures { IfOk result (λ r. (c : _) × (made.entry ≡ Ok c) × AddsSubcommand program.entry c r) }
+    ensures { (app put : App) → IfOk program.entry (λ c. app_of c ≡ app) → IfOk made.entry (IsMadeAs put) →
+        IfOk result (λ r. app_of r ≡ with_subcommand app put.top) }
 {
-    match made {
-        Ok(command) => program.subcommand(command),
+    match program {
+        Ok(program) => match made {
+            Ok(command) => program.subcommand(command),
+            Err(error) => Err(error),
+        },
         Err(error) => Err(error),
     }
 }
@@ -187,12 +215,13 @@ fn with_command<'a>(
 pub fn program_command<'a>(alloc: Global) -> Result<Command<'a>, AllocError>
     ensures { IfOk result (λ c. app_of c ≡ program_app) }
 {
-    let program = with_command(bare_program(alloc), check_command(alloc))?;
-    let program = with_command(program, files_command(alloc, "init"))?;
-    let program = with_command(program, run_command(alloc))?;
-    let program = with_command(program, files_command(alloc, "audit"))?;
-    let program = with_command(program, grant_command(alloc))?;
-    let program = with_command(program, gap_command(alloc))?;
-    let program = with_command(program, serve_command(alloc))?;
+    let program = Ok(bare_program(alloc));
+    let program = with_command(program, check_command(alloc));
+    let program = with_command(program, files_command(alloc, "init"));
+    let program = with_command(program, run_command(alloc));
+    let program = with_command(program, files_command(alloc, "audit"));
+    let program = with_command(program, grant_command(alloc));
+    let program = with_command(program, gap_command(alloc));
+    let program = with_command(program, serve_command(alloc));
     with_command(program, gen_command(alloc))
 }

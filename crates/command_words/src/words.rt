@@ -13,7 +13,7 @@ use clap::error::ErrorKind;
 use std::alloc::Global;
 
 /// A command, with the names in it.
-#[derive(Clone, Copy, Debug, PartialEq, Eq)]
+#[derive(Clone, Copy, PartialEq, Eq)]
 pub enum Command<'a> {
     Check {
         catalog: &'a str,
@@ -61,7 +61,7 @@ pub enum Command<'a> {
 }
 
 /// Why there is no command.
-#[derive(Clone, Copy, Debug, PartialEq, Eq)]
+#[derive(Clone, Copy, PartialEq, Eq)]
 pub enum WordsFault {
     /// The words are none.
     Usage,

@@ -1,7 +1,8 @@
 pub mod TableParts
 pub mod Computed
 pub mod Gone
-pub mod Branched
+pub mod Stranded
 pub mod Closures
 pub mod Examples
 pub mod RowExamples
+pub mod ChainExamples

@@ -2,20 +2,15 @@
 use Rattle.std.specs.Prelude.{◌+◌, ◌≤◌, max, List, [], ◌∷◌}
 use Rattle.std.proofs.Common.{arith}
 use denote.Param.Weighed.{most}
-use Rattle.flow_values.specs.Views.{branches_deep, form_view, stages_deep}
-use Rattle.flow_values.specs.declared.value.Branch.{Branch}
+use Rattle.flow_values.specs.Views.{form_view, strands_deep}
 use Rattle.flow_values.specs.declared.value.Form.{Form}
 use Rattle.flow_values.specs.declared.value.Form.TheVariants.{Num, Text, Unit as One, Truth, Pair, Inl, Inr, Bang, Row, Cell, Bag, Fun}
-use Rattle.flow_values.specs.declared.value.Scope.TheDeep.{deep-Branch, deep-Form, deep-Stage}
-use Rattle.flow_values.specs.declared.value.Stage.{Stage}
+use Rattle.flow_values.specs.declared.value.Chain.TheDeep.{deep-Form, deep-Strand}
+use Rattle.flow_values.specs.declared.value.Strand.{Strand}
 
-pub stages_fall : (ss : List Stage) → most deep-Stage ss ≤ stages_deep ss + 1
-stages_fall [] = omega arith
-stages_fall (s ∷ ss) = omega (arith, stages_fall ss)
-
-pub branches_fall : (bs : List Branch) → most deep-Branch bs ≤ branches_deep bs + 1
-branches_fall [] = omega arith
-branches_fall (b ∷ bs) = omega (arith, stages_fall b.stages.items, branches_fall bs)
+pub strands_fall : (ss : List Strand) → most deep-Strand ss ≤ strands_deep ss + 1
+strands_fall [] = omega arith
+strands_fall (s ∷ ss) = omega (arith, strands_fall ss)
 
 pub form_falls : (f : Form) → max (deep-Form f) 0 ≤ (form_view f).deep
 form_falls (Num z) = omega arith
@@ -28,5 +23,5 @@ form_falls (Inr p) = omega arith
 form_falls (Bang p) = omega arith
 form_falls (Row k i t) = omega arith
 form_falls (Cell k i t) = omega arith
-form_falls (Bag p) = omega (arith, branches_fall p.value.branches.items)
+form_falls (Bag p) = omega (arith, strands_fall p.value.strands.items)
 form_falls (Fun p) = omega arith

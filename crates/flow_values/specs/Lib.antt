@@ -5,4 +5,4 @@ pub mod Codes
 pub mod Views
 pub mod Falls
 pub mod Founds
-pub mod Branches
+pub mod Strands

@@ -56,3 +56,8 @@ Goes (s ∷ ss) (Some x) = Answers s x × Goes ss (stepped s x)
 abbrev pub AllGo : List Step → List Flat → Type 0
 AllGo ss [] = ⊤
 AllGo ss (x ∷ xs) = Goes ss (Some x) × AllGo ss xs
+
+-- no step leaves elements out
+abbrev pub AreAllMaps : List Step → Type 0
+AreAllMaps [] = ⊤
+AreAllMaps (s ∷ ss) = (s.keeps ≡ None) × AreAllMaps ss

@@ -1,5 +1,5 @@
 -- What the code's values and scopes stand for.
-use Rattle.std.specs.Prelude.{◌≡◌, ◌<◌, ◌++◌, ℕ, suc, max, List, [], ◌∷◌, length, ⊤}
+use Rattle.std.specs.Prelude.{◌≡◌, ◌<◌, ◌++◌, ℕ, suc, max, Bool, IsTrue, List, Option, [], ◌∷◌, length, ⊤}
 use Rattle.fz_ast.specs.Names.{name_of, text_of}
 use Rattle.fz_ast.specs.Terms.{FnE, FunE, Name, Term, at}
 use Rattle.fz_ast.specs.TermNodes.{term_at}
@@ -8,15 +8,18 @@ use Rattle.fz_ast.specs.declared.span.Span.{Span}
 use Rattle.metric_values.specs.Values.{Flat, TextF, Value, NumV, TextV, UnitV, PairV, InlV, InrV, BangV, BagV, FunV, FnV, Env, Empty, Bind, truth, value_of}
 use Rattle.metric_values.specs.Cells.{cell_at, columns_in, from_column, row_at}
 use Rattle.run_values.specs.Parts.{IsPair, first_in, second_in}
-use Rattle.flow_values.specs.Held.{Held, HeldScope}
-use Rattle.flow_values.specs.Steps.{AllGo, Step, all_through}
-use Rattle.flow_values.specs.declared.value.Branch.{Branch}
+use Rattle.flow_values.specs.Held.{Held, HeldChain, HeldScope}
+use Rattle.flow_values.specs.Steps.{AllGo, AreAllMaps, Step, all_through}
 use Rattle.flow_values.specs.declared.value.Closure.{Closure}
+use Rattle.flow_values.specs.declared.value.End.{End}
+use Rattle.flow_values.specs.declared.value.End.TheVariants.{Rows, After}
 use Rattle.flow_values.specs.declared.value.Form.{Form}
 use Rattle.flow_values.specs.declared.value.Form.TheVariants.{Num, Text, Unit as One, Truth, Pair, Inl, Inr, Bang, Row, Cell, Bag, Fun}
+use Rattle.flow_values.specs.declared.value.Joint.{Joint}
 use Rattle.flow_values.specs.declared.value.Link.{Link}
-use Rattle.flow_values.specs.declared.value.Link.TheVariants.{End, More, Halves, Element, Opened}
+use Rattle.flow_values.specs.declared.value.Link.TheVariants.{End as NoName, More, Halves, Element, Opened}
 use Rattle.flow_values.specs.declared.value.Stage.{Stage}
+use Rattle.flow_values.specs.declared.value.Strand.{Strand}
 
 -- the bytes of a text
 abbrev pub text_bytes : Flat → List ℕ
@@ -52,34 +55,54 @@ pub record IsKnown (c : Closure) : Type 0 where
   pub known : c.lambda < length c.nodes.value.terms
   pub function : IsFunction (term_at c.nodes.value.terms c.lambda)
 
+abbrev pub step_by : Closure → ℕ → Option Bool → Step
+step_by c l k = record { function = closure_value c; left = l; keeps = k }
+
 abbrev pub step_of : Stage → Step
-step_of s = record { function = closure_value s.function.value; left = s.left; keeps = s.keeps }
+step_of s = step_by s.function.value s.left s.keeps
 
 abbrev pub steps_of : List Stage → List Step
 steps_of [] = []
 steps_of (s ∷ ss) = step_of s ∷ steps_of ss
 
--- the elements of all branches
-abbrev pub flow_of : List Branch → List Flat
-flow_of [] = []
-flow_of (b ∷ bs) = all_through (steps_of b.stages.items) b.table.value ++ flow_of bs
-
 abbrev pub AllKnown : List Stage → Type 0
 AllKnown [] = ⊤
 AllKnown (s ∷ ss) = IsKnown s.function.value × AllKnown ss
 
+-- the steps before, and one more
+abbrev pub joint_steps : Joint → List Step
+joint_steps j = j.before.steps ++ step_by j.function.value j.left j.keeps ∷ []
+
+abbrev pub end_view : End → HeldChain
+end_view Rows = record { steps = []; deep = 0 }
+end_view (After p) =
+    record {
+      steps = joint_steps p.value;
+      deep = suc (max p.value.function.value.scope.deep p.value.before.deep);
+    }
+
+-- its node is a function, and where it says so, no step leaves elements out
+pub record IsJoint (j : Joint) : Type 0 where
+  pub known : IsKnown j.function.value
+  pub maps : IsTrue j.maps → AreAllMaps (joint_steps j)
+
+abbrev pub IsChainEnd : End → Type 0
+IsChainEnd Rows = ⊤
+IsChainEnd (After p) = IsJoint p.value
+
+-- the elements of all strands
+abbrev pub flow_of : List Strand → List Flat
+flow_of [] = []
+flow_of (s ∷ ss) = all_through s.chain.steps s.table.value ++ flow_of ss
+
 -- for each row the functions of the stages give something
-abbrev pub IsFlow : List Branch → Type 0
+abbrev pub IsFlow : List Strand → Type 0
 IsFlow [] = ⊤
-IsFlow (b ∷ bs) = AllKnown b.stages.items × AllGo (steps_of b.stages.items) b.table.value × IsFlow bs
+IsFlow (s ∷ ss) = AllGo s.chain.steps s.table.value × IsFlow ss
 
-abbrev pub stages_deep : List Stage → ℕ
-stages_deep [] = 0
-stages_deep (s ∷ ss) = max s.function.value.scope.deep (stages_deep ss)
-
-abbrev pub branches_deep : List Branch → ℕ
-branches_deep [] = 0
-branches_deep (b ∷ bs) = max (stages_deep b.stages.items) (branches_deep bs)
+abbrev pub strands_deep : List Strand → ℕ
+strands_deep [] = 0
+strands_deep (s ∷ ss) = max s.chain.deep (strands_deep ss)
 
 -- without anything inside that is deep
 abbrev pub flat_held : Value → Held
@@ -96,14 +119,14 @@ form_view (Inr p) = record { means = InrV p.value.means; deep = suc p.value.deep
 form_view (Bang p) = record { means = BangV p.value.means; deep = suc p.value.deep }
 form_view (Row k i t) = flat_held (PairV (value_of (cell_at k (row_at t.value i))) (value_of (from_column (suc k) (row_at t.value i))))
 form_view (Cell k i t) = flat_held (TextV (text_bytes (cell_at k (row_at t.value i))))
-form_view (Bag p) = record { means = BagV (flow_of p.value.branches.items); deep = suc (branches_deep p.value.branches.items) }
+form_view (Bag p) = record { means = BagV (flow_of p.value.strands.items); deep = suc (strands_deep p.value.strands.items) }
 form_view (Fun p) = record { means = closure_value p.value; deep = suc p.value.scope.deep }
 
 -- parts of tables are there, a closure's node is a function, and a bag can be walked
 abbrev pub IsValueForm : Form → Type 0
 IsValueForm (Row k i t) = IsRowPart t.value i k
 IsValueForm (Cell k i t) = IsTextCell t.value i k
-IsValueForm (Bag p) = IsFlow p.value.branches.items
+IsValueForm (Bag p) = IsFlow p.value.strands.items
 IsValueForm (Fun p) = IsKnown p.value
 IsValueForm form = ⊤
 
@@ -112,7 +135,7 @@ abbrev pub scope_deep : ℕ → ℕ → ℕ
 scope_deep v s = suc (suc (max v s))
 
 abbrev pub link_view : Link → HeldScope
-link_view End = record { means = Empty; deep = 0 }
+link_view NoName = record { means = Empty; deep = 0 }
 link_view (More p) =
     record { means = Bind (name_of p.value.name) p.value.value.means p.value.outer.means; deep = scope_deep p.value.value.deep p.value.outer.deep }
 link_view (Halves p) =

@@ -7,4 +7,5 @@ pub mod stages;
 pub mod value;
 
 pub use plain::Plain;
-pub use value::{Branch, Closure, Flow, Scope, Stage, Value};
+pub use stages::Branch;
+pub use value::{Chain, Closure, Flow, Scope, Stage, Strand, Value};

@@ -11,7 +11,7 @@ ghost use Rattle.flow_values.specs.Steps.{AllGo, all_through};
 ghost use Rattle.flow_values.specs.Views.{IsClosureAt, IsFlow, IsFunction, IsKnown, IsTextCell, closure_value, flow_of, function_of, text_bytes};
 
 use crate::plain::{Plain, last_plain, plain_at};
-use crate::stages::{all_staged, one_branch, put_all};
+use crate::stages::{all_staged, one_strand, put_all};
 use fz_ast::{Name, NoMemory, Nodes, Text};
 use metric_values::{Cell, Table};
 use std::alloc::Global;
@@ -63,24 +63,50 @@ pub struct Closure {
     pub scope: Scope,
 }
 
-/// A bag: the elements of each branch.
+/// A bag: the elements of each strand.
 #[cycle(value)]
 #[derive(Drop)]
 pub struct Flow {
-    pub branches: Vec<Branch>,
+    pub strands: Vec<Strand>,
 }
 
-/// A table, and the stages that its rows pass, the first one first.
+/// Part of a bag: a table, and the stages that its rows pass.
 #[cycle(value)]
 #[derive(Drop)]
-pub struct Branch {
+pub struct Strand {
     pub table: Rc<Table>,
-    pub stages: Vec<Stage>,
+    pub chain: Chain,
+}
+
+/// Stages, a counted cell for each, so that a chain with one stage more shares those before. A contract sees the steps, the first one
+/// first, and how deep it is held.
+#[cycle(value)]
+pub struct Chain {
+    pub(crate) end: End,
+}
+
+#[cycle(value)]
+#[derive(Drop)]
+pub enum End {
+    /// No stages.
+    Rows,
+    /// The last stage, after the others.
+    After(Rc<Joint>),
+}
+
+/// A stage, whether neither it nor one before it leaves elements out, and those before it.
+#[cycle(value)]
+#[derive(Drop)]
+pub struct Joint {
+    pub function: Rc<Closure>,
+    pub left: u32,
+    pub keeps: Option<bool>,
+    pub maps: bool,
+    pub before: Chain,
 }
 
 /// A function, the height within which its body has values, and whether it gives elements, or tells which are kept: those for which it
 /// says this truth.
-#[cycle(value)]
 #[derive(Drop)]
 pub struct Stage {
     pub function: Rc<Closure>,
@@ -176,6 +202,47 @@ impl Model for Scope {
     ghost use Rattle.std.proofs.Common.{arith};
 
     ghost size_decreases = { λ a h. Prim.grind (arith) };
+}
+
+impl Model for Chain {
+    ghost use Rattle.flow_values.specs.Held.{HeldChain};
+    ghost use Rattle.flow_values.specs.Codes.{chain_code};
+
+    ghost Value = { HeldChain };
+
+    ghost coded = { chain_code };
+
+    ghost use Rattle.flow_values.specs.Views.{end_view, IsChainEnd};
+
+    ghost view = { λ a. end_view a.end };
+
+    ghost invariant = { λ a. IsChainEnd a.end };
+
+    ghost size = { λ s. s.deep };
+
+    ghost use Rattle.std.proofs.Common.{arith};
+
+    ghost size_decreases = { λ a h. Prim.grind (arith) };
+}
+
+impl Drop for Chain {
+    // By a loop, so that long chains take no stack.
+    #[cycle(value)]
+    fn drop(mut self) {
+        loop {
+            let Chain { end } = self;
+            match end {
+                End::Rows => return,
+                End::After(rc) => {
+                    let Some(joint) = Rc::into_inner(rc) else {
+                        return
+                    };
+                    drop(joint.function);
+                    self = joint.before;
+                }
+            }
+        }
+    }
 }
 
 impl Drop for Scope {
@@ -332,12 +399,12 @@ impl Value {
         })
     }
 
-    /// The bag of these branches' elements.
-    pub(crate) fn bag(alloc: Global, branches: Vec<Branch>) -> Result<Value, NoMemory>
-        requires { IsFlow branches.items }
-        ensures { IfOk result (λ v. v.means ≡ BagV (flow_of branches.items)) }
+    /// The bag of these strands' elements.
+    pub(crate) fn bag(alloc: Global, strands: Vec<Strand>) -> Result<Value, NoMemory>
+        requires { IsFlow strands.items }
+        ensures { IfOk result (λ v. v.means ≡ BagV (flow_of strands.items)) }
     {
-        match Rc::new(alloc, Flow { branches }) {
+        match Rc::new(alloc, Flow { strands }) {
             Ok(rc) => Ok(Value {
                 form: Form::Bag(rc),
             }),
@@ -357,7 +424,7 @@ impl Value {
         ensures { IfOk result (λ v. v.means ≡ BagV table.now) }
     {
         match Rc::new(alloc, table.copy()?) {
-            Ok(rc) => Value::bag(alloc, one_branch(alloc, rc)?),
+            Ok(rc) => Value::bag(alloc, one_strand(alloc, rc)?),
             Err(_) => Err(NoMemory),
         }
     }
@@ -377,8 +444,8 @@ impl Value {
             (λ v. v.means ≡ BagV (all_through (record { function = function.now.means; left = left; keeps = keeps } ∷ []) (elements self.now.means))) }
     {
         let closure = function.shared_function();
-        let branches = all_staged(alloc, &self.flow().branches, closure, left, keeps)?;
-        Value::bag(alloc, branches)
+        let strands = all_staged(alloc, &self.flow().strands, closure, left, keeps)?;
+        Value::bag(alloc, strands)
     }
 
     /// The elements of both bags.
@@ -387,10 +454,10 @@ impl Value {
         requires other_bag { IsBag other.now.means }
         ensures { IfOk result (λ v. v.means ≡ BagV (elements self.now.means ++ elements other.now.means)) }
     {
-        let mut branches = Vec::new(alloc);
-        put_all(alloc, &mut branches, &self.flow().branches)?;
-        put_all(alloc, &mut branches, &other.flow().branches)?;
-        Value::bag(alloc, branches)
+        let mut strands = Vec::new(alloc);
+        put_all(&mut strands, &self.flow().strands)?;
+        put_all(&mut strands, &other.flow().strands)?;
+        Value::bag(alloc, strands)
     }
 
     /// The function at a node, with what its names stand for.
@@ -533,11 +600,11 @@ impl Value {
         }
     }
 
-    /// A bag's branches.
+    /// A bag's strands.
     pub fn flow(&self) -> &Flow
         requires { IsBag self.now.means }
-        ensures is { self.now.means ≡ BagV (flow_of result.now.branches.items) }
-        ensures walked { IsFlow result.now.branches.items }
+        ensures is { self.now.means ≡ BagV (flow_of result.now.strands.items) }
+        ensures walked { IsFlow result.now.strands.items }
     {
         match &self.form {
             Form::Bag(rc) => rc,

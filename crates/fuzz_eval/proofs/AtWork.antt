@@ -4,7 +4,7 @@ use Rattle.std.specs.Prelude.{take}
 use Rattle.std.proofs.lemmas.List.{take_more}
 use Rattle.flow_values.specs.Views.{AllKnown, IsKnown, step_of, steps_of}
 use Rattle.flow_values.specs.declared.value.Stage.{Stage}
-use Rattle.flow_values.proofs.Branched.{steps_more}
+use Rattle.flow_values.proofs.Stranded.{steps_more}
 use Rattle.fuzz_eval.specs.declared.workers.Worker.{Worker}
 use Rattle.fuzz_eval.specs.Walks.{AllKnownWorkers, IsKnownWorker, worker_step, worker_steps}
 

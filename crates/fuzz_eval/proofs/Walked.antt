@@ -3,7 +3,7 @@ use Rattle.std.proofs.Common.{◌≡◌, ℕ, zero, suc, ◌<◌, ◌≤◌, ◌
 use Rattle.std.specs.Prelude.{cond, drop, slice_set, take, ◌+ℤ◌}
 use Rattle.std.proofs.lemmas.List.{drop_all, drop_more, take_all, take_more}
 use Rattle.row_kernels.specs.Flows.{IsFlatTotal}
-use Rattle.flow_values.proofs.Branched.{branch_of, flow_more}
+use Rattle.flow_values.proofs.Stranded.{flow_more, strand_of}
 use Rattle.metric_values.specs.Values.{Flat, Value, truth, value_of}
 use Rattle.run_values.specs.Flats.{IsFlat, flat_of}
 use Rattle.run_values.specs.Parts.{IsNum, IsSum}
@@ -14,8 +14,10 @@ use Rattle.metric_values.specs.Values.{BangV}
 use Rattle.run_values.proofs.Bags.{flat_of_value}
 use Rattle.flow_values.specs.Computed.{agree, applied, computed, given, is_true}
 use Rattle.flow_values.specs.Steps.{IsAnswer, outcome}
-use Rattle.flow_values.specs.Views.{AllKnown, IsFlow, flow_of, steps_of}
-use Rattle.flow_values.specs.declared.value.Branch.{Branch}
+use Rattle.flow_values.specs.Strands.{IsLaidOut}
+use Rattle.flow_values.specs.Views.{IsFlow, flow_of, steps_of}
+use Rattle.flow_values.specs.declared.stages.Branch.{Branch}
+use Rattle.flow_values.specs.declared.value.Strand.{Strand}
 use Rattle.flow_values.proofs.Computed.{applies_computed}
 use Rattle.row_kernels.specs.declared.gather.Gather.{Gather}
 use Rattle.row_kernels.specs.declared.gather.Gather.TheVariants.{Size, Sum}
@@ -212,28 +214,42 @@ module _ (g : Gather) (ss : List Step) (rows : List Flat) where
   pub whole : (i : ℕ) (total : ℤ) → i ≡ length rows → IsFlatTotal g ss rows i total → total ≡ gathered g (all_through ss rows)
   whole i total e t = t.total ∙ ap (λ xs. gathered g (all_through ss xs)) (take_all i rows (omega (arith, e)))
 
--- branches one by one
-walked_at : (bs : List Branch) (i : ℕ) (b : Branch) → i < length bs → b ≡ get_or bs i b → IsFlow bs → AllKnown b.stages.items × AllGo (steps_of b.stages.items) b.table.value
-walked_at [] i b h e f = absurd (omega (arith, h))
-walked_at (c ∷ bs) zero b h e f = subst (λ (b : Branch). AllKnown b.stages.items × AllGo (steps_of b.stages.items) b.table.value) (sym e) (f.0, f.1)
-walked_at (c ∷ bs) (suc i) b h e f = walked_at bs i b (omega (arith, h)) e f.2
+-- strands one by one
+walked_at : (ss : List Strand) (i : ℕ) (s : Strand) → i < length ss → s ≡ get_or ss i s → IsFlow ss → AllGo s.chain.steps s.table.value
+walked_at [] i s h e f = absurd (omega (arith, h))
+walked_at (c ∷ ss) zero s h e f = subst (λ (s : Strand). AllGo s.chain.steps s.table.value) (sym e) f.0
+walked_at (c ∷ ss) (suc i) s h e f = walked_at ss i s (omega (arith, h)) e f.1
 
-weighed_at : (g : Gather) (bs : List Branch) (i : ℕ) (b : Branch) → i < length bs → b ≡ get_or bs i b → AllWeighed g (flow_of bs) → AllWeighed g (branch_of b)
-weighed_at g [] i b h e w = absurd (omega (arith, h))
-weighed_at g (c ∷ bs) zero b h e w = subst (λ (b : Branch). AllWeighed g (branch_of b)) (sym e) (weighed_left g (branch_of c) (flow_of bs) w)
-weighed_at g (c ∷ bs) (suc i) b h e w = weighed_at g bs i b (omega (arith, h)) e (weighed_right g (branch_of c) (flow_of bs) w)
+weighed_at : (g : Gather) (ss : List Strand) (i : ℕ) (s : Strand) → i < length ss → s ≡ get_or ss i s → AllWeighed g (flow_of ss) → AllWeighed g (strand_of s)
+weighed_at g [] i s h e w = absurd (omega (arith, h))
+weighed_at g (c ∷ ss) zero s h e w = subst (λ (s : Strand). AllWeighed g (strand_of s)) (sym e) (weighed_left g (strand_of c) (flow_of ss) w)
+weighed_at g (c ∷ ss) (suc i) s h e w = weighed_at g ss i s (omega (arith, h)) e (weighed_right g (strand_of c) (flow_of ss) w)
 
-module _ (g : Gather) (bs : List Branch) (i : ℕ) (b : Branch) (h : i < length bs) (e : b ≡ get_or bs i b) where
-  pub branch_known : IsFlow bs → AllKnown b.stages.items
-  branch_known f = (walked_at bs i b h e f).0
+module _ (g : Gather) (ss : List Strand) (i : ℕ) (s : Strand) (h : i < length ss) (e : s ≡ get_or ss i s) where
+  pub strand_can : IsFlow ss → AllWeighed g (flow_of ss) → CanGather g s.chain.steps s.table.value
+  strand_can f w = record { goes = walked_at ss i s h e f; weighed = weighed_at g ss i s h e w }
 
-  pub branch_can : IsFlow bs → AllWeighed g (flow_of bs) → CanGather g (steps_of b.stages.items) b.table.value
-  branch_can f w = record { goes = (walked_at bs i b h e f).1; weighed = weighed_at g bs i b h e w }
+  pub strand_added : (total more after : ℤ) → total ≡ gathered g (flow_of (take i ss)) → more ≡ gathered g (strand_of s) → after ≡ total +ℤ more
+      → after ≡ gathered g (flow_of (take (i + 1) ss))
+  strand_added total more after t m a =
+      a ∙ (λ j. t j +ℤ m j) ∙ sym (gathered_both g (flow_of (take i ss)) (strand_of s))
+      ∙ ap (gathered g) (sym (flow_more (take i ss) s)) ∙ ap (λ ss. gathered g (flow_of ss)) (sym (take_more ss i s h ∙ ap (λ x. take i ss ++ x ∷ []) (sym e)))
 
-  pub branch_added : (total more after : ℤ) → total ≡ gathered g (flow_of (take i bs)) → more ≡ gathered g (branch_of b) → after ≡ total +ℤ more → after ≡ gathered g (flow_of (take (i + 1) bs))
-  branch_added total more after t m a =
-      a ∙ (λ j. t j +ℤ m j) ∙ sym (gathered_both g (flow_of (take i bs)) (branch_of b))
-      ∙ ap (gathered g) (sym (flow_more (take i bs) b)) ∙ ap (λ bs. gathered g (flow_of bs)) (sym (take_more bs i b h ∙ ap (λ x. take i bs ++ x ∷ []) (sym e)))
+pub strands_added : (g : Gather) (ss : List Strand) (i : ℕ) (total : ℤ) → length ss ≤ i → total ≡ gathered g (flow_of (take i ss)) → total ≡ gathered g (flow_of ss)
+strands_added g ss i total l t = t ∙ ap (λ ss. gathered g (flow_of ss)) (take_all i ss l)
 
-pub branches_added : (g : Gather) (bs : List Branch) (i : ℕ) (total : ℤ) → length bs ≤ i → total ≡ gathered g (flow_of (take i bs)) → total ≡ gathered g (flow_of bs)
-branches_added g bs i total l t = t ∙ ap (λ bs. gathered g (flow_of bs)) (take_all i bs l)
+-- a strand that is laid out
+module _ (g : Gather) (s : Strand) (b : Branch) (is : IsLaidOut b s) where
+  same_elements : all_through (steps_of b.stages.items) b.table.value ≡ strand_of s
+  same_elements = λ j. all_through (is.steps j) (is.table j)
+
+  pub laid_can : CanGather g s.chain.steps s.table.value → CanGather g (steps_of b.stages.items) b.table.value
+  laid_can can = record {
+    goes =
+        subst (λ (steps : List Step). AllGo steps b.table.value) (sym is.steps)
+        (subst (λ (rows : List Flat). AllGo s.chain.steps rows) (sym is.table) can.goes);
+    weighed = subst (AllWeighed g) (sym same_elements) can.weighed;
+  }
+
+  pub laid_gathered : (z : ℤ) → z ≡ gathered g (all_through (steps_of b.stages.items) b.table.value) → z ≡ gathered g (strand_of s)
+  laid_gathered z e = e ∙ ap (gathered g) same_elements

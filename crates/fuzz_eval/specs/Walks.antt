@@ -62,11 +62,6 @@ pub record CanGather (g : Gather) (ss : List Step) (rows : List Flat) : Type 0 w
   pub goes : AllGo ss rows
   pub weighed : AllWeighed g (all_through ss rows)
 
--- no step leaves elements out
-abbrev pub AreAllMaps : List Step → Type 0
-AreAllMaps [] = ⊤
-AreAllMaps (s ∷ ss) = (s.keeps ≡ None) × AreAllMaps ss
-
 abbrev pub IsWeighedValue : Gather → Option Value → Type 0
 IsWeighedValue Size o = ⊤
 IsWeighedValue (Sum lo hi) None = ⊤

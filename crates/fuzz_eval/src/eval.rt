@@ -26,7 +26,7 @@ use crate::totals::{add_some, count_at_once};
 use crate::words::{clip, equal, inject, is_text, plain, scale, unary};
 use crate::workers::{Worker, is_kept, workers_of};
 use bag_ops::numbers::narrowed;
-use flow_values::{Branch, Scope, Value};
+use flow_values::{Branch, Scope, Strand, Value};
 use fz_ast::{Arrow, Binary, Form, Name, NoMemory, Nodes, Ranged, Unary};
 use row_kernels::{Gather, add_total, flat_total};
 use std::alloc::Global;
@@ -202,21 +202,21 @@ fn walk_rows(
     Ok(total)
 }
 
-// What is made of the elements of a branch.
+// What is made of the elements of a strand.
 #[cycle(evaluating)]
-fn walk_branch(alloc: Global, branch: &Branch, gather: Gather, walks: u32) -> Result<i128, NoMemory>
-    requires known { AllKnown branch.now.stages.items }
-    requires can { CanGather gather (steps_of branch.now.stages.items) branch.now.table.value }
-    ensures { IfOk result (λ z. z ≡ gathered gather (all_through (steps_of branch.now.stages.items) branch.now.table.value)) }
+fn walk_strand(alloc: Global, strand: &Strand, gather: Gather, walks: u32) -> Result<i128, NoMemory>
+    requires { CanGather gather strand.now.chain.steps strand.now.table.value }
+    ensures { IfOk result (λ z. z ≡ gathered gather (all_through strand.now.chain.steps strand.now.table.value)) }
 {
-    if let Some(count) = count_at_once(gather, branch) {
+    if let Some(count) = count_at_once(gather, strand) {
         return Ok(count);
     }
+    let branch = strand.laid_out(alloc)?;
     let (first, start) = flat_total(alloc, gather, &branch.table, &branch.stages)?;
     if first == branch.table.len() {
         return Ok(start);
     }
-    walk_rows(alloc, branch, gather, first, start, walks)
+    walk_rows(alloc, &branch, gather, first, start, walks)
 }
 
 // What is made of the elements of a bag.
@@ -227,10 +227,10 @@ fn walk(alloc: Global, b: &Value, gather: Gather, walks: u32) -> Result<i128, No
     ensures { IfOk result (λ z. z ≡ gathered gather (elements b.now.means)) }
 {
     let flow = b.flow();
-    let branches: &[Branch] = &flow.branches;
+    let strands: &[Strand] = &flow.strands;
     let mut total: i128 = 0;
-    for i in 0..branches.len() {
-        let more = walk_branch(alloc, &branches[i], gather, walks)?;
+    for i in 0..strands.len() {
+        let more = walk_strand(alloc, &strands[i], gather, walks)?;
         total = add_total(total, more)?;
     }
     Ok(total)

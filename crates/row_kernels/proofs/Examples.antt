@@ -1,5 +1,5 @@
 -- What lanes stand for, and what signs and words give of them, at worked rows.
-use Rattle.std.proofs.Common.{◌≡◌, ◌<◌, ◌+◌, ◌∙◌, ◌∷◌, [], Global, List, Vec, ap, arith, get_or, length, pos, refl, suc, sym, zero, ℕ, ℤ}
+use Rattle.std.proofs.Common.{◌≡◌, ◌<◌, ◌+◌, ◌∙◌, ◌∷◌, [], List, ap, arith, get_or, length, pos, refl, suc, sym, zero, ℕ, ℤ}
 use Rattle.std.specs.Prelude.{None, Some, codes, false, neg_ℤ, true}
 use Rattle.std.specs.Rc.{rc_value}
 use Rattle.fz_ast.specs.Names.{name_of}
@@ -13,40 +13,47 @@ use Rattle.metric_law.specs.Means.{MeansIn, find}
 use Rattle.metric_values.specs.Cells.{cell_at, columns_in, from_column, row_at}
 use Rattle.metric_values.specs.Values.{Bind, Empty, Env, Flat, InlV, InrV, NumF, NumV, PairF, PairV, TextF, TextV, UnitV, truth, value_of}
 use Rattle.row_kernels.specs.declared.frames.Frame.{Frame}
+use Rattle.row_kernels.specs.declared.frames.Link.{Link}
+use Rattle.row_kernels.specs.declared.frames.Link.TheVariants.{End}
 use Rattle.row_kernels.specs.declared.lanes.Lanes.{Lanes}
-use Rattle.row_kernels.specs.declared.lanes.Lanes.TheVariants.{Num, Truth, Same, Text, Part, Cells}
+use Rattle.row_kernels.specs.declared.lanes.Lanes.TheVariants.{Num, Truth, Same, Text, Part, Cells, Pair'}
 use Rattle.row_kernels.specs.Calls.{IsUnitTerm}
 use Rattle.row_kernels.specs.Cells.{AreCells}
+use Rattle.row_kernels.specs.Frames.{frames_of}
 use Rattle.row_kernels.specs.Lanes.{AreThere, IsLong, IsSign, IsWord, clip_value, env_at, lane_at, literal_value, sign_value, times_value, word_value}
 use Rattle.row_kernels.specs.declared.gather.Gather.TheVariants.{Size, Sum}
 use Rattle.row_kernels.specs.Flows.{IsRow}
 use Rattle.row_kernels.specs.Gathers.{count_there, gathered, sum_there}
 
--- P holds of the lanes made of each vector of these elements
-abbrev OnItems : {T : Type 0} → List T → (Vec T Global → Lanes) → (Lanes → Type 0) → Type 0
-OnItems {T} xs form P = (v : Vec T Global) → v.items ≡ xs → P (form v)
+-- P holds of the lanes made of each reference to a vector of these elements
+abbrev OnItems : {T R : Type 0} → List T → (R → Lanes) → (R → List T) → (Lanes → Type 0) → Type 0
+OnItems {T} {R} xs form items P = (v : R) → items v ≡ xs → P (form v)
 
 abbrev ages : List ℤ
 ages = pos 30 ∷ neg_ℤ (pos 4) ∷ []
 
-second_number : OnItems ages (λ v. Num v) (λ l. lane_at l 1 ≡ NumV (neg_ℤ (pos 4)))
+second_number : OnItems ages (λ v. Num v) (λ v. (rc_value v).items) (λ l. lane_at l 1 ≡ NumV (neg_ℤ (pos 4)))
 second_number v is = ap (λ xs. NumV (get_or xs 1 (pos 0))) is
 
-two_numbers : OnItems ages (λ v. Num v) (λ l. IsLong 2 l)
+two_numbers : OnItems ages (λ v. Num v) (λ v. (rc_value v).items) (λ l. IsLong 2 l)
 two_numbers v is = ap length is
 
-no_three_numbers : OnItems ages (λ v. Num v) (λ l. IsLong 3 l → ⊥)
+no_three_numbers : OnItems ages (λ v. Num v) (λ v. (rc_value v).items) (λ l. IsLong 3 l → ⊥)
 no_three_numbers v is h = let e : 2 ≡ 3 = sym (ap length is) ∙ h in absurd (omega (arith, e))
 
-second_truth : OnItems (true ∷ false ∷ []) (λ v. Truth v) (λ l. lane_at l 1 ≡ InrV UnitV)
+second_truth : OnItems (true ∷ false ∷ []) (λ v. Truth v) (λ v. (rc_value v).items) (λ l. lane_at l 1 ≡ InrV UnitV)
 second_truth v is = ap (λ bs. truth (get_or bs 1 false)) is
 
 -- one for all
 same_number_for_all : lane_at (Same (pos 7)) 1023 ≡ NumV (pos 7)
 same_number_for_all = refl
 
-same_text_for_all : OnItems (codes "oslo") (λ v. Text v) (λ l. lane_at l 1023 ≡ TextV (codes "oslo"))
+same_text_for_all : OnItems (codes "oslo") (λ v. Text v) (λ v. (rc_value v).items) (λ l. lane_at l 1023 ≡ TextV (codes "oslo"))
 same_text_for_all v is = ap TextV is
+
+-- pairs have their halves in order
+pair_for_all : OnItems {T = ℕ} [] (λ p. Pair' p (Same (pos 1)) (Same (pos 2))) (λ p. []) (λ l. lane_at l 5 ≡ PairV (NumV (pos 1)) (NumV (pos 2)))
+pair_for_all p is = refl
 
 -- in a table of three rows, each a number, a town and a number
 
@@ -101,6 +108,13 @@ last_column = record { long = refl; each = numbers_of_rows }
 
 texts_are_no_numbers : (zs : List ℤ) → AreCells towns 0 1 1 zs → ⊥
 texts_are_no_numbers zs h = absurd (cc (h.each 0 (omega arith)))
+
+-- frames as a list, the innermost first
+no_frames : frames_of End ≡ []
+no_frames = refl
+
+one_frame_more : (f : Frame) (fs : List Frame) (l : Link) → frames_of l ≡ f ∷ fs → (l ≡ End) → ⊥
+one_frame_more f fs l h e = let q : [] ≡ f ∷ fs = sym (ap frames_of e) ∙ h in absurd (cc q)
 
 -- the first of two frames is the innermost, also where both have one name
 module _ (x y : Written) (γ : Env) (p : name_of x ≡ codes "r") (q : name_of y ≡ codes "s") where

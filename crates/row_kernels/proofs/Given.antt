@@ -28,7 +28,7 @@ use Rattle.row_kernels.specs.declared.frames.Frame.{Frame}
 use Rattle.row_kernels.specs.declared.lanes.Lanes.{Lanes}
 use Rattle.row_kernels.specs.declared.lanes.Lanes.TheVariants.{Same}
 use Rattle.row_kernels.specs.Calls.{IsArgument, IsCalled, IsUnitTerm}
-use Rattle.row_kernels.specs.Lanes.{AllLong, AreChosen, AreGiven, AreHalves, AreLiterals, AreMade, AreMeant, AreNamed, AreSameNames, AreSigned, AreWorded, IsFree, IsSameAt, IsSign, IsWord, clip_value, env_at, lane_at, sign_value, times_value, word_value}
+use Rattle.row_kernels.specs.Lanes.{AllLong, AreChosen, AreGiven, AreHalves, AreLiterals, AreMade, AreMeant, AreNamed, AreSigned, AreWorded, IsFree, IsSameAt, IsSign, IsWord, clip_value, env_at, lane_at, sign_value, times_value, word_value}
 
 -- what holds of an answer, by what held before
 pub by_answer : {X E : Type 0} (r : Result (Option X) E) (P Q : X → Type 0) → IfOk r (λ o. IfSome o P) → ((l : X) → P l → Q l) → IfOk r (λ o. IfSome o Q)
@@ -95,20 +95,20 @@ module _ (fs : List Frame) (γ : Env) (n : ℕ) where
       step Filter g j lt m v r = absurd g
       step Split g j lt m v r = absurd g
 
-  pub let_given : (x : Written) (e b : Term) (a l : Lanes) → AreMeant fs γ e n a → (inner : List Frame) → AreSameNames inner (record { name = x; lanes = a } ∷ fs) → AreMeant inner γ b n l → AreGiven fs γ (LetE (name_of x) e b) n l
+  pub let_given : (x : Written) (e b : Term) (a l : Lanes) → AreMeant fs γ e n a → (inner : List Frame) → inner ≡ record { name = x; lanes = a } ∷ fs → AreMeant inner γ b n l → AreGiven fs γ (LetE (name_of x) e b) n l
   let_given x e b a l he inner hi hb = record {
     long = hb.long;
     each = λ j lt m v r.
-        let q : Bind (name_of x) r.0 (env_at fs γ j) ≡ env_at inner γ j = ap (λ u. Bind (name_of x) u (env_at fs γ j)) (he.each j lt m r.0 r.1) ∙ sym (hi.each γ j) in
+        let q : Bind (name_of x) r.0 (env_at fs γ j) ≡ env_at inner γ j = ap (λ u. Bind (name_of x) u (env_at fs γ j)) (he.each j lt m r.0 r.1) ∙ ap (λ (fs : List Frame). env_at fs γ j) (sym hi) in
         hb.each j lt m v (subst (λ (δ : Env). MeansIn m δ b v) q r.2);
   }
 
-  pub pair_given : (x y : Written) (e b : Term) (p a c l : Lanes) → AreMeant fs γ e n p → AreHalves n p a c → (inner : List Frame) → AreSameNames inner (record { name = y; lanes = c } ∷ record { name = x; lanes = a } ∷ fs) → AreMeant inner γ b n l → AreGiven fs γ (LetPairE (name_of x) (name_of y) e b) n l
+  pub pair_given : (x y : Written) (e b : Term) (p a c l : Lanes) → AreMeant fs γ e n p → AreHalves n p a c → (inner : List Frame) → inner ≡ record { name = y; lanes = c } ∷ record { name = x; lanes = a } ∷ fs → AreMeant inner γ b n l → AreGiven fs γ (LetPairE (name_of x) (name_of y) e b) n l
   pair_given x y e b p a c l he hh inner hi hb = record {
     long = hb.long;
     each = λ j lt m v r.
         let h : PairV r.0 r.1 ≡ PairV (lane_at a j) (lane_at c j) = he.each j lt m (PairV r.0 r.1) r.2 ∙ hh.each j lt in
-        let q : Bind (name_of y) r.1 (Bind (name_of x) r.0 (env_at fs γ j)) ≡ env_at inner γ j = (λ i. Bind (name_of y) (second_in (h i)) (Bind (name_of x) (first_in (h i)) (env_at fs γ j))) ∙ sym (hi.each γ j) in
+        let q : Bind (name_of y) r.1 (Bind (name_of x) r.0 (env_at fs γ j)) ≡ env_at inner γ j = (λ i. Bind (name_of y) (second_in (h i)) (Bind (name_of x) (first_in (h i)) (env_at fs γ j))) ∙ ap (λ (fs : List Frame). env_at fs γ j) (sym hi) in
         hb.each j lt m v (subst (λ (δ : Env). MeansIn m δ b v) q r.3);
   }
 
@@ -173,13 +173,13 @@ module _ (fs : List Frame) (γ : Env) (n : ℕ) (f a : Term) (c : Closure) (ty :
       (fn_parts m (subst (λ (w : Value). Applies (MeansIn m) w u v) (p ∙ q) k))
 
   pub call_given : (whole : Term) (g : Form) → whole ≡ term_of ty part s g → g ≡ Lambda o x sp t b → ((j m : ℕ) (v : Value) → MeansIn m (env_at fs γ j) f v → v ≡ function_of whole c.scope.means) → (e : Term) → IsArgument o a e → (le : Lanes) → AreMeant fs γ e n le
-      → (inner : List Frame) → AreSameNames inner (record { name = x; lanes = le } ∷ []) → (l : Lanes) → AreMeant inner c.scope.means (part b) n l → AreGiven fs γ (AppE f a) n l
+      → (inner : List Frame) → inner ≡ record { name = x; lanes = le } ∷ [] → (l : Lanes) → AreMeant inner c.scope.means (part b) n l → AreGiven fs γ (AppE f a) n l
   call_given whole g p q hc e h le he inner hi l hb = record {
     long = hb.long;
     each = λ j lt m v r.
         let w : r.0 ≡ function_of (term_of ty part s g) c.scope.means = hc j m r.0 r.2 ∙ ap (λ (t : Term). function_of t c.scope.means) p in
         let k : MeansIn m (Bind (name_of x) (lane_at le j) c.scope.means) (part b) v = bound o g (ap (λ g. function_of (term_of ty part s g) c.scope.means) q) e h le he j lt m r.0 r.1 v w r.3 r.4 in
-        hb.each j lt m v (subst (λ (δ : Env). MeansIn m δ (part b) v) (sym (hi.each c.scope.means j)) k);
+        hb.each j lt m v (subst (λ (δ : Env). MeansIn m δ (part b) v) (ap (λ (fs : List Frame). env_at fs c.scope.means j) (sym hi)) k);
   }
 
 -- the innermost name is the one that is looked for

@@ -1,7 +1,6 @@
 pub mod Given
 pub mod Held
 pub mod Changed
-pub mod Framed
 pub mod Gathered
 pub mod Counted
 pub mod Passing

@@ -31,7 +31,7 @@ use Rattle.row_kernels.specs.declared.gather.Gather.TheVariants.{Size, Sum}
 use Rattle.row_kernels.specs.declared.lanes.Lanes.{Lanes}
 use Rattle.row_kernels.specs.Flows.{AreAll, AreImaged, AreJudged, ArePassed, AreStepped, IsLanesTotal, IsLongPassed, IsRow, RowSteps, added_up, is_there}
 use Rattle.row_kernels.specs.Gathers.{count_there, held, sum_there, weigh_some}
-use Rattle.row_kernels.specs.Lanes.{AreMeant, AreNumbers, AreSameNames, IsLong, lane_at}
+use Rattle.row_kernels.specs.Lanes.{AreMeant, AreNumbers, IsLong, env_at, lane_at}
 
 pub known_at : (ss : List Stage) (i : ℕ) (s : Stage) → i < length ss → s ≡ get_or ss i s → AllKnown ss → IsKnown s.function.value
 known_at [] i s h e k = absurd (omega (arith, h))
@@ -43,11 +43,11 @@ fn_parts m (apply_fn k) = k
 
 -- the lanes of a function's body
 pub imaged : (c : Value) (x : Written) (e : Term) (γ : Env) (n : ℕ) (l k : Lanes) (fs : List Frame) → c ≡ FnV (name_of x) e γ
-    → AreSameNames fs (record { name = x; lanes = l } ∷ []) → AreMeant fs γ e n k → AreImaged c n l k
+    → fs ≡ record { name = x; lanes = l } ∷ [] → AreMeant fs γ e n k → AreImaged c n l k
 imaged c x e γ n l k fs p names h = record {
   long = h.long;
   each = λ j lt m v a.
-      h.each j lt m v (subst (λ (δ : Env). MeansIn m δ e v) (sym (names.each γ j)) (fn_parts m (subst (λ (c : Value). Applies (MeansIn m) c (BangV (lane_at l j)) v) p a)));
+      h.each j lt m v (subst (λ (δ : Env). MeansIn m δ e v) (ap (λ (fs : List Frame). env_at fs γ j) (sym names)) (fn_parts m (subst (λ (c : Value). Applies (MeansIn m) c (BangV (lane_at l j)) v) p a)));
 }
 
 -- a closure whose node is this function

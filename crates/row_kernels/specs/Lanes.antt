@@ -23,13 +23,13 @@ use Rattle.row_kernels.specs.declared.lanes.Lanes.TheVariants.{Num, Truth, Same,
 
 -- the value for row j
 abbrev pub lane_at : Lanes → ℕ → Value
-lane_at (Num xs) j = NumV (get_or xs.items j (pos 0))
-lane_at (Truth bs) j = truth (get_or bs.items j false)
+lane_at (Num xs) j = NumV (get_or xs.value.items j (pos 0))
+lane_at (Truth bs) j = truth (get_or bs.value.items j false)
 lane_at (Same z) j = NumV z
-lane_at (Text s) j = TextV s.items
+lane_at (Text s) j = TextV s.value.items
 lane_at (Part t f k) j = value_of (from_column k (row_at t.value (f + j)))
 lane_at (Cells t f k) j = value_of (cell_at k (row_at t.value (f + j)))
-lane_at (Pair' p a q b) j = PairV (lane_at a j) (lane_at b j)
+lane_at (Pair' p a b) j = PairV (lane_at a j) (lane_at b j)
 
 -- n rows from row f on have a column k
 pub record AreThere (rows : List Flat) (f n k : ℕ) : Type 0 where
@@ -40,13 +40,13 @@ pub record AreThere (rows : List Flat) (f n k : ℕ) : Type 0 where
 
 -- values for n rows
 abbrev pub IsLong : ℕ → Lanes → Type 0
-IsLong n (Num xs) = length xs.items ≡ n
-IsLong n (Truth bs) = length bs.items ≡ n
+IsLong n (Num xs) = length xs.value.items ≡ n
+IsLong n (Truth bs) = length bs.value.items ≡ n
 IsLong n (Same z) = ⊤
 IsLong n (Text s) = ⊤
 IsLong n (Part t f k) = AreThere t.value f n k
 IsLong n (Cells t f k) = AreThere t.value f n k
-IsLong n (Pair' p a q b) = IsLong n a × IsLong n b
+IsLong n (Pair' p a b) = IsLong n a × IsLong n b
 
 abbrev pub AllLong : ℕ → List Frame → Type 0
 AllLong n [] = ⊤
@@ -71,11 +71,6 @@ pub record AreHalves (n : ℕ) (l a b : Lanes) : Type 0 where
   pub first : IsLong n a
   pub second : IsLong n b
   pub each : (j : ℕ) → j < n → lane_at l j ≡ PairV (lane_at a j) (lane_at b j)
-
--- names that stand for the same
-pub record AreSameNames (fs gs : List Frame) : Type 0 where
-  pub long : (n : ℕ) → AllLong n gs → AllLong n fs
-  pub each : (γ : Env) (j : ℕ) → env_at fs γ j ≡ env_at gs γ j
 
 pub record AreNumbers (n : ℕ) (l : Lanes) (zs : List ℤ) : Type 0 where
   pub long : length zs ≡ n

@@ -1,4 +1,5 @@
 pub mod Lanes
+pub mod Frames
 pub mod Calls
 pub mod Cells
 pub mod Gathers

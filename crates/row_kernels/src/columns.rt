@@ -7,6 +7,7 @@ ghost use Rattle.metric_values.specs.Numbers.{clamp, clip};
 use crate::numbers::{clipped, minus, plus, times};
 use fz_ast::NoMemory;
 use std::alloc::Global;
+use std::rc::Rc;
 
 /// Adds another column to one.
 #[inline(never)]
@@ -165,18 +166,38 @@ pub fn blank(alloc: Global, len: usize) -> Result<Vec<bool>, NoMemory>
     repeated_truth(alloc, false, len)
 }
 
-/// An equal column.
-pub fn copied(alloc: Global, a: &[i64]) -> Result<Vec<i64>, NoMemory>
-    ensures { IfOk result (λ v. v.items ≡ a.now) }
+/// A column in a place that is shared by a count.
+pub fn shared(alloc: Global, zs: Vec<i64>) -> Result<Rc<Vec<i64>>, NoMemory>
+    ensures { IfOk result (λ rc. rc.value ≡ zs) }
 {
-    match Vec::from_slice(alloc, a) {
-        Ok(v) => Ok(v),
+    match Rc::new(alloc, zs) {
+        Ok(rc) => Ok(rc),
         Err(_) => Err(NoMemory),
     }
 }
 
 /// The same of truths.
-pub fn copied_truths(alloc: Global, a: &[bool]) -> Result<Vec<bool>, NoMemory>
+pub fn shared_truths(alloc: Global, bs: Vec<bool>) -> Result<Rc<Vec<bool>>, NoMemory>
+    ensures { IfOk result (λ rc. rc.value ≡ bs) }
+{
+    match Rc::new(alloc, bs) {
+        Ok(rc) => Ok(rc),
+        Err(_) => Err(NoMemory),
+    }
+}
+
+/// A column to write into: itself, where nothing else holds it, else an equal one.
+pub fn own(alloc: Global, zs: Rc<Vec<i64>>) -> Result<Vec<i64>, NoMemory>
+    ensures { IfOk result (λ v. v.items ≡ zs.value.items) }
+{
+    match Rc::try_unwrap(zs) {
+        Ok(v) => Ok(v),
+        Err(rc) => copied(alloc, &rc),
+    }
+}
+
+// An equal column.
+fn copied(alloc: Global, a: &[i64]) -> Result<Vec<i64>, NoMemory>
     ensures { IfOk result (λ v. v.items ≡ a.now) }
 {
     match Vec::from_slice(alloc, a) {
@@ -185,12 +206,15 @@ pub fn copied_truths(alloc: Global, a: &[bool]) -> Result<Vec<bool>, NoMemory>
     }
 }
 
-/// The same of bytes.
-pub fn copied_bytes(alloc: Global, a: &[u8]) -> Result<Vec<u8>, NoMemory>
-    ensures { IfOk result (λ v. v.items ≡ a.now) }
+/// Bytes in a place that is shared by a count.
+pub fn shared_bytes(alloc: Global, a: &[u8]) -> Result<Rc<Vec<u8>>, NoMemory>
+    ensures { IfOk result (λ rc. rc.value.items ≡ a.now) }
 {
-    match Vec::from_slice(alloc, a) {
-        Ok(v) => Ok(v),
+    let Ok(bytes) = Vec::from_slice(alloc, a) else {
+        return Err(NoMemory);
+    };
+    match Rc::new(alloc, bytes) {
+        Ok(rc) => Ok(rc),
         Err(_) => Err(NoMemory),
     }
 }

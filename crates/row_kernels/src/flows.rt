@@ -105,7 +105,7 @@ fn judged(
     requires long { IsLongPassed len passed }
     ensures { IfOk result (λ o. IfSome o (AreJudged (step_of stage.now) keep len passed)) }
 {
-    let again = passed.lanes.copy(alloc)?;
+    let again = passed.lanes.copy()?;
     let Some(told) = stage_lanes(alloc, &stage.function, stage.left, again, len)? else {
         return Ok(None);
     };

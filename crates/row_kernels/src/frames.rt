@@ -1,13 +1,15 @@
 //! Names with what they stand for at each row.
-ghost use Rattle.std.specs.Prelude.{◌++◌, ◌∷◌, [], IfOk, IfSome, IsTrue, OnOk};
+ghost use Rattle.std.specs.Prelude.{◌≡◌, ◌∷◌, [], IfOk, IfSome, IsTrue};
 ghost use Rattle.fz_ast.specs.Names.{name_of};
-ghost use Rattle.row_kernels.specs.Lanes.{AllLong, AreNamed, AreSameNames, IsFree};
+ghost use Rattle.row_kernels.specs.Lanes.{AllLong, AreNamed, IsFree};
 
-use crate::columns::copied_bytes;
+use crate::columns::shared_bytes;
 use crate::lanes::Lanes;
 use flow_values::{Plain, Scope};
 use fz_ast::{Name, NoMemory};
 use std::alloc::Global;
+use std::marker::Model;
+use std::rc::Rc;
 
 /// A name, and what it stands for at each row.
 #[derive(Drop)]
@@ -16,71 +18,123 @@ pub struct Frame {
     pub lanes: Lanes,
 }
 
-// Adds copies of frames behind others.
-fn add_frames(alloc: Global, out: &mut Vec<Frame>, frames: &[Frame]) -> Result<(), NoMemory>
-    ensures { OnOk result (AreSameNames out.new.items (out.old.items ++ frames.now)) }
-{
-    for i in 0..frames.len() {
-        let frame = Frame {
-            name: frames[i].name,
-            lanes: frames[i].lanes.copy(alloc)?,
-        };
-        if let Err(_) = out.push(frame) {
-            return Err(NoMemory);
-        }
-    }
-    Ok(())
+/// Frames, shared by a count. A contract sees the list of them, the innermost first.
+#[cycle(frames)]
+pub struct Frames {
+    link: Link,
 }
 
-/// The one frame of a function's name.
-pub fn only(alloc: Global, name: Name, lanes: Lanes) -> Result<Vec<Frame>, NoMemory>
-    ensures { IfOk result (λ fs. AreSameNames fs.items (record { name = name; lanes = lanes } ∷ [])) }
-{
-    let mut frames = Vec::new(alloc);
-    if let Err(_) = frames.push(Frame { name, lanes }) {
-        return Err(NoMemory);
+#[cycle(frames)]
+#[derive(Drop)]
+enum Link {
+    End,
+    More(Rc<Joint>),
+}
+
+// The innermost frame, and those outside.
+#[cycle(frames)]
+#[derive(Drop)]
+struct Joint {
+    frame: Frame,
+    outside: Frames,
+}
+
+impl Model for Frames {
+    ghost use Rattle.std.specs.Prelude.{List, length};
+    ghost use Rattle.row_kernels.specs.declared.frames.Frame.{Frame};
+    ghost use Rattle.row_kernels.specs.contracts.lanes.Lanes as lanes;
+    ghost use Rattle.std.specs.Coded.{codes};
+
+    ghost Value = { List Frame };
+
+    ghost coded = { Prim.hlevel (codes, lanes.the_row.coded) };
+
+    ghost use Rattle.row_kernels.specs.Frames.{frames_of};
+
+    ghost view = { λ a. frames_of a.link };
+
+    ghost size = { length };
+
+    ghost use Rattle.std.proofs.Common.{arith};
+
+    ghost size_decreases = { λ a h. Prim.grind (arith) };
+}
+
+impl Drop for Frames {
+    // By a loop, so that long lists take no stack.
+    fn drop(mut self) {
+        loop {
+            let Frames { link } = self;
+            let Link::More(rc) = link else { return };
+            let Some(joint) = Rc::into_inner(rc) else {
+                return
+            };
+            drop(joint.frame);
+            self = joint.outside;
+        }
     }
-    Ok(frames)
+}
+
+impl Frames {
+    /// No names.
+    pub fn none() -> Frames
+        ensures { result ≡ [] }
+    {
+        Frames { link: Link::End }
+    }
+
+    /// The same frames, shared.
+    pub fn copy(&self) -> Result<Frames, NoMemory>
+        ensures { IfOk result (λ fs. fs ≡ self.now) }
+    {
+        let link = match &self.link {
+            Link::End => Link::End,
+            Link::More(rc) => Link::More(rc.clone()?),
+        };
+        Ok(Frames { link })
+    }
 }
 
 /// The frames inside one more name.
-pub fn under(alloc: Global, frames: &[Frame], x: Name, a: Lanes) -> Result<Vec<Frame>, NoMemory>
-    ensures { IfOk result (λ fs. AreSameNames fs.items (record { name = x; lanes = a } ∷ frames.now)) }
+pub fn under(alloc: Global, frames: &Frames, x: Name, a: Lanes) -> Result<Frames, NoMemory>
+    ensures { IfOk result (λ fs. fs ≡ record { name = x; lanes = a } ∷ frames.now) }
 {
-    let mut out = Vec::new(alloc);
-    if let Err(_) = out.push(Frame { name: x, lanes: a }) {
-        return Err(NoMemory);
+    let outside = frames.copy()?;
+    let frame = Frame { name: x, lanes: a };
+    match Rc::new(alloc, Joint { frame, outside }) {
+        Ok(rc) => Ok(Frames {
+            link: Link::More(rc),
+        }),
+        Err(_) => Err(NoMemory),
     }
-    add_frames(alloc, &mut out, frames)?;
-    Ok(out)
+}
+
+/// The one frame of a function's name.
+pub fn only(alloc: Global, name: Name, lanes: Lanes) -> Result<Frames, NoMemory>
+    ensures { IfOk result (λ fs. fs ≡ record { name = name; lanes = lanes } ∷ []) }
+{
+    under(alloc, &Frames::none(), name, lanes)
 }
 
 /// The frames inside two more names, the second one innermost.
 pub fn under_two(
     alloc: Global,
-    frames: &[Frame],
+    frames: &Frames,
     x: Name,
     a: Lanes,
     y: Name,
     b: Lanes,
-) -> Result<Vec<Frame>, NoMemory>
-    ensures { IfOk result (λ fs. AreSameNames fs.items (record { name = y; lanes = b } ∷ record { name = x; lanes = a } ∷ frames.now)) }
+) -> Result<Frames, NoMemory>
+    ensures { IfOk result (λ fs. fs ≡ record { name = y; lanes = b } ∷ record { name = x; lanes = a } ∷ frames.now) }
 {
-    let mut out = Vec::new(alloc);
-    if let Err(_) = out.push(Frame { name: y, lanes: b }) {
-        return Err(NoMemory);
-    }
-    if let Err(_) = out.push(Frame { name: x, lanes: a }) {
-        return Err(NoMemory);
-    }
-    add_frames(alloc, &mut out, frames)?;
-    Ok(out)
+    let outside = under(alloc, frames, x, a)?;
+    under(alloc, &outside, y, b)
 }
 
 /// What a name stands for at each row.
 pub fn named(
     alloc: Global,
-    frames: &[Frame],
+    frames: &Frames,
     outer: &Scope,
     name: &Name,
     len: usize,
@@ -88,28 +142,28 @@ pub fn named(
     requires { AllLong len frames.now }
     ensures { IfOk result (λ o. IfSome o (AreNamed frames.now outer.now.means (name_of name.now) len)) }
 {
-    let Some((frame, rest)) = frames.split_first() else {
+    let Link::More(joint) = &frames.link else {
         return match outer.find_plain(name) {
             Plain::Num(z) => Ok(Some(Lanes::Same(z))),
-            Plain::Text(s) => Ok(Some(Lanes::Text(copied_bytes(alloc, s)?))),
+            Plain::Text(s) => Ok(Some(Lanes::Text(shared_bytes(alloc, s)?))),
             Plain::Other => Ok(None),
         };
     };
-    if frame.name.as_bytes() == name.as_bytes() {
-        return Ok(Some(frame.lanes.copy(alloc)?));
+    if joint.frame.name.as_bytes() == name.as_bytes() {
+        return Ok(Some(joint.frame.lanes.copy()?));
     }
-    named(alloc, rest, outer, name, len)
+    named(alloc, &joint.outside, outer, name, len)
 }
 
 /// Whether a name is none of the frames'.
-pub fn is_free(frames: &[Frame], name: &Name) -> bool
+pub fn is_free(frames: &Frames, name: &Name) -> bool
     ensures { IsTrue result → IsFree frames.now (name_of name.now) }
 {
-    let Some((frame, rest)) = frames.split_first() else {
+    let Link::More(joint) = &frames.link else {
         return true;
     };
-    if frame.name.as_bytes() == name.as_bytes() {
+    if joint.frame.name.as_bytes() == name.as_bytes() {
         return false;
     }
-    is_free(rest, name)
+    is_free(&joint.outside, name)
 }

@@ -8,8 +8,8 @@ ghost use Rattle.row_kernels.specs.Lanes.{IsLong, IsSameAt, clip_value, lane_at,
 
 use crate::cells::cells;
 use crate::columns::{
-    add, at_most, blank, choose, choose_truths, clip_each, copied, copied_bytes, copied_truths,
-    equal, greater, lesser, repeated, scale, subtract,
+    add, at_most, blank, choose, choose_truths, clip_each, equal, greater, lesser, own, repeated,
+    scale, shared, shared_truths, subtract,
 };
 use crate::texts::same_texts;
 use fz_ast::{Binary, NoMemory, Unary};
@@ -17,21 +17,48 @@ use metric_values::Table;
 use std::alloc::Global;
 use std::rc::Rc;
 
-/// A value for each row.
+/// A value for each row. What it has inside is shared by a count.
+#[cycle(lanes)]
 #[derive(Drop)]
 pub enum Lanes {
-    Num(Vec<i64>),
-    Truth(Vec<bool>),
+    Num(Rc<Vec<i64>>),
+    Truth(Rc<Vec<bool>>),
     /// The same number for all.
     Same(i64),
     /// The same text for all.
-    Text(Vec<u8>),
+    Text(Rc<Vec<u8>>),
     /// Rows of a table from a column on, behind which others stand: the first row, and the column.
     Part(Rc<Table>, usize, usize),
     /// The cells of a column: the first row, and the column.
     Cells(Rc<Table>, usize, usize),
-    /// Pairs.
-    Pair(Box<Lanes>, Box<Lanes>),
+    Pair(Rc<Both>),
+}
+
+/// The halves of pairs.
+#[cycle(lanes)]
+pub struct Both {
+    pub first: Lanes,
+    pub second: Lanes,
+}
+
+impl Drop for Both {
+    // By a loop along the second halves, so that long chains of pairs take no stack.
+    #[cycle(lanes)]
+    fn drop(mut self) {
+        loop {
+            let Both { first, second } = self;
+            drop(first);
+            match second {
+                Lanes::Pair(rc) => {
+                    let Some(both) = Rc::into_inner(rc) else {
+                        return
+                    };
+                    self = both;
+                }
+                other => return drop(other),
+            }
+        }
+    }
 }
 
 /// Rows of a table from a column on.
@@ -51,43 +78,42 @@ pub fn rows_from(t: Rc<Table>, first: usize, k: usize, len: usize) -> Lanes
 fn paired(alloc: Global, a: Lanes, b: Lanes) -> Result<Lanes, NoMemory>
     ensures { IfOk result (ArePairs a b) }
 {
-    let Ok(first) = Box::new(alloc, a) else {
-        return Err(NoMemory);
-    };
-    let Ok(second) = Box::new(alloc, b) else {
-        return Err(NoMemory);
-    };
-    Ok(Lanes::Pair(first, second))
+    match Rc::new(
+        alloc,
+        Both {
+            first: a,
+            second: b,
+        },
+    ) {
+        Ok(both) => Ok(Lanes::Pair(both)),
+        Err(_) => Err(NoMemory),
+    }
 }
 
-// Pairs of two for each row, if the first is no pair that was made. So what a name stands for is copied in a time that grows with
-// the terms, also where each let doubles the pair before.
+// Pairs of two for each row, if the first is no pair that was made. So pairs within pairs are a list along their second halves, and are
+// let go by a loop.
 fn row_like(alloc: Global, a: Lanes, b: Lanes) -> Result<Option<Lanes>, NoMemory>
     ensures { IfOk result (λ o. IfSome o (ArePairs a b)) }
 {
-    if let Lanes::Pair(_, _) = &a {
+    if let Lanes::Pair(_) = &a {
         return Ok(None);
     }
     Ok(Some(paired(alloc, a, b)?))
 }
 
 impl Lanes {
-    /// An equal one.
-    pub fn copy(&self, alloc: Global) -> Result<Lanes, NoMemory>
+    /// An equal one, which shares what this one has inside.
+    pub fn copy(&self) -> Result<Lanes, NoMemory>
         ensures { IfOk result (λ l. IsSameAt l self.now) }
     {
         match self {
-            Lanes::Num(xs) => Ok(Lanes::Num(copied(alloc, xs)?)),
-            Lanes::Truth(bs) => Ok(Lanes::Truth(copied_truths(alloc, bs)?)),
+            Lanes::Num(xs) => Ok(Lanes::Num(xs.clone()?)),
+            Lanes::Truth(bs) => Ok(Lanes::Truth(bs.clone()?)),
             Lanes::Same(z) => Ok(Lanes::Same(*z)),
-            Lanes::Text(s) => Ok(Lanes::Text(copied_bytes(alloc, s)?)),
+            Lanes::Text(s) => Ok(Lanes::Text(s.clone()?)),
             Lanes::Part(t, first, k) => Ok(Lanes::Part(t.clone()?, *first, *k)),
             Lanes::Cells(t, first, k) => Ok(Lanes::Cells(t.clone()?, *first, *k)),
-            Lanes::Pair(a, b) => {
-                let first = a.copy(alloc)?;
-                let second = b.copy(alloc)?;
-                paired(alloc, first, second)
-            }
+            Lanes::Pair(both) => Ok(Lanes::Pair(both.clone()?)),
         }
     }
 
@@ -97,12 +123,33 @@ impl Lanes {
         ensures { IfOk result (λ o. IfSome o (λ v. AreNumbers len self v.items)) }
     {
         match self {
-            Lanes::Num(xs) => Ok(Some(xs)),
+            Lanes::Num(xs) => Ok(Some(own(alloc, xs)?)),
             Lanes::Same(z) => Ok(Some(repeated(alloc, z, len)?)),
             Lanes::Cells(t, first, k) => cells(alloc, &t, first, k, len),
-            Lanes::Truth(_) | Lanes::Text(_) | Lanes::Part(_, _, _) | Lanes::Pair(_, _) => Ok(None),
+            Lanes::Truth(_) | Lanes::Text(_) | Lanes::Part(_, _, _) | Lanes::Pair(_) => Ok(None),
         }
     }
+}
+
+// The columns of numbers of two, if both are such.
+fn both_numbers(
+    alloc: Global,
+    a: Lanes,
+    b: Lanes,
+    len: usize,
+) -> Result<Option<(Vec<i64>, Vec<i64>)>, NoMemory>
+    requires a_long { IsLong len a }
+    requires b_long { IsLong len b }
+    ensures first { IfOk result (λ o. IfSome o (λ p. AreNumbers len a p.0.items)) }
+    ensures second { IfOk result (λ o. IfSome o (λ p. AreNumbers len b p.1.items)) }
+{
+    let Some(xs) = a.numbers(alloc, len)? else {
+        return Ok(None);
+    };
+    let Some(ys) = b.numbers(alloc, len)? else {
+        return Ok(None);
+    };
+    Ok(Some((xs, ys)))
 }
 
 // What a sign gives at each row for numbers.
@@ -117,30 +164,27 @@ fn signed_numbers(
     requires b_long { IsLong len b }
     ensures { IfOk result (λ o. IfSome o (AreSigned form len a b)) }
 {
-    let Some(mut xs) = a.numbers(alloc, len)? else {
-        return Ok(None);
-    };
-    let Some(ys) = b.numbers(alloc, len)? else {
+    let Some((mut xs, ys)) = both_numbers(alloc, a, b, len)? else {
         return Ok(None);
     };
     match form {
         Binary::Plus => {
             add(&mut xs, &ys);
-            Ok(Some(Lanes::Num(xs)))
+            Ok(Some(Lanes::Num(shared(alloc, xs)?)))
         }
         Binary::Minus => {
             subtract(&mut xs, &ys);
-            Ok(Some(Lanes::Num(xs)))
+            Ok(Some(Lanes::Num(shared(alloc, xs)?)))
         }
         Binary::AtMost => {
             let mut out = blank(alloc, len)?;
             at_most(&mut out, &xs, &ys);
-            Ok(Some(Lanes::Truth(out)))
+            Ok(Some(Lanes::Truth(shared_truths(alloc, out)?)))
         }
         Binary::Equal => {
             let mut out = blank(alloc, len)?;
             equal(&mut out, &xs, &ys);
-            Ok(Some(Lanes::Truth(out)))
+            Ok(Some(Lanes::Truth(shared_truths(alloc, out)?)))
         }
         _ => Ok(None),
     }
@@ -161,7 +205,7 @@ pub fn signed(
     match form {
         Binary::Equal => {
             if let Some(out) = same_texts(alloc, &a, &b, len)? {
-                return Ok(Some(Lanes::Truth(out)));
+                return Ok(Some(Lanes::Truth(shared_truths(alloc, out)?)));
             }
             signed_numbers(alloc, Binary::Equal, a, b, len)
         }
@@ -181,7 +225,7 @@ pub fn multiplied(alloc: Global, k: i64, a: Lanes, len: usize) -> Result<Option<
     };
     let mut out = repeated(alloc, 0, len)?;
     scale(&mut out, k, &xs);
-    Ok(Some(Lanes::Num(out)))
+    Ok(Some(Lanes::Num(shared(alloc, out)?)))
 }
 
 /// Each row's number within bounds.
@@ -200,7 +244,7 @@ pub fn bounded(
     };
     let mut out = repeated(alloc, 0, len)?;
     clip_each(&mut out, lo, hi, &xs);
-    Ok(Some(Lanes::Num(out)))
+    Ok(Some(Lanes::Num(shared(alloc, out)?)))
 }
 
 // The smaller or the greater of two numbers at each row.
@@ -215,21 +259,18 @@ fn compared(
     requires b_long { IsLong len b }
     ensures { IfOk result (λ o. IfSome o (AreCompared form len a b)) }
 {
-    let Some(xs) = a.numbers(alloc, len)? else {
-        return Ok(None);
-    };
-    let Some(ys) = b.numbers(alloc, len)? else {
+    let Some((xs, ys)) = both_numbers(alloc, a, b, len)? else {
         return Ok(None);
     };
     let mut out = repeated(alloc, 0, len)?;
     match form {
         Unary::Least => {
             lesser(&mut out, &xs, &ys);
-            Ok(Some(Lanes::Num(out)))
+            Ok(Some(Lanes::Num(shared(alloc, out)?)))
         }
         Unary::Greatest => {
             greater(&mut out, &xs, &ys);
-            Ok(Some(Lanes::Num(out)))
+            Ok(Some(Lanes::Num(shared(alloc, out)?)))
         }
         _ => Ok(None),
     }
@@ -263,15 +304,12 @@ fn chosen_numbers(
     requires b_long { IsLong len b }
     ensures { IfOk result (λ o. IfSome o (AreChosen mask.now len a b)) }
 {
-    let Some(xs) = a.numbers(alloc, len)? else {
-        return Ok(None);
-    };
-    let Some(ys) = b.numbers(alloc, len)? else {
+    let Some((xs, ys)) = both_numbers(alloc, a, b, len)? else {
         return Ok(None);
     };
     let mut out = repeated(alloc, 0, len)?;
     choose(&mut out, mask, &xs, &ys);
-    Ok(Some(Lanes::Num(out)))
+    Ok(Some(Lanes::Num(shared(alloc, out)?)))
 }
 
 /// For each row the one or the other, by a condition.
@@ -291,7 +329,7 @@ pub fn chosen(
         (Lanes::Truth(xs), Lanes::Truth(ys)) => {
             let mut out = blank(alloc, len)?;
             choose_truths(&mut out, mask, &xs, &ys);
-            Ok(Some(Lanes::Truth(out)))
+            Ok(Some(Lanes::Truth(shared_truths(alloc, out)?)))
         }
         (a, b) => chosen_numbers(alloc, mask, a, b, len),
     }
@@ -322,7 +360,7 @@ pub fn halves(l: Lanes, len: usize) -> Result<Option<(Lanes, Lanes)>, NoMemory>
 {
     match l {
         Lanes::Part(t, first, k) => halves_of_rows(t, first, k, len),
-        Lanes::Pair(a, b) => Ok(Some((Box::into_inner(a), Box::into_inner(b)))),
+        Lanes::Pair(both) => Ok(Some((both.first.copy()?, both.second.copy()?))),
         _ => Ok(None),
     }
 }

@@ -12,7 +12,7 @@ pub mod numbers;
 pub mod texts;
 
 pub use flows::{Passed, flat_total, pass_stages};
-pub use frames::Frame;
+pub use frames::{Frame, Frames};
 pub use gather::{Gather, add_total, share};
 pub use lanes::Lanes;
 pub use meant::lanes_of;

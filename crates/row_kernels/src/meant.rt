@@ -6,8 +6,8 @@ ghost use Rattle.fz_ast.specs.TermNodes.{binary, term_at, unary};
 ghost use Rattle.row_kernels.specs.Calls.{IsArgument, IsCalled, IsUnitTerm};
 ghost use Rattle.row_kernels.specs.Lanes.{AllLong, AreGiven, AreLiterals, AreMeant};
 
-use crate::columns::{copied_bytes, repeated_truth};
-use crate::frames::{Frame, is_free, named, only, under, under_two};
+use crate::columns::{repeated_truth, shared_bytes, shared_truths};
+use crate::frames::{Frames, is_free, named, only, under, under_two};
 use crate::lanes::{Lanes, bounded, chosen, halves, multiplied, signed, worded};
 use flow_values::{Closure, Scope};
 use fz_ast::{Arrow, Binary, Form, Name, NoMemory, Nodes, Ranged, Side, Unary};
@@ -16,7 +16,7 @@ use std::alloc::Global;
 // The function that a term is, if it is the name of one outside.
 fn function_called<'a>(
     nodes: &Nodes,
-    frames: &[Frame],
+    frames: &Frames,
     outer: &'a Scope,
     f: u32,
 ) -> Option<&'a Closure>
@@ -62,10 +62,11 @@ fn is_unit(nodes: &Nodes, e: u32) -> bool
 fn literal(alloc: Global, side: Side, len: usize) -> Result<Lanes, NoMemory>
     ensures { IfOk result (AreLiterals side len) }
 {
-    match side {
-        Side::Inl => Ok(Lanes::Truth(repeated_truth(alloc, true, len)?)),
-        Side::Inr => Ok(Lanes::Truth(repeated_truth(alloc, false, len)?)),
-    }
+    let bs = match side {
+        Side::Inl => repeated_truth(alloc, true, len)?,
+        Side::Inr => repeated_truth(alloc, false, len)?,
+    };
+    Ok(Lanes::Truth(shared_truths(alloc, bs)?))
 }
 
 /// The values of a term for each row, if it is flat and at most `left` deep with the functions that it calls.
@@ -73,7 +74,7 @@ fn literal(alloc: Global, side: Side, len: usize) -> Result<Lanes, NoMemory>
 pub fn lanes_of(
     alloc: Global,
     nodes: &Nodes,
-    frames: &[Frame],
+    frames: &Frames,
     outer: &Scope,
     len: usize,
     i: u32,
@@ -90,7 +91,7 @@ pub fn lanes_of(
     match &nodes.node(i).form {
         Form::Var(name) => named(alloc, frames, outer, name, len),
         Form::Num(z) => Ok(Some(Lanes::Same(*z))),
-        Form::Text(text) => Ok(Some(Lanes::Text(copied_bytes(alloc, text.as_bytes())?))),
+        Form::Text(text) => Ok(Some(Lanes::Text(shared_bytes(alloc, text.as_bytes())?))),
         Form::Unary(form, e) => lanes_of_word(alloc, nodes, frames, outer, len, *form, *e, below),
         Form::Binary(form, a, b) => lanes_of_two(
             alloc, nodes, frames, outer, len, *form, *a, *b, below,
@@ -123,7 +124,7 @@ pub fn lanes_of(
 fn lanes_of_word(
     alloc: Global,
     nodes: &Nodes,
-    frames: &[Frame],
+    frames: &Frames,
     outer: &Scope,
     len: usize,
     form: Unary,
@@ -146,7 +147,7 @@ fn lanes_of_word(
 fn lanes_of_multiple(
     alloc: Global,
     nodes: &Nodes,
-    frames: &[Frame],
+    frames: &Frames,
     outer: &Scope,
     len: usize,
     k: i64,
@@ -169,7 +170,7 @@ fn lanes_of_multiple(
 fn lanes_of_clip(
     alloc: Global,
     nodes: &Nodes,
-    frames: &[Frame],
+    frames: &Frames,
     outer: &Scope,
     len: usize,
     lo: i64,
@@ -193,7 +194,7 @@ fn lanes_of_clip(
 fn lanes_of_two(
     alloc: Global,
     nodes: &Nodes,
-    frames: &[Frame],
+    frames: &Frames,
     outer: &Scope,
     len: usize,
     form: Binary,
@@ -224,7 +225,7 @@ fn lanes_of_two(
 fn lanes_of_call(
     alloc: Global,
     nodes: &Nodes,
-    frames: &[Frame],
+    frames: &Frames,
     outer: &Scope,
     len: usize,
     f: u32,
@@ -266,7 +267,7 @@ fn lanes_of_call(
 fn lanes_of_let(
     alloc: Global,
     nodes: &Nodes,
-    frames: &[Frame],
+    frames: &Frames,
     outer: &Scope,
     len: usize,
     x: &Name,
@@ -293,7 +294,7 @@ fn lanes_of_let(
 fn lanes_of_pair(
     alloc: Global,
     nodes: &Nodes,
-    frames: &[Frame],
+    frames: &Frames,
     outer: &Scope,
     len: usize,
     x: &Name,
@@ -324,7 +325,7 @@ fn lanes_of_pair(
 fn lanes_of_if(
     alloc: Global,
     nodes: &Nodes,
-    frames: &[Frame],
+    frames: &Frames,
     outer: &Scope,
     len: usize,
     e: u32,

@@ -30,7 +30,7 @@ use Rattle.row_kernels.proofs.Held.{high_held, low_held, num_held, times_held}
 use Rattle.fuzz_eval.proofs.Forms.{bang_has, bang_means, case_can, case_has, case_left, case_left_means, case_right, case_right_means, form_has, form_means, if_can, if_has, if_left, if_left_means, if_right, if_right_means, inject_has, inject_means, lambda_function, lambda_means, let_bang_can, let_bang_has, let_bang_inside, let_bang_means, let_has, let_inside, let_means, num_means, ranged_can, ranged_has, ranged_means, text_means, times_can, times_has, times_means, unary_can, unary_has, unary_means, unit_means, var_known, var_means}
 use Rattle.fuzz_eval.proofs.AtOnce.{apart_inside, apart_means, at_once_means}
 use Rattle.fuzz_eval.proofs.Steps.{above}
-use Rattle.fuzz_eval.proofs.Walked.{branch_added, branch_can, branch_known, branches_added, can_apply, flat_as, passing_can, passing_end, passing_known, passing_left_out, passing_next, passing_same, passing_start, row_added, row_passes, row_weighed, rows_added, step_drops, same_length, step_is, step_keeps, step_maps, step_tells, whole}
+use Rattle.fuzz_eval.proofs.Walked.{can_apply, flat_as, laid_can, laid_gathered, passing_can, passing_end, passing_known, passing_left_out, passing_next, passing_same, passing_start, row_added, row_passes, row_weighed, rows_added, step_drops, same_length, step_is, step_keeps, step_maps, step_tells, strand_added, strand_can, strands_added, whole}
 use Rattle.fuzz_eval.proofs.Tallied.{clip_can, clip_gives, size_bag, size_gives, size_weighed, sum_bag, sum_gives, sum_weighed, walks_not}
 use Rattle.fuzz_eval.proofs.TwoParts.{binary_can, binary_means, can_compare, compared, first_has, form_here, left_compared, left_has, left_text, means_here, pair_can, pair_has, pair_inside, pair_means, right_compared, right_has, right_text, second_has}
 use Rattle.fuzz_eval.proofs.eval.+evaluating.Goals as goal
@@ -555,14 +555,14 @@ walk-flow-flow-requires t c = c.requires.bag
 pub walk-loop-i-init : goal.walk-loop-i-init
 walk-loop-i-init t c = refl
 
-pub walk-offset_bounds-branches-i : goal.walk-offset_bounds-branches-i
-walk-offset_bounds-branches-i t c = search (rules, arith)
+pub walk-offset_bounds-strands-i : goal.walk-offset_bounds-strands-i
+walk-offset_bounds-strands-i t c = search (rules, arith)
 
-pub walk-bounds-branches-i : goal.walk-bounds-branches-i
-walk-bounds-branches-i t c = c.loop-i-test.true
+pub walk-bounds-strands-i : goal.walk-bounds-strands-i
+walk-bounds-strands-i t c = c.loop-i-test.true
 
-pub walk-walk_branch-requires : goal.walk-walk_branch-requires
-walk-walk_branch-requires t c = (omega arith, (branch_known c.args.gather c.deref-branches.result.now c.loop-i.i c.index-branches-i.result c.loop-i-test.true c.index-branches-i.is (subst IsFlow (sym c.deref-branches.ensures.value) c.flow-flow.ensures.walked), branch_can c.args.gather c.deref-branches.result.now c.loop-i.i c.index-branches-i.result c.loop-i-test.true c.index-branches-i.is (subst IsFlow (sym c.deref-branches.ensures.value) c.flow-flow.ensures.walked) (subst (AllWeighed c.args.gather) (ap elements c.flow-flow.ensures.is ∙ ap flow_of (sym c.deref-branches.ensures.value)) c.requires.weighed)))
+pub walk-walk_strand-requires : goal.walk-walk_strand-requires
+walk-walk_strand-requires t c = (omega arith, strand_can c.args.gather c.deref-strands.result.now c.loop-i.i c.index-strands-i.result c.loop-i-test.true c.index-strands-i.is (subst IsFlow (sym c.deref-strands.ensures.value) c.flow-flow.ensures.walked) (subst (AllWeighed c.args.gather) (ap elements c.flow-flow.ensures.is ∙ ap flow_of (sym c.deref-strands.ensures.value)) c.requires.weighed))
 
 pub walk-returns-in_err-more : goal.walk-returns-in_err-more
 walk-returns-in_err-more t c = search rules
@@ -574,43 +574,46 @@ pub walk-loop-i-smaller : goal.walk-loop-i-smaller
 walk-loop-i-smaller t c = search rules
 
 pub walk-loop-i-preserved : goal.walk-loop-i-preserved
-walk-loop-i-preserved t c = branch_added c.args.gather c.deref-branches.result.now c.loop-i.i c.index-branches-i.result c.loop-i-test.true c.index-branches-i.is _ c.in_ok-more.more _ c.loop-i.invariant c.in_ok-more.ensures
+walk-loop-i-preserved t c = strand_added c.args.gather c.deref-strands.result.now c.loop-i.i c.index-strands-i.result c.loop-i-test.true c.index-strands-i.is _ c.in_ok-more.more _ c.loop-i.invariant c.in_ok-more.ensures
     (grind (arith, to_z-of_z, common_steps, c.in_ok-total.ensures))
 
 pub walk-returns : goal.walk-returns
-walk-returns t c = branches_added c.args.gather c.deref-branches.result.now c.loop-i.i _ (omega (arith, c.loop-i-test.false)) c.loop-i.invariant ∙ ap (gathered c.args.gather) (sym (ap elements c.flow-flow.ensures.is ∙ ap flow_of (sym c.deref-branches.ensures.value)))
+walk-returns t c = strands_added c.args.gather c.deref-strands.result.now c.loop-i.i _ (omega (arith, c.loop-i-test.false)) c.loop-i.invariant ∙ ap (gathered c.args.gather) (sym (ap elements c.flow-flow.ensures.is ∙ ap flow_of (sym c.deref-strands.ensures.value)))
 
-pub walk_branch-returns-in-Some : goal.walk_branch-returns-in-Some
-walk_branch-returns-in-Some t c = grind (arith, to_z-of_z, common_steps, c.in-Some.ensures)
+pub walk_strand-returns-in-Some : goal.walk_strand-returns-in-Some
+walk_strand-returns-in-Some t c = grind (arith, to_z-of_z, common_steps, c.in-Some.ensures)
 
-pub walk_branch-flat_total-requires-clause-known : goal.walk_branch-flat_total-requires-clause-known
-walk_branch-flat_total-requires-clause-known t c = subst AllKnown (sym c.deref.ensures.value) c.requires.known
+pub walk_strand-returns-in_err-branch : goal.walk_strand-returns-in_err-branch
+walk_strand-returns-in_err-branch t c = search rules
 
-pub walk_branch-flat_total-requires-clause-goes : goal.walk_branch-flat_total-requires-clause-goes
-walk_branch-flat_total-requires-clause-goes t c = subst (λ (ss : List Step). AllGo ss c.args.branch.now.table.value) (sym (ap steps_of c.deref.ensures.value)) c.requires.can.goes
+pub walk_strand-flat_total-requires-clause-known : goal.walk_strand-flat_total-requires-clause-known
+walk_strand-flat_total-requires-clause-known t c = subst AllKnown (sym c.deref.ensures.value) c.in_ok-branch.ensures.known
 
-pub walk_branch-returns-in_err-first : goal.walk_branch-returns-in_err-first
-walk_branch-returns-in_err-first t c = search rules
+pub walk_strand-flat_total-requires-clause-goes : goal.walk_strand-flat_total-requires-clause-goes
+walk_strand-flat_total-requires-clause-goes t c = subst (λ (ss : List Step). AllGo ss c.in_ok-branch.branch.table.value) (sym (ap steps_of c.deref.ensures.value)) (laid_can c.args.gather c.args.strand.now c.in_ok-branch.branch c.in_ok-branch.ensures c.requires).goes
 
-pub walk_branch-returns-then-first-len : goal.walk_branch-returns-then-first-len
-walk_branch-returns-then-first-len t c = whole c.args.gather (steps_of c.args.branch.now.stages.items) c.args.branch.now.table.value c.in_ok-first.first _ (grind (arith, common_steps, c.if-first-len.true, c.len.ensures, c.deref-2.ensures))
-    (flat_as c.args.gather (steps_of c.args.branch.now.stages.items) c.args.branch.now.table.value c.in_ok-first.first c.in_ok-first.start _ (grind (arith, to_z-of_z, common_steps)) (subst (λ (ss : List Step). IsFlatTotal c.args.gather ss c.args.branch.now.table.value c.in_ok-first.first c.in_ok-first.start) (ap steps_of c.deref.ensures.value) c.in_ok-first.ensures))
+pub walk_strand-returns-in_err-first : goal.walk_strand-returns-in_err-first
+walk_strand-returns-in_err-first t c = search rules
 
-pub walk_branch-walk_rows-requires : goal.walk_branch-walk_rows-requires
-walk_branch-walk_rows-requires t c = (
+pub walk_strand-returns-then-first-len : goal.walk_strand-returns-then-first-len
+walk_strand-returns-then-first-len t c = laid_gathered c.args.gather c.args.strand.now c.in_ok-branch.branch c.in_ok-branch.ensures _ (whole c.args.gather (steps_of c.in_ok-branch.branch.stages.items) c.in_ok-branch.branch.table.value c.in_ok-first.first _ (grind (arith, common_steps, c.if-first-len.true, c.len.ensures, c.deref-2.ensures))
+    (flat_as c.args.gather (steps_of c.in_ok-branch.branch.stages.items) c.in_ok-branch.branch.table.value c.in_ok-first.first c.in_ok-first.start _ (grind (arith, to_z-of_z, common_steps)) (subst (λ (ss : List Step). IsFlatTotal c.args.gather ss c.in_ok-branch.branch.table.value c.in_ok-first.first c.in_ok-first.start) (ap steps_of c.deref.ensures.value) c.in_ok-first.ensures)))
+
+pub walk_strand-walk_rows-requires : goal.walk_strand-walk_rows-requires
+walk_strand-walk_rows-requires t c = (
   omega arith,
   (
-    c.requires.known,
+    c.in_ok-branch.ensures.known,
     (
-      c.requires.can,
-      flat_as c.args.gather (steps_of c.args.branch.now.stages.items) c.args.branch.now.table.value c.in_ok-first.first c.in_ok-first.start _ (grind (arith, to_z-of_z, common_steps))
-          (subst (λ (ss : List Step). IsFlatTotal c.args.gather ss c.args.branch.now.table.value c.in_ok-first.first c.in_ok-first.start) (ap steps_of c.deref.ensures.value) c.in_ok-first.ensures),
+      laid_can c.args.gather c.args.strand.now c.in_ok-branch.branch c.in_ok-branch.ensures c.requires,
+      flat_as c.args.gather (steps_of c.in_ok-branch.branch.stages.items) c.in_ok-branch.branch.table.value c.in_ok-first.first c.in_ok-first.start _ (grind (arith, to_z-of_z, common_steps))
+          (subst (λ (ss : List Step). IsFlatTotal c.args.gather ss c.in_ok-branch.branch.table.value c.in_ok-first.first c.in_ok-first.start) (ap steps_of c.deref.ensures.value) c.in_ok-first.ensures),
     ),
   ),
 )
 
-pub walk_branch-returns : goal.walk_branch-returns
-walk_branch-returns t c = by_ok c.walk_rows.result _ _ c.walk_rows.ensures (λ z t. whole c.args.gather (steps_of c.args.branch.now.stages.items) c.args.branch.now.table.value (length c.args.branch.now.table.value) z refl t)
+pub walk_strand-returns : goal.walk_strand-returns
+walk_strand-returns t c = by_ok c.walk_rows.result _ _ c.walk_rows.ensures (λ z t. laid_gathered c.args.gather c.args.strand.now c.in_ok-branch.branch c.in_ok-branch.ensures z (whole c.args.gather (steps_of c.in_ok-branch.branch.stages.items) c.in_ok-branch.branch.table.value (length c.in_ok-branch.branch.table.value) z refl t))
 
 pub walk_rows-workers_of-requires : goal.walk_rows-workers_of-requires
 walk_rows-workers_of-requires t c = subst AllKnown (sym c.deref.ensures.value) c.requires.known

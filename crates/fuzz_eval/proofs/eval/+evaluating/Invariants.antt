@@ -53,8 +53,8 @@ decreases-pass l = 1099511627776 * l.walks + 68719476737
 abbrev pub decreases-walk_rows : goal.decreases-walk_rows
 decreases-walk_rows l = 1099511627776 * l.walks + 68719476738
 
-abbrev pub decreases-walk_branch : goal.decreases-walk_branch
-decreases-walk_branch l = 1099511627776 * l.walks + 68719476739
+abbrev pub decreases-walk_strand : goal.decreases-walk_strand
+decreases-walk_strand l = 1099511627776 * l.walks + 68719476739
 
 abbrev pub decreases-walk : goal.decreases-walk
 decreases-walk l = 1099511627776 * l.walks + 68719476740
@@ -66,4 +66,4 @@ abbrev pub invariant-walk_rows-loop-i : goal.invariant-walk_rows-loop-i
 invariant-walk_rows-loop-i l = AreAtWork l.workers.items (steps_of l.branch.stages.items) × IsFlatTotal l.gather (steps_of l.branch.stages.items) l.branch.table.value l.i l.total
 
 abbrev pub invariant-walk-loop-i : goal.invariant-walk-loop-i
-invariant-walk-loop-i l = l.total ≡ gathered l.gather (flow_of (take l.i l.branches))
+invariant-walk-loop-i l = l.total ≡ gathered l.gather (flow_of (take l.i l.strands))

@@ -23,8 +23,9 @@ returns c =
     let size : length c.deref_mut.result.now ≡ n = ap length (c.deref_mut.ensures.value ∙ c.in_ok-there.ensures) ∙ length-replicate n false in
     let long : length out ≡ n = c.keep_both.ensures.len ∙ size in
     let kept : (with_items t out).items ≡ out = with_items_is t out (omega (arith, long, ap length c.in_ok-there.ensures, length-replicate n false, t.ok.0)) in
-    judged s n c.args.keep p (record { lanes = p.lanes; there = with_items t out }) c.requires.long c.in_ok-again.again c.in-Some.told c.in-Truth.told.items
+    let heard : c.deref-4.result.now ≡ c.in-Truth.told.value.items = c.deref-4.ensures.value ∙ ap (λ v. v.items) c.deref-3.ensures in
+    judged s n c.args.keep p (record { lanes = p.lanes; there = with_items t out }) c.requires.long c.in_ok-again.again c.in-Some.told c.in-Truth.told.value.items
     c.in_ok-again.ensures.each told (λ j. ap (λ l. lane_at l j) c.in-Truth.is) refl (ap length kept ∙ long)
     (λ j lt.
     ap (λ bs. get_or bs j false) kept ∙ c.keep_both.ensures.each j (omega (arith, lt, size))
-    ∙ (λ i. get_or (c.deref-2.ensures.value i) j false && agree c.args.keep (get_or (c.deref-3.ensures.value i) j false)))
+    ∙ (λ i. get_or (c.deref-2.ensures.value i) j false && agree c.args.keep (get_or (heard i) j false)))

@@ -1,4 +1,4 @@
-use Rattle.std.proofs.Common.{◌<◌, ◌∷◌, [], ℤ, List, arith, ap, subst, sym, ◌∙◌, length, rules, to_z, of_z, w64}
+use Rattle.std.proofs.Common.{◌<◌, ℤ, List, arith, ap, subst, sym, ◌∙◌, length, rules, to_z, of_z, w64}
 use Rattle.fz_ast.specs.Names.{name_of}
 use Rattle.fz_ast.specs.Parts.{Parts}
 use Rattle.fz_ast.specs.TermNodes.{IsKnown, binary, term_at, unary}
@@ -9,8 +9,8 @@ use Rattle.fz_ast.specs.declared.term.Form.TheVariants.{Binary as Op2, If, Let, 
 use Rattle.fz_ast.specs.declared.term.Ranged.TheVariants.{Clip}
 use Rattle.row_kernels.specs.declared.frames.Frame.{Frame}
 use Rattle.row_kernels.specs.Calls.{IsArgument, IsCalled}
-use Rattle.row_kernels.specs.Lanes.{AllLong, AreGiven, AreHalves, AreMeant, AreNamed, AreSameNames}
-use Rattle.row_kernels.proofs.Given.{by_answer, call_given, form_meant, var_given}
+use Rattle.row_kernels.specs.Lanes.{AllLong, AreGiven, AreHalves, AreMeant, AreNamed}
+use Rattle.row_kernels.proofs.Given.{by_answer, call_given, form_meant, let_given, pair_given, var_given}
 use Rattle.row_kernels.proofs.Held.{high_held, low_held, times_held}
 use Rattle.row_kernels.proofs.meant.+meaning.Goals as goal
 
@@ -98,13 +98,13 @@ pub lanes_of_let-lanes_of-requires-2 : goal.lanes_of_let-lanes_of-requires-2
 lanes_of_let-lanes_of-requires-2 t c =
     let n = c.args.len in
     let bound : AreMeant c.args.frames.now c.args.outer.now.means (term_at c.args.nodes.now.terms c.args.e) n c.in-Some.bound = search rules in
-    (omega arith, (c.requires.b_known, subst (λ (fs : List Frame). AllLong n fs) (sym c.deref.ensures.value) (c.in_ok-inner.ensures.long n (bound.long, c.requires.long))))
+    (omega arith, (c.requires.b_known, subst (λ (fs : List Frame). AllLong n fs) (sym c.in_ok-inner.ensures) (bound.long, c.requires.long)))
 
 pub lanes_of_pair-lanes_of-requires-2 : goal.lanes_of_pair-lanes_of-requires-2
 lanes_of_pair-lanes_of-requires-2 t c =
     let n = c.args.len in
     let h : AreHalves n c.in-Some.pair c.in-Some-2.first c.in-Some-2.second = search rules in
-    (omega arith, (c.requires.b_known, subst (λ (fs : List Frame). AllLong n fs) (sym c.deref.ensures.value) (c.in_ok-inner.ensures.long n (h.second, (h.first, c.requires.long)))))
+    (omega arith, (c.requires.b_known, subst (λ (fs : List Frame). AllLong n fs) (sym c.in_ok-inner.ensures) (h.second, (h.first, c.requires.long))))
 
 pub lanes_of_call-lanes_of-requires-2 : goal.lanes_of_call-lanes_of-requires-2
 lanes_of_call-lanes_of-requires-2 t c =
@@ -114,7 +114,7 @@ lanes_of_call-lanes_of-requires-2 t c =
     let called : IsCalled c.args.frames.now c.args.outer.now.means (term_at c.args.nodes.now.terms c.args.f) f = search rules in
     let k = subst (λ (g : Form). IsKnown (length c.deref.result.now.types) f.lambda g) c.in-Lambda.is c.node.ensures.known in
     let below : c.in-Lambda.body < length f.nodes.value.terms = omega (arith, k.1, called.known) in
-    (omega arith, (subst (λ (N : Parts). c.in-Lambda.body < length N.terms) (sym c.deref-2.ensures) below, subst (λ (fs : List Frame). AllLong n fs) (sym c.deref-3.ensures.value) (c.in_ok-inner.ensures.long n (x.long, tt))))
+    (omega arith, (subst (λ (N : Parts). c.in-Lambda.body < length N.terms) (sym c.deref-2.ensures) below, subst (λ (fs : List Frame). AllLong n fs) (sym c.in_ok-inner.ensures) (x.long, tt)))
 
 pub lanes_of_call-returns : goal.lanes_of_call-returns
 lanes_of_call-returns t c =
@@ -124,15 +124,39 @@ lanes_of_call-returns t c =
     let N = c.args.nodes.now in
     let k = c.in-Some.function.now in
     let D = c.deref.result.now in
-    let inner = c.deref-3.result.now in
+    let inner = c.in_ok-inner.inner in
     let a = term_at N.terms c.args.a in
     let e = term_at N.terms c.in-Some-argument.e in
     let x : AreMeant fs γ e n c.in-Some-2.x = search rules in
     let called : IsCalled fs γ (term_at N.terms c.args.f) k = search rules in
     let argument : IsArgument c.in-Lambda.arrow a e = search rules in
     let whole = ap (λ (P : Parts). term_at P.terms k.lambda) (sym c.deref.ensures) ∙ c.node.ensures.form in
-    let named : AreSameNames inner (record { name = c.in-Lambda.name; lanes = c.in-Some-2.x } ∷ []) = subst (λ (gs : List Frame). AreSameNames gs (record { name = c.in-Lambda.name; lanes = c.in-Some-2.x } ∷ [])) (sym c.deref-3.ensures.value) c.in_ok-inner.ensures in
     by_answer c.lanes_of-2.result (AreMeant inner k.scope.means (term_at c.deref-2.result.now.terms c.in-Lambda.body) n) (AreGiven fs γ (AppE (term_at N.terms c.args.f) a) n) c.lanes_of-2.ensures
     (λ l h. call_given fs γ n (term_at N.terms c.args.f) a k (type_at D.types) (term_at D.terms) c.node.result.now.span c.in-Lambda.arrow c.in-Lambda.name c.in-Lambda.field-2 c.in-Lambda.field-3 c.in-Lambda.body
-    (term_at k.nodes.value.terms k.lambda) c.node.result.now.form whole c.in-Lambda.is called.each e argument c.in-Some-2.x x inner named l
+    (term_at k.nodes.value.terms k.lambda) c.node.result.now.form whole c.in-Lambda.is called.each e argument c.in-Some-2.x x inner c.in_ok-inner.ensures l
     (subst (λ (P : Parts). AreMeant inner k.scope.means (term_at P.terms c.in-Lambda.body) n l) (c.deref-2.ensures ∙ sym c.deref.ensures) h))
+
+pub lanes_of_let-returns : goal.lanes_of_let-returns
+lanes_of_let-returns t c =
+    let fs = c.args.frames.now in
+    let γ = c.args.outer.now.means in
+    let n = c.args.len in
+    let e = term_at c.args.nodes.now.terms c.args.e in
+    let b = term_at c.args.nodes.now.terms c.args.b in
+    let inner = c.in_ok-inner.inner in
+    let bound : AreMeant fs γ e n c.in-Some.bound = search rules in
+    by_answer c.lanes_of-2.result (AreMeant inner γ b n) (AreGiven fs γ (LetE (name_of c.args.x.now) e b) n) c.lanes_of-2.ensures
+    (λ l h. let_given fs γ n c.args.x.now e b c.in-Some.bound l bound inner c.in_ok-inner.ensures h)
+
+pub lanes_of_pair-returns : goal.lanes_of_pair-returns
+lanes_of_pair-returns t c =
+    let fs = c.args.frames.now in
+    let γ = c.args.outer.now.means in
+    let n = c.args.len in
+    let e = term_at c.args.nodes.now.terms c.args.e in
+    let b = term_at c.args.nodes.now.terms c.args.b in
+    let inner = c.in_ok-inner.inner in
+    let pair : AreMeant fs γ e n c.in-Some.pair = search rules in
+    let h : AreHalves n c.in-Some.pair c.in-Some-2.first c.in-Some-2.second = search rules in
+    by_answer c.lanes_of-2.result (AreMeant inner γ b n) (AreGiven fs γ (LetPairE (name_of c.args.x.now) (name_of c.args.y.now) e b) n) c.lanes_of-2.ensures
+    (λ l k. pair_given fs γ n c.args.x.now c.args.y.now e b c.in-Some.pair c.in-Some-2.first c.in-Some-2.second l pair h inner c.in_ok-inner.ensures k)

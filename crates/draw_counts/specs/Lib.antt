@@ -1,0 +1,5 @@
+pub mod Counts
+pub mod Noises
+pub mod Privacy
+pub mod Sequence
+pub mod Laws
