@@ -32,7 +32,7 @@ def asked(caller, name, times):
     reply = caller.ask(f"ask {name} 0.000001 size people").split()
     times.append(time.monotonic() - begun)
     if reply[0] != "answer":
-        raise Wrong(f"an ask was told {' '.join(reply)}")
+        raise Wrong(f"an ask was answered {' '.join(reply)}")
     return int(reply[1])
 
 
@@ -57,7 +57,7 @@ def beside(service, name):
         took = time.monotonic() - begun
     # The last ask may have been answered behind the held one.
     if not replies or not replies[0].startswith("answer ") or len(times) < 10:
-        raise Wrong(f"the held one was told {replies}, and {len(times)} asks were answered meanwhile")
+        raise Wrong(f"the held one was answered {replies}, and {len(times)} asks were answered meanwhile")
     if [number - numbers[0] for number in numbers] != list(range(len(numbers))):
         raise Wrong(f"numbers {numbers[:20]}")
     return times, took
@@ -80,7 +80,7 @@ def main():
                             asked(caller, name, times)
                     told(f"of {name}, alone", times)
                     times, took = beside(service, name)
-                    told(f"of {name}, beside {NAMES[0]}'s, held for {took:.1f} s", times)
+                    told(f"of {name}, next to {NAMES[0]}'s, held for {took:.1f} s", times)
             room.audited()
     except (Wrong, subprocess.SubprocessError, OSError) as fault:
         print(f"WRONG: {fault}")

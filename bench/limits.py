@@ -3,7 +3,7 @@
 
 usage: bench/limits.py [ROUNDS [NAME..]]    7 rounds, and all of the four, unless said: reply, divide, catalogs, memory
                                             (PROGRAM=FILE measures another build)
-- reply: with 64 owners of two tables of 1,000 rows the first reply over a connection comes at most 0.2 s behind the start of `serve`: the median of
+- reply: with 64 owners of two tables of 1,000 rows the first reply over a connection comes at most 0.2 s after the start of `serve`: the median of
   the rounds. Journals have no records, and every table is a file of its own.
 - divide: a `run` divides rows by key where it loads a table. Of a table of 2^20 rows of a text and a number, whose texts are 4,000 keys at random, that
   takes at most twice one pass over the text column. What is compared is processor time, the least of the rounds. Dividing is a `run` of no ask
@@ -125,7 +125,7 @@ def reply(rounds):
     with House(*small_owners()) as house:
         house.ran("init", "catalog.json", "key")
         took = [house.first_reply()[0] for _ in range(rounds)]
-    return [told("64 owners of two tables of 1,000 rows, the first reply behind the start of `serve`", median(took), "s", 0.2,
+    return [told("64 owners of two tables of 1,000 rows, the first reply after the start of `serve`", median(took), "s", 0.2,
         f" ({min(took):.3f} to {max(took):.3f})")]  # fmt: skip
 
 
@@ -183,7 +183,7 @@ def memory(rounds):
         with house:
             house.ran("init", "catalog.json", "key")
             took, peak = house.first_reply()
-        met.append(told(f"{what} of two tables of 1,000 rows, the peak of a `serve` by its first reply", peak, "MB", bar, f", {took:.2f} s behind its start"))
+        met.append(told(f"{what} of two tables of 1,000 rows, the peak of a `serve` by its first reply", peak, "MB", bar, f", {took:.2f} s after its start"))
     return met
 
 

@@ -114,7 +114,7 @@ def in_turn(rounds, ours, theirs):
         for way in (ours, theirs) if number % 2 == 0 else (theirs, ours):
             found[way].append(way())
     walls = [sorted(wall for wall, _ in found[way]) for way in (ours, theirs)]
-    print("    " + ", and beside it ".join(f"{wall[0]:.3f} to {wall[-1]:.3f} s" for wall in walls))
+    print("    " + ", and next to it ".join(f"{wall[0]:.3f} to {wall[-1]:.3f} s" for wall in walls))
     figures = []
     for of_ours, of_theirs in zip(zip(*found[ours]), zip(*found[theirs])):
         times = median(one / other if other else 1 for one, other in zip(of_ours, of_theirs))

@@ -3,7 +3,8 @@
 
 usage: ci/words.py [--list] [--most N] [PAGE ..]
 Without pages: README.md, docs/, the READMEs of crates, examples and clients. It prints a line, with its place, for each sentence over 35
-words, each word to be avoided and each crate's README over 250 words, and then the words of each group of pages. Blocks of code count as
+words, each word to be avoided, each page that is too long (a crate's README, README.md by its two parts, and those of PAGES), each line of
+README.md's table over 20 words and each crate that has no line there; and then the words of each group of pages. Blocks of code count as
 words of the page alone, and so does what stands in backquotes. --list prints the words of each page.
 It ends with status 1 where a rule is broken, or where all pages together have over N words (70,000 unless given).
 """
@@ -13,7 +14,10 @@ import re
 import sys
 
 TOP = os.path.dirname(os.path.dirname(os.path.abspath(__file__)))
-MOST, LONGEST, CRATE = 70_000, 35, 250
+MOST, LONGEST, CRATE, ROW = 70_000, 35, 250, 20
+PAGES = {"docs/dev/DECISIONS.md": 6_000, "docs/dev/measurements.md": 4_000}
+# README.md's first page, and what is proved, crate by crate.
+FIRST, SECOND, PROVED = 1_200, 1_500, "\n# What is proved, crate by crate\n"
 # What is said in its place. A word within backquotes is a name, and stays.
 AVOID = {
     r"want(?:s|ed|ing)? of memory|memory (?:is|was) wanting": "out of memory",
@@ -88,6 +92,29 @@ def faults(text, longest):
             yield found.start(), f"{found[0]!r} ({better})"
 
 
+def too_long(page, text):
+    """What is longer than its page may be, each with its place."""
+    parts = [(0, text, PAGES.get(page, CRATE if group_of(page) == "crates" else None))]
+    if page == "README.md":
+        first = text.partition(PROVED)[0]
+        parts = [(0, first, FIRST), (len(first), text[len(first) :], SECOND)]
+        yield from table_faults(text, len(first))
+    for place, part, most in parts:
+        if most and len(part.split()) > most:
+            yield place, f"{len(part.split())} words from here, and {most} are allowed"
+
+
+def table_faults(text, start):
+    """Lines of the table of crates that are too long, and crates that aren't named there or below it."""
+    for line in re.finditer(r"^\| \[.*$", text[start:], re.M):
+        number = number_of_words(LINK.sub("]", line[0]))
+        if number > ROW:
+            yield start + line.start(), f"a crate's line has {number} words, and {ROW} are allowed"
+    for crate in sorted(os.listdir(os.path.join(TOP, "crates"))):
+        if f"`{crate}`" not in text[start:]:
+            yield start, f"{crate} has no line"
+
+
 def group_of(page):
     return "crates" if page.startswith("crates/") else page.split("/")[0]
 
@@ -111,10 +138,7 @@ def main():
         counts[group_of(page)] = counts.get(group_of(page), 0) + number
         if listed:
             print(f"{number:7} {page}")
-        crate = group_of(page) == "crates"
-        said = sorted(faults(text, LONGEST))
-        if crate and number > CRATE:
-            said.append((len(text), f"{number} words, and {CRATE} are allowed"))
+        said = sorted([*faults(text, LONGEST), *too_long(page, text)])
         for place, what in said:
             broken += 1
             line = text.count("\n", 0, place) + 1

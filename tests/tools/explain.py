@@ -78,7 +78,7 @@ CASES = [
     (AGES + "size (filter (fn (x : num) => x = 30) ages)", "21 52", "=", ["`==` compares"]),
     (AGES + "size (filter (fn (x : num) => 15 <= x <= 64) ages)", "21 54", "<=", ["One comparison stands alone"]),
     ("size persons / 2", "21 2", "/", ["no division"]),
-    ("size", "21 1", " ", ["ends, too early", "missing behind `size`"]),
+    ("size", "21 1", " ", ["ends, too early", "missing after `size`"]),
     ("", "21 0", " ", ["empty"]),
     ("size (persons", "21 3", " ", ["`(` of token 1 isn't closed"]),
     ("let n = size persons", "21 5", " ", ["its `in`"]),

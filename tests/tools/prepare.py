@@ -41,7 +41,7 @@ FILES = [
         b'\xef\xbb\xbf"name, of it",n\r\n"two\r\nlines",1\r\n"say ""hi""",2\r\n"a, b", 3 \r\n',
         ["name_of_it.kind=text"],
         'name_of_it,n\ntwo lines,1\nsay \'hi\',2\n"a, b",3\n',
-        ["3 rows behind the header of line 1", "'two\\r\\nlines' -> two lines: 1 time"],
+        ["3 rows after the header of line 1", "'two\\r\\nlines' -> two lines: 1 time"],
     ),
     (
         "UTF-16 with tabs",
@@ -50,7 +50,7 @@ FILES = [
         "ort,zahl\nKöln,1\nBonn,2\nBonn,3\n",
         ["in utf-16, parted by tab", "Bonn: 2"],
     ),
-    ("CR alone, no end of the last line", b"a|b\r1|2\r-3|4", [], "a,b\n1,2\n-3,4\n", ["2 rows behind the header of line 1"]),
+    ("CR alone, no end of the last line", b"a|b\r1|2\r-3|4", [], "a,b\n1,2\n-3,4\n", ["2 rows after the header of line 1"]),
     (
         "rows too short and too long, delimiters at their ends, blank lines, rows of nothing",
         b"a,b,c\n1,2,3, ,\n\n4,5\n,,\n6,7,8\n9,8,7,6\n",

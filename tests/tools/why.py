@@ -222,7 +222,7 @@ MADE = [
     (lambda: os.remove("journals/1.bud"), AUDIT, "", 4, ["journal health uninitialised 0", "The journal of census opens, with 4 records", "Runs were over "
         "these journals: that of census has records. Don't run `init`"]),
     (lambda: os.truncate("journals/1.bud", 0), AUDIT, "", 4, ["it is empty", "or somebody emptied it", "Runs were over these journals", "!zeros alone"]),
-    (lambda: os.truncate("journals/0.bud", 100), AUDIT, "", 4, ["it is the beginning of this owner's journal", "all behind it was cut off"]),
+    (lambda: os.truncate("journals/0.bud", 100), AUDIT, "", 4, ["it is the beginning of this owner's journal", "all after it was cut off"]),
     (lambda: write("journals/0.bud", bytes(6528)), AUDIT, "", 4, ["journal census uninitialised 6528", "it has zeros alone"]),
     (lambda: put(1, 0, b"\0"), AUDIT, "", 4, ["journal health uninitialised 768", "its header is there but for the first byte"]),
     (lambda: put(0, 0, b"\x25"), AUDIT, "", 4, ["its first byte is 0x25, where 0xA5 belongs, but 4 slots are open: it was in service", "Don't run `init`"]),
@@ -241,7 +241,7 @@ MADE = [
         "census", "people.csv"]),
     (lambda: write("people.csv", FILES["people.csv"] + b"B,50\nA,1\n"), AUDIT, "", 4, ["At init people.csv lacked the last 2 lines of now; with that"]),
     (lambda: write("people.csv", FILES["people.csv"].replace(b"\n", b"\r\n")), AUDIT, "", 4, ["At init people.csv had the line ends LF; with that"]),
-    (lambda: write("people.csv", FILES["people.csv"].rstrip()), AUDIT, "", 4, ["At init people.csv had a line end behind its last row; with that"]),
+    (lambda: write("people.csv", FILES["people.csv"].rstrip()), AUDIT, "", 4, ["At init people.csv had a line end after its last row; with that"]),
     (lambda: write("people.csv", FILES["people.csv"].replace(b"20", b"21")), AUDIT, "", 4,
      ["one of these, or several: the entry of census (but for its budget and capacity), people.csv", "The journal of health opens, so the key and the "
          "analysts", "!the list of analysts,"]),
@@ -277,13 +277,13 @@ MADE = [
     (both(older, lambda: os.truncate("journals/0.bud", 1000)), AUDIT, "", 4, ["slot 13 (from 0): the file has 1000 bytes, and 6528 are due: it ends in slot 13"]),
     (both(older, lambda: os.truncate("journals/0.bud", 6529)), AUDIT, "", 4, ["slot 100 (from 0): the file has 6529 bytes, and 6528 are due: 1 too many"]),
     (lambda: os.truncate("journals/0.bud", 4225), AUDIT, "", 0, []),
-    (lambda: put_in_slot(0, 0, b"\x25"), AUDIT, "", 4, ["slot 1 (from 0): it is open behind slot 0, which is closed: its first byte is 0x25", "the rest of "
+    (lambda: put_in_slot(0, 0, b"\x25"), AUDIT, "", 4, ["slot 1 (from 0): it is open after slot 0, which is closed: its first byte is 0x25", "the rest of "
         "it is a whole record"]),
-    (lambda: copy_slot(1, 9), AUDIT, "", 4, ["slot 9 (from 0): it is open behind slot 4, which is closed", "all of it is zeros"]),
+    (lambda: copy_slot(1, 9), AUDIT, "", 4, ["slot 9 (from 0): it is open after slot 4, which is closed", "all of it is zeros"]),
     (lambda: put_in_slot(1, 1, b"\4"), AUDIT, "", 4, ["slot 1 (from 0): it is open, and holds no record: its kind (byte 1) is 4"]),
     (lambda: put_in_slot(1, 1, b"\3"), AUDIT, "", 4, ["slot 1 (from 0): it is open, and holds no record: bytes 2 and 3 of a grant are 1 and 0, where zeros"]),
     (given((0, 0)), AUDIT, "", 4, [f"slot 4 (from 0): its record may not stand there: its grant is of 0 millionths, and 1 to {MOST} are allowed"]),
-    (both(given((0, 7)), lambda: put_in_slot(4, 16, b"\1")), AUDIT, "", 4, ["a grant has other bytes behind its amount, where zeros belong"]),
+    (both(given((0, 7)), lambda: put_in_slot(4, 16, b"\1")), AUDIT, "", 4, ["a grant has other bytes after its amount, where zeros belong"]),
     (given((0, 7), (2, 7)), AUDIT, "", 4, ["slot 5 (from 0): its record may not stand there: it is grant number 2, and 1 is the next one"]),
     (both(older, given((0, MOST))), AUDIT, "", 4, [f"with its grant of {MOST} the budget is {MOST + 10**7}, and {MOST} at most"]),
     (given((0, 7)), INIT, "", 4, ["journal census exists 4224", "census reservations 2 answered 2 exhausted 0 lost 0", "budget 10000007"]),

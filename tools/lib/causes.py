@@ -33,7 +33,7 @@ MOST_TOLD = 10
 IN_SERVICE = "Don't run `init`, which would begin the budget anew: go on as with `damaged`, its budget counts as spent."
 SERVICE = ("init", "run", "serve", "audit", "grant")
 ONE_PROCESS = (
-    "One process at a time works on a folder of journals, and it keeps them until it ends. Nothing was written. To look at journals beside it, copy them "
+    "One process at a time works on a folder of journals, and it keeps them until it ends. Nothing was written. To look at journals while it runs, copy them "
     "by tools/snapshot."
 )
 
@@ -428,7 +428,7 @@ class Journals:
         if not any(kept):
             return "it has zeros alone. An `init` was stopped, or had no room."
         if len(kept) < HEAD and kept == self.head(number, kept)[: len(kept)]:
-            return "it is the beginning of this owner's journal, which an `init` had made: all behind it was cut off."
+            return "it is the beginning of this owner's journal, which an `init` had made: all after it was cut off."
         if len(kept) >= HEAD and fields(kept)[1:] == fields(self.head(number, kept))[1:]:
             return "its header is there but for the first byte: an `init` was stopped at its last step."
         return "it has other bytes than an `init` leaves."

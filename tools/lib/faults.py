@@ -133,7 +133,7 @@ def catalog_of(name):
 def check_key(name):
     data = bytes_of(name)
     if len(data) != KEY_LENGTH:
-        ended = " A line end stands behind it." if len(data) == KEY_LENGTH + 1 and data.endswith(b"\n") else ""
+        ended = " A line end stands after it." if len(data) == KEY_LENGTH + 1 and data.endswith(b"\n") else ""
         raise Fault(f"it has {len(data)} bytes, and a key has {KEY_LENGTH}.{ended}" if ended else f"it has {len(data)} bytes, and a key has {KEY_LENGTH}")
 
 

@@ -166,7 +166,7 @@ def no_grant(slot):
     """The same of a slot whose kind is a grant's."""
     wrong = {
         f"bytes 2 and 3 of a grant are {slot[2]} and {slot[3]}, where zeros belong": any(slot[2:4]),
-        "a grant has other bytes behind its amount, where zeros belong": any(slot[16:]),
+        "a grant has other bytes after its amount, where zeros belong": any(slot[16:]),
     }
     return [said for said, holds in wrong.items() if holds]
 
@@ -315,7 +315,7 @@ def length_fault(data, area):
         length = length_of(data)
         return area.slots, f"the file has {length} bytes, and {area.end} are due: {length - area.end} too many"
     whole = max(0, (len(data) - area.begin) // SLOT)
-    return whole, f"the file has {length_of(data)} bytes, and {area.end} are due: it ends in slot {whole}, and all behind that is gone"
+    return whole, f"the file has {length_of(data)} bytes, and {area.end} are due: it ends in slot {whole}, and all after that is gone"
 
 
 def slots(data, capacity, first=0):
@@ -347,7 +347,7 @@ def behind_closed(slot, closed):
     held = decoded(bytes([GATE]) + slot[1:])
     gate = f"its first byte is 0x{slot[0]:02X}, and 0x{GATE:02X} opens a slot"
     rest = "the rest of it is a whole record" if held else "all of it is zeros" if not any(slot) else "the rest of it is no record"
-    return f"it is open behind slot {closed}, which is closed: {gate}; {rest}"
+    return f"it is open after slot {closed}, which is closed: {gate}; {rest}"
 
 
 # Journals as the server writes them.

@@ -21,7 +21,7 @@ KEY_LENGTH = 32
 FILE_LIMIT = 2**26
 MOST_FILES, MOST_BYTES, MOST_ROWS, MOST_TRIED, MOST_KEYS = 200, 2**28, 1000, 200_000, 250
 MOST_BYTES_WRITTEN = 8
-SOMEBODY = "somebody, or the disk, has written into the header. Nothing beside it has changed; go on as with `damaged`."
+SOMEBODY = "somebody, or the disk, has written into the header. Nothing else has changed; go on as with `damaged`."
 
 
 class House:
@@ -57,7 +57,7 @@ class Header:
 
 def form_faults(found):
     if found.magic != MAGIC:
-        return ["It is no journal: behind its first byte `FUZZBUDG` doesn't stand."]
+        return ["It is no journal: after its first byte `FUZZBUDG` doesn't stand."]
     if found.version not in VERSIONS:
         return [f"It is a journal of version {found.version}, and this program reads versions 1 to 3."]
     if any(found.rest):
@@ -149,8 +149,8 @@ def earlier_tables(entry):
 def forms_of(data):
     """The bytes of a table with another end, other line ends, or a byte order mark or none."""
     mark, lines = b"\xef\xbb\xbf", data.replace(b"\r\n", b"\n")
-    yield "had no line end behind its last row", data.rstrip(b"\r\n")
-    yield "had a line end behind its last row", data.rstrip(b"\r\n") + b"\n"
+    yield "had no line end after its last row", data.rstrip(b"\r\n")
+    yield "had a line end after its last row", data.rstrip(b"\r\n") + b"\n"
     yield "had the line ends LF", lines
     yield "had the line ends CR LF", lines.replace(b"\n", b"\r\n")
     yield "had no byte order mark", data.removeprefix(mark)

@@ -154,7 +154,7 @@ class Line:
             if self.e is None:
                 return self.refuse("13", self.of_a_part(words["EPS"]) or why_no_epsilon(words["EPS"]))
         if self.kind in ("ask", "askpart", "recall") and self.analyst is None:
-            return self.refuse("14", "nobody has said hello: `hello ANALYST` stands before what is asked, and again behind a `bye`")
+            return self.refuse("14", "nobody has said hello: `hello ANALYST` stands before what is asked, and again after a `bye`")
         return True
 
     def find_owner(self, word):
@@ -193,7 +193,7 @@ class Line:
 
 def why_no_epsilon(text):
     """What is wrong with an EPS, and how it is written."""
-    known = "EPS is 0.000001 to 1000, with 1 to 4 digits before the point and 1 to 6 behind it"
+    known = "EPS is 0.000001 to 1000, with 1 to 4 digits before the point and 1 to 6 after it"
     try:
         value = fraction_of(text.decode().replace(",", ".", 1))
     except (ValueError, ZeroDivisionError):

@@ -42,7 +42,7 @@ REFUSALS = {
     "no 12 2": "the owner has no partition of this name",
     "no 12 3": "the partition has no key of this name",
     "no 13": "EPS is no decimal from 0.000001 to 1000; write 0.5 and 0.001, not `.5` and `1e-3`",
-    "no 14": "nobody has said hello: `hello ANALYST` stands before what is asked, and again behind a `bye`",
+    "no 14": "nobody has said hello: `hello ANALYST` stands before what is asked, and again after a `bye`",
     "no 20 N": "at byte {0} of the program no token begins, or it has over 16000 bytes or 4096 tokens",
     "no 21 N": "no term begins with the program's tokens up to token {0} (the first is 0), or they end there, too early",
     "no 22 N": "the term is {0} deep, and 64 are allowed",
@@ -61,7 +61,7 @@ REFUSALS = {
     "no 41 N N N": "there is no room for its two records: {0} of {2} are taken, and room is kept for {1} that are to come; no ask is answered any more, not "
         "even one that costs nothing",
     "no 42 N": "the owner's journal is closed for the rest of this run, since its disk failed (fault {0}) at an ask before; nothing is charged, "
-        "unless several workers answered the script and another one's record failed behind this ask's reservation (`left` in the next run tells): it may be "
+        "unless several workers answered the script and another one's record failed after this ask's reservation (`left` in the next run tells): it may be "
         "asked again then",
     "no 50 N": "the noise of reservation {0} took over 4096 draws, which hardly ever happens: it has no answer for ever, and its charge comes back, or "
         "stays in a journal of version 1 or 2",

@@ -94,10 +94,10 @@ class ColumnReport:
         return [f"missing: {total(entries)} ({which}): {becomes(self.reader.if_missing)}", *self.code_stands_twice()]
 
     def code_stands_twice(self):
-        """A code that is a value as well can't be told apart from it."""
+        """A code that is a value as well can't be distinguished from it."""
         codes = {str(what) for what in (self.reader.if_missing, self.reader.if_bad)} - {OUT, STOP}
         same = [one for one in self.of(READ) if one[1].value in codes]
-        return [f"the code {same[0][1].value} is also the value of {times(total(same), 'cell')}: they can't be told apart"] if same else []
+        return [f"the code {same[0][1].value} is also the value of {times(total(same), 'cell')}: they can't be distinguished"] if same else []
 
     def bad(self):
         entries = self.of(BAD)
@@ -190,7 +190,7 @@ def places(title, found):
 
 
 def rows_part(spec, found, stops):
-    lines = [f"{found.raw.name}: {found.rows} rows behind the header of line {found.line}, in {spec['raw']['encoding']}, parted by {DELIMITERS[spec['raw']['delimiter']]}"]
+    lines = [f"{found.raw.name}: {found.rows} rows after the header of line {found.line}, in {spec['raw']['encoding']}, parted by {DELIMITERS[spec['raw']['delimiter']]}"]
     if stops:
         lines.append(f"NOTHING IS WRITTEN, for {', '.join(stops)}")
     else:

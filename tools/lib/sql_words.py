@@ -15,8 +15,8 @@ SQL = {
     "median": "There is no median: count the rows up to a bound, `size (filter (fn (x : num) => x <= 40) ..)`, and halve the range until about half of all "
         "are counted.",
     "histogram": "A histogram is a count a band, each in a line of its own; of a partition's keys, by `askpart` a line a key, which all together cost what "
-        "the dearest one costs.",
-    "group": "There is no `GROUP BY`: ask a line a group, of a partition's keys by `askpart`, which all together cost what the dearest one costs.",
+        "the one with the highest cost does.",
+    "group": "There is no `GROUP BY`: ask a line a group, of a partition's keys by `askpart`, which all together cost what the one with the highest cost does.",
     "having": "There is no `HAVING`: ask a line a group, and choose among the answers.",
     "order": "There is no order of rows, and no row is shown.", "limit": "There is no `LIMIT`: no row is shown, and a count counts all that are chosen.",
     "like": "There are no patterns: a text is compared whole, by `==`. Compare each text that is meant, or ask the owner for a column of what matters in it.",
@@ -31,7 +31,7 @@ SQL = {
         "share of all rows that is meant.",
     "corr": "There is no correlation: it is worked out from sums of products and squares (`docs/first-programs.md`, \"Correlation\").",
     "crosstab": "Each cell of a cross table is a count, in a line of its own; of a partition's keys, by `askpart` a line a key, which all together cost what the "
-        "dearest one costs.",
+        "one with the highest cost does.",
     "len": "How many elements a bag has is `size ..`; how long a text is can't be asked.",
 }  # fmt: skip
 LIKE = {

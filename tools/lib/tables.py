@@ -61,7 +61,7 @@ def cell_of(data, kind):
     if kind == "text":
         return (data, None) if len(data) <= TEXT_LIMIT else (None, f"it has {len(data)} bytes, and a text has at most {TEXT_LIMIT}")
     if not re.fullmatch(rb"-?[0-9]+", data):
-        return None, "a whole number is wanted: digits, perhaps behind a minus, without blanks, points or a plus sign"
+        return None, "a whole number is wanted: digits, perhaps after a minus, without blanks, points or a plus sign"
     # So many digits are over the limit whatever they are; Python doesn't read some thousand digits.
     digits = data.lstrip(b"-").lstrip(b"0") or b"0"
     if len(digits) > 16 or int(digits) > NUMBER_LIMIT:

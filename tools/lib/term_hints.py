@@ -394,10 +394,10 @@ def hint_of_end(tokens):
     if opened:
         return f"The `{kinds[opened[-1]]}` of token {opened[-1]} isn't closed."
     if kinds.count("let") > kinds.count("in"):
-        return "Each `let` has its `in`, with what is made of the name behind it."
+        return "Each `let` has its `in`, with what is made of the name after it."
     if kinds.count("if") > kinds.count("else"):
         return "Each `if` has its `then` and its `else`."
-    return f"Something is missing behind `{tokens[-1][1] if kinds[-1] != 'quoted' else 'the text'}`."
+    return f"Something is missing after `{tokens[-1][1] if kinds[-1] != 'quoted' else 'the text'}`."
 
 
 def hint_of_term(refusal):

@@ -124,7 +124,7 @@ def hint_of_functions(refusal, term, node, parent):
     if found[0] == "-o" and wanted in (NUM, TEXT, BOOL, "number or text", "bag", "*"):
         return hint_of_call(refusal, term, node, found)
     if wanted == "-o":
-        return "What stands beside one another is a function and its argument. Is a sign missing between the two?"
+        return "What stands next to one another is a function and its argument. Is a sign missing between the two?"
     return None
 
 
@@ -227,7 +227,7 @@ def hint_of_bangs(found, wanted):
     if wanted[0] == "!" and wanted != "!" and same(wanted[2], found):
         return f"It is handed over as `![{sensitivity_text(wanted[1])}] (..)`."
     if wanted == "!":
-        return "`let !x` opens what stands behind `![..]`. Here is nothing to open: write `let x = .. in ..`."
+        return "`let !x` opens what stands after `![..]`. Here is nothing to open: write `let x = .. in ..`."
     if found[0] == "!" and same(found[2], wanted):
         return "Open it first: `let !x = .. in ..`."
     return None

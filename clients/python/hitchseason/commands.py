@@ -125,7 +125,7 @@ def text_lines(groups, percent, missing):
     rows = [[key, str(answer.value), "{} to {}".format(*answer.interval(percent))] for key, answer in groups.items()]
     widths = [max(len(row[place]) for row in rows) for place in range(3)]
     lines = [f"{key.ljust(widths[0])}  {value.rjust(widths[1])}  {ends.rjust(widths[2])}" for key, value, ends in rows]
-    taken = "some were recalled, and what they took isn't told"
+    taken = "some were recalled, and what they took isn't known"
     if groups.taken is not None:
         taken = f"taken {units(groups.taken)}{for_person(groups.taken, groups.left and groups.left.person)}"
     left = f"; {units(groups.left.left)} left" if groups.left else ""

@@ -317,7 +317,7 @@ class Search(Plan):
     def __init__(self, asks, ask, low, high, share):
         margin = noise.one_sided(min(ask.e for ask in asks), noise.each_of(len(asks), noise.LEVELS[1]))
         rows = written(Fraction(margin, share.denominator), ROUND_CEILING)
-        note = f"A bound is told from the quantile, in 95 of 100 searches, where the rows at or below it are over {rows} more or fewer than their share."
+        note = f"A bound is distinguished from the quantile, in 95 of 100 searches, where the rows at or below it are over {rows} more or fewer than their share."
         super().__init__(asks, None, note)
         self.ask, self.low, self.high = ask, low, high
 
@@ -343,7 +343,7 @@ def before_said(answers):
     """What is paid of a search that goes no further."""
     many = f"{len(answers)} asks of this call were" if len(answers) > 1 else "one ask of this call was"
     are, they = ("are", "them") if len(answers) > 1 else ("is", "it")
-    return f"Before that {many} answered and {are} paid (`answers`): in Python `resume=fault.answers` in the same call goes on behind {they}."
+    return f"Before that {many} answered and {are} paid (`answers`): in Python `resume=fault.answers` in the same call goes on after {they}."
 
 
 class Found:

@@ -460,7 +460,7 @@ class Typed:
     def more(self, seconds):
         """What is written next; nothing at the end."""
         if not select.select([self.terminal], [], [], seconds)[0]:
-            raise AssertionError(f"nothing more came behind {self.seen!r}")
+            raise AssertionError(f"nothing more came after {self.seen!r}")
         try:
             return os.read(self.terminal, 2**16).decode(errors="replace").replace("\r\n", "\n")
         except OSError:
@@ -473,7 +473,7 @@ class Typed:
         while awaited not in said:
             came = self.more(seconds)
             if not came:
-                raise AssertionError(f"it ended behind {self.seen + said!r}")
+                raise AssertionError(f"it ended after {self.seen + said!r}")
             said += came
         end = said.index(awaited) + len(awaited)
         said, self.rest = said[:end], said[end:]
@@ -487,7 +487,7 @@ class Typed:
         while not re.search(r"(^|\n)([a-z]+ [^\n>]*|\.\.\.)> $", said):
             came = self.more(30)
             if not came:
-                raise AssertionError(f"it ended behind {self.seen + said!r}")
+                raise AssertionError(f"it ended after {self.seen + said!r}")
             said += came
         self.seen += said
         return said
