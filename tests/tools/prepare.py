@@ -509,7 +509,7 @@ def counts_of(rows):
     others = [name for name in towns if name not in ("Great_Marlow", "Bray", "none")]
     bad_days = [d for _, _, d in rows if d and day(d) is None]
     return [
-        f"raw.csv: {len(rows)} rows behind", f"missing: {len(blanks)} (", f"'NA' {blanks.count('NA')}", f"bad: {len(numbers) - len(good)}: the row",
+        f"raw.csv: {len(rows)} rows after", f"missing: {len(blanks)} (", f"'NA' {blanks.count('NA')}", f"bad: {len(numbers) - len(good)}: the row",
         f"'x': {len(lines)} times, first at line {lines[0]}: it is no number", f"values: from {min(good)} to {max(good)}, as",
         f"rounded: {len(finer)} cells", f"top 200000: {len(over)} cells over it, which takes {sum(over) - 200_000 * len(over)} off",
         f"bottom -1000: {len(under)} cells under it, which adds {-1000 * len(under) - sum(under)} to", "at least 200000 millionths",

@@ -5,10 +5,10 @@
 """
 import re
 
+from bounds import WORKERS
+
 FIGURES = ("reservations", "answered", "exhausted", "lost", "spent", "budget")
 AUDIT = re.compile(r"(\w+) " + " ".join(f"{name} ([0-9]+)" for name in FIGURES))
-# A service has so many at most, and each answers one ask at a time.
-WORKERS = 16
 
 
 def fallen(lines, copies=False):
@@ -16,6 +16,7 @@ def fallen(lines, copies=False):
 
     In a copy beside a service what is being answered counts as lost, and doesn't once it is answered: there `lost` may be less than it ever was, by
     one for each worker. No other figure falls."""
+    # Each worker answers one ask at a time.
     last, being_answered = {}, WORKERS if copies else 0
     for number, line in enumerate(lines, 1):
         found = AUDIT.fullmatch(line.strip())

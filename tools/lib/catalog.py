@@ -16,12 +16,11 @@ import json
 import re
 import sys
 
+from bounds import ANALYSTS, COLUMN_LIMIT, FILE_NAME_BYTES, KEY_BYTES, KEYS, MOST_BUDGET, MOST_CAPACITY, NAME_BYTES, OWNERS, PARTITION_LIMIT, TABLES
 from programs import WORDS
 
-# The owners that a catalog may have, and the keys of a partition.
-OWNERS, KEYS = 64, 4000
 NESTS = 127
-NAME = re.compile(r"[A-Za-z_][A-Za-z0-9_]{0,31}")
+NAME = re.compile(f"[A-Za-z_][A-Za-z0-9_]{{0,{NAME_BYTES - 1}}}")
 ESCAPE = re.compile(r"\\(?:u([0-9a-fA-F]{4})|.)", re.S)
 
 
@@ -152,11 +151,11 @@ def is_table_name(word):
 
 
 def is_file(word):
-    return 1 <= len(word.encode()) <= 255 and all(letter >= " " for letter in word)
+    return 1 <= len(word.encode()) <= FILE_NAME_BYTES and all(letter >= " " for letter in word)
 
 
 def is_key(word):
-    return 1 <= len(word.encode()) <= 64 and all(letter > " " and letter != "\x7f" for letter in word)
+    return 1 <= len(word.encode()) <= KEY_BYTES and all(letter > " " and letter != "\x7f" for letter in word)
 
 
 # Objects.
@@ -173,7 +172,7 @@ def table(value, member, at):
     found = members(value, member, at, ["name", "file", "columns"])
     text(found["name"], "name", at, is_table_name)
     text(found["file"], "file", at, is_file)
-    items(found["columns"], "columns", at, range(1, 17), 2, column, by_name)
+    items(found["columns"], "columns", at, range(1, COLUMN_LIMIT + 1), 2, column, by_name)
     return found
 
 
@@ -198,16 +197,16 @@ def partition(value, member, at, tables):
 def owner_of(value, member, at):
     found = members(value, member, at, ["name", "budget", "capacity", "tables", "partitions"])
     text(found["name"], "name", at, is_name)
-    number(found["budget"], "budget", at, 1, 10**18)
-    number(found["capacity"], "capacity", at, 2, 262_144)
-    items(found["tables"], "tables", at, range(1, 9), 1, table, by_name)
-    items(found["partitions"], "partitions", at, range(9), 1, lambda *one: partition(*one, found["tables"]), by_name)
+    number(found["budget"], "budget", at, 1, MOST_BUDGET)
+    number(found["capacity"], "capacity", at, 2, MOST_CAPACITY)
+    items(found["tables"], "tables", at, range(1, TABLES + 1), 1, table, by_name)
+    items(found["partitions"], "partitions", at, range(PARTITION_LIMIT + 1), 1, lambda *one: partition(*one, found["tables"]), by_name)
     return found
 
 
 def read(data):
     found = members(json_value(data), "", (0, 0, 0), ["analysts", "owners"])
-    items(found["analysts"], "analysts", (0, 0, 0), range(1, 65), 1, lambda one, member, at: text(one, member, at, is_name))
+    items(found["analysts"], "analysts", (0, 0, 0), range(1, ANALYSTS + 1), 1, lambda one, member, at: text(one, member, at, is_name))
     items(found["owners"], "owners", (0, 0, 0), range(1, OWNERS + 1), 0, owner_of, by_name)
     return found
 

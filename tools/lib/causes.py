@@ -17,18 +17,16 @@ import select
 import socket
 import stat
 
-from catalog import OWNERS
+from bounds import ASKS_LIMIT, EACH_LIMIT, MOST_BUDGET, OWNERS, PORT_LIMIT, SCRIPT_LIMIT, SEED_LIMIT, WORKERS
 from faults import ALL, Fault, Unreadable, bytes_of, catalog_of, check_key, survey_lines, table_of, whoever
 from files import contents
-from journal import GATE, HEAD, MOST_BUDGET, SLOT, VERSION_AT, Area, Grant, Refused, Reservation, Settlement, begun, book_of, capacity_in, decoded
+from journal import GATE, HEAD, SLOT, VERSION_AT, Area, Grant, Refused, Reservation, Settlement, begun, book_of, capacity_in, decoded
 from journal import fields, header, journal_bytes, length_of, live_area, version_of
 from holders import holders
 from journal_changes import House, changes
 from lines import amount_of, whole_of
 from meanings import COMMANDS, STATUSES
 
-WORKERS = 16
-SCRIPT_LIMIT = 2**24
 MOST_TOLD = 10
 IN_SERVICE = "Don't run `init`, which would begin the budget anew: go on as with `damaged`, its budget counts as spent."
 SERVICE = ("init", "run", "serve", "audit", "grant")
@@ -43,12 +41,12 @@ ONE_PROCESS = (
 # Options that take a value: what each takes, the commands that have it, and the greatest number, or 0 where it takes a text.
 OPTIONS = {
     "--workers": (f"a whole number from 1 to {WORKERS}. It may be left out", ("run", "serve"), WORKERS),
-    "--port": ("a whole number from 1 to 65520, the first worker's port", ("serve",), 65_520),
-    "--each": ("a whole number from 1 to 1000000, the connections that each worker serves", ("serve",), 1_000_000),
+    "--port": (f"a whole number from 1 to {PORT_LIMIT}, the first worker's port", ("serve",), PORT_LIMIT),
+    "--each": (f"a whole number from 1 to {EACH_LIMIT}, the connections that each worker serves", ("serve",), EACH_LIMIT),
     "--addr": ("an address of this machine. It may be left out", ("serve",), 0),
 }
 # The words of `gen`: the least and the greatest number of each.
-GENERATED = {"SEED": (0, 2**32 - 1), "N": (1, 100_000), "WORKERS": (1, WORKERS)}
+GENERATED = {"SEED": (0, SEED_LIMIT), "N": (1, ASKS_LIMIT), "WORKERS": (1, WORKERS)}
 
 
 def meant_by(word):

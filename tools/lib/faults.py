@@ -12,12 +12,12 @@ import json
 import os
 import pwd
 
-from catalog import KEYS, OWNERS, BadCatalog, read
+from bounds import ANALYSTS, COLUMN_LIMIT, FILE_LIMIT, FILE_NAME_BYTES, KEY_BYTES, KEYS, MOST_BUDGET, MOST_CAPACITY, NAME_BYTES, OWNERS, PARTITION_LIMIT, TABLES
+from catalog import BadCatalog, read
 from programs import WORDS
 from scan import raw, scan, why_no_key
 from tables import shown
 
-FILE_LIMIT = 2**26
 KEY_LENGTH = 32
 # What is wanted of each member: an object's members, a list's least and greatest number of items, a number's limits.
 MEMBERS = {
@@ -27,14 +27,17 @@ MEMBERS = {
     "columns": ["name", "type"],
     "partitions": ["name", "table", "column", "keys"],
 }
-COUNTS = {"analysts": (1, 64), "owners": (1, OWNERS), "tables": (1, 8), "partitions": (0, 8), "columns": (1, 16), "keys": (1, KEYS)}
-RANGES = {"budget": (1, 10**18), "capacity": (2, 262_144)}
+COUNTS = {
+    "analysts": (1, ANALYSTS), "owners": (1, OWNERS), "tables": (1, TABLES), "partitions": (0, PARTITION_LIMIT),
+    "columns": (1, COLUMN_LIMIT), "keys": (1, KEYS),
+}  # fmt: skip
+RANGES = {"budget": (1, MOST_BUDGET), "capacity": (2, MOST_CAPACITY)}
 FORMS = {
-    "file": "a file's name has 1 to 255 bytes and no control byte",
+    "file": f"a file's name has 1 to {FILE_NAME_BYTES} bytes and no control byte",
     "type": "a type is `num` or `text`",
-    "keys": "a key has 1 to 64 bytes, and no blank and no control byte among them",
+    "keys": f"a key has 1 to {KEY_BYTES} bytes, and no blank and no control byte among them",
 }
-NAME_FORM = "a name is a letter or `_`, then letters, digits and `_`, 32 bytes at most, without other letters than a to z and A to Z"
+NAME_FORM = f"a name is a letter or `_`, then letters, digits and `_`, {NAME_BYTES} bytes at most, without other letters than a to z and A to Z"
 # What tools/find_fault, whose option that is, says beside what it leaves out.
 ALL = "(--all tells them)"
 NO_CAUSE = "it is nested over 127 deep, or has half of a pair of \\u escapes"
@@ -210,7 +213,7 @@ def survey_lines(survey, limit):
 
 WHY_BAD = {
     "empty": "nothing, where a whole number is wanted,", "no whole number": "no whole number", "out of range": "a number that isn't within -2^50 and 2^50",
-    "over 64 bytes": "over 64 bytes",
+    f"over {KEY_BYTES} bytes": f"over {KEY_BYTES} bytes",
 }  # fmt: skip
 
 

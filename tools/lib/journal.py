@@ -29,6 +29,7 @@ from functools import lru_cache
 from math import gcd
 
 from audits import fallen
+from bounds import KEYS, MOST_BUDGET, MOST_CAPACITY, MOST_EPS, PARTITION_LIMIT
 from catalog import BadCatalog, json_value, read
 from files import contents, plain
 from lines import harmless
@@ -38,11 +39,8 @@ HEAD, SLOT = 128, 64
 VERSION_AT, GATES_AT, MOST_AREAS = 9, 96, 32
 VERSIONS = (1, 2, 3)
 FIRST_SLOTS = 64
-MOST_CAPACITY = 262_144
 WHOLE = (255, 0)
-PARTITIONS, PARTS = 8, 4000
 OUTCOMES = {1: "answered", 2: "exhausted", 3: "lost"}
-MOST_BUDGET = 10**18
 MOST_TOLD = 10
 # The digest of a program, of which journals for trying are made.
 ONE = hashlib.sha256(b"size people").digest()
@@ -115,7 +113,7 @@ def view_in(slot):
 
 
 def is_view(view):
-    return view == WHOLE or (view[0] < PARTITIONS and view[1] < PARTS)
+    return view == WHOLE or (view[0] < PARTITION_LIMIT and view[1] < KEYS)
 
 
 def decoded(slot):
@@ -124,7 +122,7 @@ def decoded(slot):
     if kind == 1:
         part = lambda a, b: int.from_bytes(slot[a:b], "big")
         found = Reservation(number, view_in(slot), part(8, 12), part(12, 16), part(16, 20), part(20, 28), part(28, 30), slot[32:64])
-        if not is_view(found.view) or not 1 <= found.e <= 10**9 or found.q == 0 or gcd(found.p, found.q) != 1:
+        if not is_view(found.view) or not 1 <= found.e <= MOST_EPS or found.q == 0 or gcd(found.p, found.q) != 1:
             return None
     elif kind == 2 and slot[2] in OUTCOMES:
         found = Settlement(number, slot[2], int.from_bytes(slot[8:16], "big", signed=True), int.from_bytes(slot[16:24], "big"))
@@ -155,7 +153,7 @@ def no_record(slot):
     partition, part = view_in(slot)
     wrong = {
         f"a reservation's partition (byte 2) is {partition} and its part (bytes 3 and 30) {part}": not is_view((partition, part)),
-        f"a reservation's epsilon is {numbers['e']} millionths, and 1 to 1000000000 are allowed": not 1 <= numbers["e"] <= 10**9,
+        f"a reservation's epsilon is {numbers['e']} millionths, and 1 to {MOST_EPS} are allowed": not 1 <= numbers["e"] <= MOST_EPS,
         f"a reservation's sensitivity is {numbers['p']}/{numbers['q']}, no fraction in lowest terms": gcd(numbers["p"], numbers["q"]) != 1 or numbers["q"] == 0,
         f"byte 31 of a reservation is {slot[31]}, where 0 belongs": slot[31] != 0,
     }

@@ -12,13 +12,13 @@ import json
 import os
 from io import TextIOWrapper
 
+from bounds import FILE_LIMIT
 from catalog import BadCatalog, read
 from files import contents, plain
 from journal import GATE, GATES_AT, HEAD, VERSIONS, compact, stray_gate
 
 MAGIC = b"FUZZBUDG"
 KEY_LENGTH = 32
-FILE_LIMIT = 2**26
 MOST_FILES, MOST_BYTES, MOST_ROWS, MOST_TRIED, MOST_KEYS = 200, 2**28, 1000, 200_000, 250
 MOST_BYTES_WRITTEN = 8
 SOMEBODY = "somebody, or the disk, has written into the header. Nothing else has changed; go on as with `damaged`."

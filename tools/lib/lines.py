@@ -13,9 +13,8 @@ import difflib
 import re
 from fractions import Fraction
 
-LINE_LIMIT = 16_384
-SCRIPT_LIMIT = 2**24
-AMOUNT_LIMIT = 10**18
+from bounds import AMOUNT_LIMIT, LINE_LIMIT
+
 FORMS = {
     "hello": "ANALYST", "ask": "OWNER EPS PROGRAM", "askpart": "OWNER PARTITION KEY EPS PROGRAM", "recall": "OWNER N", "left": "OWNER", "bye": "",
 }  # fmt: skip

@@ -9,10 +9,10 @@ left as it stands, and a program without such types is sent as it is. TABLES are
 import lines
 import program_parts
 import programs
+from bounds import NAME_BYTES, TOKEN_LIMIT
 
-NAME_LIMIT = 32
 # A token that is sent comes of three at most, as a column's name of `p.age`.
-MOST_TOKENS = 3 * programs.TOKEN_LIMIT
+MOST_TOKENS = 3 * TOKEN_LIMIT
 
 
 class BadName(programs.Refused):
@@ -183,10 +183,10 @@ class Names:
         self.taken = set(taken) | programs.WORDS
 
     def new(self, wanted):
-        found, number = wanted[:NAME_LIMIT], 1
+        found, number = wanted[:NAME_BYTES], 1
         while found in self.taken:
             number += 1
-            found = f"{wanted[: NAME_LIMIT - len(f'_{number}')]}_{number}"
+            found = f"{wanted[: NAME_BYTES - len(f'_{number}')]}_{number}"
         self.taken.add(found)
         return found
 

@@ -9,11 +9,8 @@ import sys
 import threading
 from fractions import Fraction
 
-PROGRAM_LIMIT = 16_000
-TOKEN_LIMIT = 4096
-NEST_LIMIT = 64
-NUMBER_LIMIT = 2**50
-HALF = 2**32 - 1
+from bounds import HALF, NAME_BYTES, NEST_LIMIT, NUMBER_LIMIT, PROGRAM_LIMIT, TEXT_LIMIT, TOKEN_LIMIT
+
 WORDS = set(
     "fun fn let in case of inl inr if then else fst snd true false num text unit bool bag inf size sum clip least greatest"
     " map filter split union do release at".split()
@@ -47,7 +44,7 @@ def token_at(text, at):
         word = text[at:end].decode()
         if word in WORDS:
             return (word, word, at, end)
-        return ("name", word, at, end) if end - at <= 32 else None
+        return ("name", word, at, end) if end - at <= NAME_BYTES else None
     if first in DIGITS:
         end = run_of(text, at, DIGITS)
         digits = text[at:end].lstrip(b"0") or b"0"
@@ -56,7 +53,7 @@ def token_at(text, at):
     if first == ord('"'):
         end = text.find(b'"', at + 1)
         inside = text[at + 1 : end]
-        fits = end > 0 and len(inside) <= 64 and all(0x20 <= b <= 0x7E or b >= 0x80 for b in inside)
+        fits = end > 0 and len(inside) <= TEXT_LIMIT and all(0x20 <= b <= 0x7E or b >= 0x80 for b in inside)
         return ("quoted", inside, at, end + 1) if fits else None
     if text[at : at + 2] == b"-o" and not (at + 2 < len(text) and text[at + 2] in LETTERS | DIGITS):
         return ("-o", "-o", at, at + 2)

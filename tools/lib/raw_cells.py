@@ -13,7 +13,8 @@ import re
 import unicodedata
 from fractions import Fraction
 
-from tables import NUMBER_LIMIT, cell_of
+from bounds import NUMBER_LIMIT
+from tables import cell_of
 
 CONTROL = re.compile("[\x00-\x1f\x7f-\x9f]+")
 NO_KEY = re.compile("[\\s,\"\x00-\x20\x7f-\x9f]+")

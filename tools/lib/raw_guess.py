@@ -15,11 +15,11 @@ import unicodedata
 from collections import Counter, deque
 from fractions import Fraction
 
+from bounds import COLUMN_LIMIT, PARTITION_LIMIT, TEXT_LIMIT
 from programs import WORDS
 from raw import BadRaw, RawFile, guessed_form
 from raw_cells import BROKEN, OUT, STOP, DateForm, NumberForm, forms_of, key_of, trimmed
-from raw_spec import COLUMN_LIMIT, LEFT_OUT, NUMBERS, PARTITION_LIMIT, PERSONAL, is_per_person
-from tables import TEXT_LIMIT
+from raw_spec import LEFT_OUT, NUMBERS, PERSONAL, is_per_person
 
 # So many rows are looked at, fewer where there are many columns, of which at most so many are taken.
 ROWS, CELLS, COLUMNS = 100_000, 5_000_000, 10_000

@@ -19,7 +19,8 @@ from operator import itemgetter
 
 from raw_cells import MISSING, READ, Entry
 from raw_spec import PERSONAL, by_names, is_per_person, kept, mixed_of, person_column, type_of
-from tables import NUMBER_LIMIT
+from bounds import NUMBER_LIMIT
+
 
 DIGITS = 64
 

@@ -16,12 +16,11 @@ from collections import Counter
 from decimal import Decimal
 from fractions import Fraction
 
-from catalog import KEYS, is_file, is_key, is_name, is_table_name
+from bounds import ANALYSTS, COLUMN_LIMIT, FILE_NAME_BYTES, KEY_BYTES, KEYS, MOST_BUDGET, MOST_CAPACITY, NAME_BYTES, NUMBER_LIMIT, TEXT_LIMIT
+from catalog import is_file, is_key, is_name, is_table_name
 from raw import DELIMITERS
 from raw_cells import BROKEN, DATE_PARTS, KEPT, OUT, STOP, column_keys, date_number, forms_of
-from tables import NUMBER_LIMIT, TEXT_LIMIT
 
-COLUMN_LIMIT, PARTITION_LIMIT = 16, 8
 POWER_LIMIT = 99
 LINE = 120
 UNITS = ("day", "month", "year", "age")
@@ -131,7 +130,7 @@ def check_column(faults, column, place):
     must = [] if kind == LEFT_OUT else ["name", *MUST[kind], *(["from"] if "from" in KINDS[kind] else [])]
     if not faults.members(column, place, {**COLUMN, **KINDS[kind]}, must) or kind == LEFT_OUT:
         return
-    faults.unless(is_name(column["name"]), f"{place}.name", f"`{column['name']}` is no name: a letter or `_`, then letters, digits and `_`, 32 at most")
+    faults.unless(is_name(column["name"]), f"{place}.name", f"`{column['name']}` is no name: a letter or `_`, then letters, digits and `_`, {NAME_BYTES} at most")
     faults.unless(column.get("at", 1) >= 1, f"{place}.at", "columns are counted from 1")
     faults.unless(is_name(column.get("partition", "_")), f"{place}.partition", "it is no name")
     faults.unless(column.get("case", "lower") in ("lower", "upper"), f"{place}.case", "it is `lower` or `upper`")
@@ -214,7 +213,7 @@ def check_key(faults, column, place):
     keys = column_keys(column)
     counts = Counter(keys)
     for raw, key in zip(listed, keys):
-        faults.unless(is_right_key(key), f"{place}.keys", f"`{raw}` is no key: 1 to 64 bytes, once blanks and commas are changed")
+        faults.unless(is_right_key(key), f"{place}.keys", f"`{raw}` is no key: 1 to {KEY_BYTES} bytes, once blanks and commas are changed")
         faults.unless(counts[key] == 1, f"{place}.keys", f"`{raw}` becomes `{key}`, and so does another key: take one of them away")
     faults.unless(len(keys) <= KEYS, f"{place}.keys", f"there are {len(keys)} keys, and a partition has at most {KEYS}")
     other = column.get("if_other", KEPT)
@@ -321,7 +320,7 @@ def check_keys(faults, spec, place, column):
     keys = keys_of(spec, column)
     faults.unless(len(keys) <= KEYS, place, f"that makes {len(keys)} keys, and a partition has at most {KEYS}")
     faults.unless(column["kind"] != "joint" or keys, place, "its columns have no keys")
-    faults.unless(all(is_key(key) for key in keys), place, "some keys are over 64 bytes")
+    faults.unless(all(is_key(key) for key in keys), place, f"some keys are over {KEY_BYTES} bytes")
     faults.unless(len(set(keys)) == len(keys), place, "two of its keys are the same")
 
 
@@ -371,7 +370,7 @@ def check_person(faults, spec):
 # Whole specs.
 
 
-NO_FILE = "a file's name has 1 to 255 bytes and no control byte"
+NO_FILE = f"a file's name has 1 to {FILE_NAME_BYTES} bytes and no control byte"
 
 
 def check_catalog(faults, catalog):
@@ -381,11 +380,11 @@ def check_catalog(faults, catalog):
     names = [*catalog["analysts"], catalog["owner"]]
     for name in names:
         right = isinstance(name, str) and is_name(name)
-        faults.unless(right, "catalog", f"`{name}` is no name: a letter or `_`, then letters, digits and `_`, 32 at most")
-    faults.unless(1 <= len(catalog["analysts"]) <= 64, "catalog.analysts", "1 to 64 names are wanted here")
+        faults.unless(right, "catalog", f"`{name}` is no name: a letter or `_`, then letters, digits and `_`, {NAME_BYTES} at most")
+    faults.unless(1 <= len(catalog["analysts"]) <= ANALYSTS, "catalog.analysts", f"1 to {ANALYSTS} names are wanted here")
     faults.unless(len(set(map(str, catalog["analysts"]))) == len(catalog["analysts"]), "catalog.analysts", "a name stands twice")
-    faults.unless(1 <= catalog["budget"] <= 10**18, "catalog.budget", "1 to 10^18 millionths of epsilon")
-    faults.unless(2 <= catalog["capacity"] <= 262_144, "catalog.capacity", "2 to 262144 records, two for each answer")
+    faults.unless(1 <= catalog["budget"] <= MOST_BUDGET, "catalog.budget", "1 to 10^18 millionths of epsilon")
+    faults.unless(2 <= catalog["capacity"] <= MOST_CAPACITY, "catalog.capacity", f"2 to {MOST_CAPACITY} records, two for each answer")
 
 
 def is_encoding(word):
@@ -431,7 +430,7 @@ def check_spec(spec):
     faults.members(spec.get("person", {}), "person", PERSON, [])
     if faults.members(spec["table"], "table", TABLE, ["name", "file"]):
         name, file = spec["table"]["name"], spec["table"]["file"]
-        faults.unless(is_table_name(name), "table.name", f"`{name}` is no table's name: a letter or `_`, then letters, digits and `_`, 32 at most, and no word of the language")
+        faults.unless(is_table_name(name), "table.name", f"`{name}` is no table's name: a letter or `_`, then letters, digits and `_`, {NAME_BYTES} at most, and no word of the language")
         faults.unless(is_right_file(file), "table.file", NO_FILE)
     check_catalog(faults, spec["catalog"])
     check_columns(faults, spec)

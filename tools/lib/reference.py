@@ -15,8 +15,7 @@ The test values of crates/hitchseason are written by this program. It shares not
 - Draw i of the number n of owner o is 8 bytes, lowest first, of ChaCha20 with a 64-bit counter and a 64-bit nonce. The
   counter begins at 0 and the nonce is o * 2^32 + n, lowest byte first. (RFC 8439 gives 32 bits of the same 128 to the
   counter and 96 to the nonce: test vectors 1, 2 and 5 of its appendix A.1 hold for both.)
-- The noise is discrete Laplace by the sampler of "The Discrete Gaussian for Differential Privacy" by Canonne, Kamath and
-  Steinke, from at most 4096 draws.
+- The noise is discrete Laplace by the written sampler, from at most DRAW_LIMIT draws.
 - A program is read and checked by programs.py, and run by runs.py; catalogs are read by catalog.py, tables by tables.py, and
   journals by journal.py.
 """
@@ -29,16 +28,16 @@ from math import ceil
 
 from cryptography.hazmat.primitives.ciphers import Cipher, algorithms
 
+from bounds import DRAW_LIMIT, LINE_LIMIT, MOST_BUDGET, SCRIPT_LIMIT
 from catalog import catalog, census, owner, read
-from journal import MOST_BUDGET, VERSIONS, WHOLE, Book, Grant, Reservation, Settlement, books
-from lines import LINE_LIMIT, SCRIPT_LIMIT, amount_of, lines_of, millionths, whole_number
+from journal import VERSIONS, WHOLE, Book, Grant, Reservation, Settlement, books
+from lines import amount_of, lines_of, millionths, whole_number
 from programs import Refused
 from runs import Run, asked, chain, judgement, unions, value
 from tables import cells, held, signature
 
 BUDGET = 10_000_000
 CAPACITY = 100
-DRAW_LIMIT = 4096
 ROWS = (20, 30, 40)
 
 

@@ -11,14 +11,9 @@ A value is an int (a number), bytes (a text), () (unit), a tuple of two (a pair 
 (a bag, in the order of its elements), or a Closure. A shape is a Ground, the greatest width of a ground value's bags, the walks that
 their functions take for a row and how deep they are evaluated, a tuple of two, a Bang or a Closure. Both are shared wherever a name is used twice, so they stay as small as the run is long.
 """
+from bounds import DEPTH_LIMIT, NUMBER_LIMIT, REACH_LIMIT, TURN_LIMIT, WALK_LIMIT, WIDTH_LIMIT
 from programs import PEOPLE, Node, Refused, checked, sensitivity_text
 
-NUMBER_LIMIT = 2**50
-DEPTH_LIMIT = 128
-TURN_LIMIT = 20_000
-WIDTH_LIMIT = 64
-WALK_LIMIT = 64
-REACH_LIMIT = 400
 
 
 class Closure:

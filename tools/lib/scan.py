@@ -11,8 +11,9 @@ import sys
 from collections import Counter
 from itertools import islice
 
+from bounds import KEY_BYTES, ROW_LIMIT, TEXT_LIMIT
 from catalog import is_key
-from tables import BYTE_ORDER_MARK, ROW_LIMIT, TEXT_LIMIT, cell_of, shown
+from tables import BYTE_ORDER_MARK, cell_of, shown
 
 BLOCK = 2**20
 MOST = 2**14
@@ -311,7 +312,7 @@ def why_no_key(text):
         return "a blank" if " " in text else "a control byte"
     if not text.isascii():
         try:
-            return None if is_key(raw(text).decode()) else "over 64 bytes"
+            return None if is_key(raw(text).decode()) else f"over {KEY_BYTES} bytes"
         except UnicodeDecodeError:
             return "not UTF-8"
     return None

@@ -9,10 +9,9 @@ pairs in pairs, the first column beside the rest; a cell of text is bytes.
 """
 import re
 
-from programs import NUM, NUMBER_LIMIT, TEXT
+from bounds import NUMBER_LIMIT, ROW_LIMIT, TEXT_LIMIT
+from programs import NUM, TEXT
 
-ROW_LIMIT = 2**20
-TEXT_LIMIT = 64
 BYTE_ORDER_MARK = b"\xef\xbb\xbf"
 TYPES = {"num": NUM, "text": TEXT}
 

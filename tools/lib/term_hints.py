@@ -1,8 +1,9 @@
 """Hints beside programs that are no terms: the refusals 20 to 22. Each is given a Refusal, and answers a sentence or nothing."""
 import re
 
+from bounds import HALF, NAME_BYTES, NUMBER_LIMIT, PROGRAM_LIMIT, TEXT_LIMIT, TOKEN_LIMIT
 from program_parts import place_of, shown, type_text
-from programs import HALF, NUMBER_LIMIT, PROGRAM_LIMIT, TOKEN_LIMIT, WORDS, tokens_of
+from programs import WORDS, tokens_of
 from sql_words import SQL, binds, sql_statement, sql_word, taken_apart
 from tables import row_type
 
@@ -60,12 +61,12 @@ def hint_of_byte(refusal):
     if chr(first).isdigit():
         return f"Numbers are at most {NUMBER_LIMIT}."
     if first < 0x80 and (chr(first).isalpha() or first == ord("_")):
-        return "A name has at most 32 letters, digits and `_`."
+        return f"A name has at most {NAME_BYTES} letters, digits and `_`."
     if first == ord('"'):
         inside = rest[1:].split(b'"')[0]
         if len(rest) < 2 or b'"' not in rest[1:]:
             return 'The text isn\'t closed: it ends at the next `"`, and there is none.'
-        return "A text has at most 64 bytes." if len(inside) > 64 else "A text has no line ends, tabs or other control bytes in it."
+        return f"A text has at most {TEXT_LIMIT} bytes." if len(inside) > TEXT_LIMIT else "A text has no line ends, tabs or other control bytes in it."
     if first == ord("."):
         bounds = hint_of_dots(data, place)
         if bounds:

@@ -2,8 +2,9 @@
 or nothing."""
 import difflib
 
+from bounds import HALF
 from program_parts import found_at, parents_of, shown, traced, type_text, with_parents
-from programs import BOOL, HALF, INF, NUM, TEXT, Checker, Refused, deep, same, sensitivity_text
+from programs import BOOL, INF, NUM, TEXT, Checker, Refused, deep, same, sensitivity_text
 from programs import read as read_term
 from sql_words import SQL, sql_statement, taken_apart
 from tables import row_type

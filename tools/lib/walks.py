@@ -12,11 +12,11 @@ LIMIT rows, so what a walk takes on whatever data is known from its bag. No tabl
 from itertools import zip_longest
 from typing import NamedTuple
 
+from bounds import ROW_LIMIT
 from names import Places
 from program_parts import Text
 from programs import PEOPLE, checked, deep
 from runs import Ground, Plan
-from tables import ROW_LIMIT
 
 # Greater numbers are told by their power of ten.
 EXACT = 10**15

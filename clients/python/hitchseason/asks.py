@@ -10,11 +10,11 @@ from math import ceil
 
 from . import faults, noise
 from .answers import PERCENTS, for_person, rows_said, units
-from .borrowed import explain, lines, names, program_parts, programs, public
+from .borrowed import bounds, explain, lines, names, program_parts, programs, public
 from .shows import lines_html
 
-# In millionths; no budget is greater.
-MOST_EPS, MOST_CHARGE = 10**9, 10**18
+# In millionths; no charge is greater than a budget.
+MOST_EPS, MOST_CHARGE = bounds.MOST_EPS, bounds.MOST_BUDGET
 # Numbers with more digits than that before or behind the point are none that is meant.
 FAR = 1000
 
@@ -163,8 +163,8 @@ class View:
         part = None if part is None else self.as_part(part)
         found, sensitivity = self.checked(program, part[0] if part else None)
         ask = Ask(self.name, found, sensitivity, price(sensitivity, eps, charge), part, self.closed)
-        if len(ask.line().encode()) > lines.LINE_LIMIT:
-            raise faults.Refused(f"the line that asks it has over {lines.LINE_LIMIT} bytes.")
+        if len(ask.line().encode()) > bounds.LINE_LIMIT:
+            raise faults.Refused(f"the line that asks it has over {bounds.LINE_LIMIT} bytes.")
         return ask
 
 

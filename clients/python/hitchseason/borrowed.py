@@ -33,6 +33,7 @@ NAMES = [name.removesuffix(".py") for name in listdir(LIB) if name.endswith(".py
 others, path = {name: sys.modules.pop(name) for name in NAMES if name in sys.modules}, list(sys.path)
 sys.path.insert(0, LIB)
 try:
+    import bounds
     import lines
     import meanings
     import name_hints
@@ -51,4 +52,4 @@ finally:
         sys.modules.pop(name, None)
     sys.modules.update(others)
 
-__all__ = ["TOOLS", "TOP", "explain", "lines", "meanings", "name_hints", "names", "program_parts", "programs", "public", "runs", "sql_words", "tables"]
+__all__ = ["TOOLS", "TOP", "bounds", "explain", "lines", "meanings", "name_hints", "names", "program_parts", "programs", "public", "runs", "sql_words", "tables"]

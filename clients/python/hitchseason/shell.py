@@ -12,7 +12,7 @@ from contextlib import suppress
 
 from .answers import Answer, Groups, units
 from .asks import Forgotten, price
-from .borrowed import explain, programs
+from .borrowed import bounds, explain
 from .client import PLANS, form_of, takes_of
 from .commands import client_of, parser_of, place_words
 from .faults import BadCall, Cut, Failed, Fault, Refused, known
@@ -225,7 +225,7 @@ class Shell:
         """A program waits to be asked."""
         self.program = None
         if len(program) > MOST:
-            raise Unsaid(f"a program has at most {programs.PROGRAM_LIMIT} bytes, and this one has over {MOST}")
+            raise Unsaid(f"a program has at most {bounds.PROGRAM_LIMIT} bytes, and this one has over {MOST}")
         self.program, self.unasked = program, True
 
     def call_of(self, program):

@@ -18,14 +18,14 @@ import subprocess
 import time
 from contextlib import contextmanager
 
-from .borrowed import TOP, lines, meanings, public
+from .borrowed import TOP, bounds, lines, meanings, public
 from .faults import Failed
 
 NEVER_ASKED = (2, 3, 4, 6, 8)
 PAUSE = 0.1
-SCRIPT_LIMIT, MOST_PORT = lines.SCRIPT_LIMIT, 65_535
+SCRIPT_LIMIT, MOST_PORT = bounds.SCRIPT_LIMIT, 65_535
 # A reply has printable ASCII alone, and no number of more digits.
-LINE_LIMIT, DIGITS = lines.LINE_LIMIT, 40
+LINE_LIMIT, DIGITS = bounds.LINE_LIMIT, 40
 OTHER_BYTES, LONG_NUMBER = re.compile(rb"[^ -~]"), re.compile(f"[0-9]{{{DIGITS + 1},}}")
 OF_OWNERS = {"name", "budget", "capacity", "tables", "partitions"}
 
