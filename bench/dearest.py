@@ -11,7 +11,6 @@ It ends with status 1 where a program isn't accepted, has another depth, or isn'
 """
 import os
 import random
-import resource
 import subprocess
 import sys
 import tempfile
@@ -24,7 +23,7 @@ from places import TOP  # noqa: E402
 PROGRAM = os.path.abspath(os.environ.get("PROGRAM", f"{TOP}/crates/hitchseason/out/hitchseason"))
 import random_programs  # noqa: E402
 from afresh import renew  # noqa: E402
-from catalog import catalog, owner  # noqa: E402
+from one_table import OneTable  # noqa: E402
 from programs import PEOPLE, Refused, checked  # noqa: E402
 from runs import TURN_LIMIT  # noqa: E402
 from walks import walks  # noqa: E402
@@ -116,22 +115,11 @@ def walked(program, rows=1):
 # Runs.
 
 
-class Room:
-    """A folder with a key, and a table of as many rows as are wanted."""
-
-    def __init__(self, folder, seconds):
-        self.folder, self.seconds, self.rows, self.bad = folder, seconds, None, 0
-        self.write("key", bytes(32))
-        self.write("cat.json", catalog(owner()))
-
-    def write(self, name, data):
-        with open(f"{self.folder}/{name}", "wb") as file:
-            file.write(data)
+class Room(OneTable):
+    bad = 0
 
     def over(self, rows):
-        if rows != self.rows:
-            self.rows = rows
-            self.write("people.csv", b"age\n" + b"".join(b"%d\n" % (20 + place * 7919 % 80) for place in range(rows)))
+        if self.is_new(rows, lambda row: 20 + row * 7919 % 80):
             renew(PROGRAM, "cat.json", "key", self.folder)
             self.alone = self.run(b"hello ann\n")[0]
 
@@ -146,10 +134,6 @@ class Room:
             said.seek(0)
             reply = said.read().decode().splitlines()[-1:] if child.returncode == 0 else None
         return used.ru_utime + used.ru_stime, used.ru_maxrss, reply and reply[0]
-
-    def bound(self):
-        resource.setrlimit(resource.RLIMIT_CPU, (self.seconds, self.seconds + 1))
-        resource.setrlimit(resource.RLIMIT_AS, (MEMORY, MEMORY))
 
     def ask(self, program, rows):
         """Seconds of the ask alone, memory, and whether it was ended; the run's own time is taken off."""
@@ -222,7 +206,7 @@ def main():
         sys.exit(f"there is no {PROGRAM}: run 'rt run' in crates/hitchseason first, which proves and builds it")
     begun = time.monotonic()
     with tempfile.TemporaryDirectory() as folder:
-        room = Room(folder, seconds)
+        room = Room(folder, seconds, MEMORY)
         units = {body: unit_of(room, longest(body), 1, 1)[0] for body in BODIES}
         print("a visit by body:", ", ".join(f"{body} {unit:.0f} ns" for body, unit in units.items()))
         dearest = max(units, key=units.get)

@@ -9,7 +9,6 @@ processor time. It says the most of each kind, and ends with status 1 where one 
 """
 import os
 import random
-import resource
 import subprocess
 import sys
 import tempfile
@@ -19,7 +18,7 @@ from places import TOP  # noqa: E402
 
 PROGRAM = os.path.abspath(os.environ.get("PROGRAM", f"{TOP}/out/hitchseason"))
 from afresh import renew  # noqa: E402
-from catalog import catalog, owner  # noqa: E402
+from one_table import OneTable  # noqa: E402
 
 ROWS = (1, 1024)
 MEMORY_BAR = 100.0
@@ -258,23 +257,12 @@ class Maker:
 # Runs.
 
 
-class Room:
-    """A folder with a key, and a table of as many rows as are wanted, of which the first is 77."""
-
-    def __init__(self, folder):
-        self.folder, self.rows = folder, None
-        self.write("key", bytes(32))
-        self.write("cat.json", catalog(owner()))
-
-    def write(self, name, data):
-        with open(f"{self.folder}/{name}", "wb") as file:
-            file.write(data)
+class Room(OneTable):
+    """The first row of its table is 77."""
 
     def over(self, rows):
-        if rows != self.rows:
-            self.rows = rows
-            self.write("people.csv", b"age\n" + b"77\n" + b"20\n" * (rows - 1))
-            self.seconds, self.memory, _ = self.run(TRIVIAL)
+        if self.is_new(rows, lambda row: 20 if row else 77):
+            self.least_seconds, self.least_memory, _ = self.run(TRIVIAL)
 
     def run(self, program):
         """Processor time in seconds, the peak of resident memory in MB, and the reply."""
@@ -282,7 +270,7 @@ class Room:
         script = f"hello ann\nask census 1 {program}\n".encode()
         with tempfile.TemporaryFile() as said:
             words = ["/usr/bin/time", "-o", "used", "-f", "%U %S %M", PROGRAM, "run", "cat.json", "key"]
-            done = subprocess.run(words, input=script, stdout=said, stderr=subprocess.DEVNULL, cwd=self.folder, preexec_fn=bound)
+            done = subprocess.run(words, input=script, stdout=said, stderr=subprocess.DEVNULL, cwd=self.folder, preexec_fn=self.bound)
             said.seek(0)
             replies = said.read().decode().splitlines()
         with open(f"{self.folder}/used", encoding="ascii") as file:
@@ -294,12 +282,7 @@ class Room:
         """The same, above what a trivial program takes."""
         self.over(rows)
         seconds, memory, reply = self.run(program)
-        return max(seconds - self.seconds, 0), max(memory - self.memory, 0), reply
-
-
-def bound():
-    resource.setrlimit(resource.RLIMIT_CPU, (SECONDS, SECONDS + 1))
-    resource.setrlimit(resource.RLIMIT_AS, (ADDRESS_SPACE, ADDRESS_SPACE))
+        return max(seconds - self.least_seconds, 0), max(memory - self.least_memory, 0), reply
 
 
 class Worst:
@@ -354,7 +337,7 @@ def main():
     if not os.access(PROGRAM, os.X_OK):
         sys.exit(f"there is no {PROGRAM}: tools/build makes it")
     with tempfile.TemporaryDirectory() as folder:
-        worst = Worst(Room(folder))
+        worst = Worst(Room(folder, SECONDS, ADDRESS_SPACE))
         for rows in ROWS:
             for name, program in holding().items():
                 worst.take(name, program, rows, True)
