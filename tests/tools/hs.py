@@ -25,7 +25,7 @@ CALLS = [
     ("chek", 2, "", "`chek` is no command: is `check` meant?"),
     ("zzzz", 2, "", "`zzzz` is no command: tools/hs lists them."),
     ("run catalog.json", 2, "usage",
-        "`run` takes 2 words, CATALOG KEY, and 1 stand there.\ntools/why: Its form is:\ntools/why:     hitchseason run CATALOG KEY "),
+        "`run` takes 2 arguments, CATALOG KEY, and 1 stand there.\ntools/why: Its form is:\ntools/why:     hitchseason run CATALOG KEY "),
     ("serve c k --port 70000 --each 1", 2, "usage", "     hitchseason serve CATALOG KEY [--addr A] --port P [--workers W] --each N"),
     ("grant c k labour 0.5", 2, "usage", "     hitchseason grant CATALOG KEY OWNER AMOUNT"),
     ("check a b", 2, "usage", "     hitchseason check CATALOG OWNER FILE"),

@@ -149,7 +149,7 @@ def of_table(name):
 
 
 GRANTS = [
-    (nothing, GRANT, "", 2, ["`grant` takes 4 words, CATALOG KEY OWNER AMOUNT, and 3 stand there", "hitchseason grant CATALOG KEY OWNER AMOUNT"]),
+    (nothing, GRANT, "", 2, ["`grant` takes 4 arguments, CATALOG KEY OWNER AMOUNT, and 3 stand there", "hitchseason grant CATALOG KEY OWNER AMOUNT"]),
     (nothing, f"{GRANT} 0", "", 2, [f"`0`: AMOUNT is a whole number of millionths from 1 to {MOST}, such as 500000"]),
     (nothing, f"{GRANT} {MOST + 1}", "", 2, [f"`{MOST + 1}`: AMOUNT is a whole number"]),
     (nothing, f"{GRANT} {5000 * '9'}", "", 2, ["AMOUNT is a whole number of millionths from 1 to"]),
@@ -174,13 +174,13 @@ GRANTS = [
 # What is done to a folder with journals that have an answered ask, the program's words, the shell's words behind them, the status, and words
 # that are said. A word with ! in front of it must not be said. Cases behind "more" are left out of the quick form.
 MADE = [
-    (nothing, "", "", 2, ["No words were given", "hitchseason gap CATALOG OWNER CATALOG2 FILE"]),
+    (nothing, "", "", 2, ["No arguments were given", "hitchseason gap CATALOG OWNER CATALOG2 FILE"]),
     (nothing, "walk catalog.json key", "", 2, ["`walk` is no command"]),
     (nothing, "Check catalog.json census program", "", 2, ["`Check` is no command: is `check` meant"]),
     (nothing, "-h", "", 2, ["the program has no help of its own"]),
-    (nothing, f"hitchseason {AUDIT}", "", 2, ["tools/why takes the program's words alone"]),
-    (nothing, "run catalog.json", "", 2, ["`run` takes 2 words, CATALOG KEY, and 1 stand there"]),
-    (nothing, "check catalog.json census", "", 2, ["`check` takes 3 words, CATALOG OWNER FILE, and 2 stand there"]),
+    (nothing, f"hitchseason {AUDIT}", "", 2, ["tools/why takes the program's arguments alone"]),
+    (nothing, "run catalog.json", "", 2, ["`run` takes 2 arguments, CATALOG KEY, and 1 stand there"]),
+    (nothing, "check catalog.json census", "", 2, ["`check` takes 3 arguments, CATALOG OWNER FILE, and 2 stand there"]),
     (nothing, f"{RUN} --workers 0", "", 2, ["`--workers 0`: `--workers` stands once, and takes a whole number from 1 to 16"]),
     (nothing, f"{RUN} --workers 17", "", 2, ["`--workers 17`: `--workers` stands once, and takes a whole number from 1 to 16"]),
     (nothing, "serve catalog.json key --port 70000 --each 10", "", 2, ["`--port 70000`: `--port` stands once", "!--each 10"]),
@@ -189,13 +189,13 @@ MADE = [
     (nothing, "serve catalog.json key --port 7000 --port 7000 --each 10", "", 2, ["`--port 7000`: `--port` stands once", "!--each 10"]),
     (nothing, "serve catalog.json key --port 7000", "", 2, ["`--each` is missing", "!--port 7000"]),
     (nothing, "serve catalog.json key --port 7000 --each 10 --worker 2", "", 2, ["`--worker` is no option: is `--workers` meant?", "!stand there"]),
-    (nothing, "gen 7", "", 2, ["`gen` takes 2 or 3 words, SEED N [WORKERS], and 1 stand there", "hitchseason gen SEED N [WORKERS]"]),
+    (nothing, "gen 7", "", 2, ["`gen` takes 2 or 3 arguments, SEED N [WORKERS], and 1 stand there", "hitchseason gen SEED N [WORKERS]"]),
     (nothing, "gen 4294967296 100001 17", "", 2, ["`4294967296`: SEED is a whole number from 0 to 4294967295", "`100001`: N is a whole number from 1 to "
         "100000", "`17`: WORKERS is a whole number from 1 to 16"]),
     (nothing, f"gen {5000 * '9'} 1", "", 2, ["SEED is a whole number from 0 to 4294967295"]),
     (nothing, "gen -1 2", "", 2, ["`-1` begins with a hyphen and is taken for an option, which `gen` hasn't", "!a file of this name"]),
-    (nothing, "audit -x key", "", 2, ["`-x` begins with a hyphen", "`audit` takes 2 words, CATALOG KEY, and 1 stand there"]),
-    (nothing, "audit catalog.json $'k\\xffy'", "", 2, ["Word 2 isn't UTF-8"]),
+    (nothing, "audit -x key", "", 2, ["`-x` begins with a hyphen", "`audit` takes 2 arguments, CATALOG KEY, and 1 stand there"]),
+    (nothing, "audit catalog.json $'k\\xffy'", "", 2, ["Argument 2 isn't UTF-8"]),
     (nothing, "audit catalogue.json key", "", 3, ["refused catalogue.json: there is no such file in /", "Is `catalog.json` meant?"]),
     (nothing, "audit data/catalog.json key", "", 3, ["There is no folder `data` here"]),
     (nothing, "audit key/catalog.json key", "", 3, ["`key` is a file, and no folder"]),

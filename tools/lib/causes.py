@@ -92,13 +92,13 @@ class Command:
 
 
 def about_words(words):
-    """Why words are no command."""
+    """Why arguments are no command."""
     found = Command(words)
     for number, word in enumerate(words):
         if not is_utf8(word):
-            yield f"Word {number} isn't UTF-8, and so the program takes none of them."
+            yield f"Argument {number} isn't UTF-8, and so the program takes none of them."
     if not words:
-        yield "No words were given."
+        yield "No arguments were given."
     elif found.name not in COMMANDS:
         yield from about_name(found.name)
     else:
@@ -122,7 +122,7 @@ def shown(word):
 
 def about_name(name):
     if os.path.basename(name) == "hitchseason":
-        yield f"`{shown(name)}` is no command: tools/why takes the program's words alone, such as `tools/why run CATALOG KEY`."
+        yield f"`{shown(name)}` is no command: tools/why takes the program's arguments alone, such as `tools/why run CATALOG KEY`."
     elif name in ("help", "--help", "-h", "--version", "-V"):
         yield f"`{name}` is no command: the program has no help of its own."
     else:
@@ -149,7 +149,7 @@ def about_rest(found):
     wanted, most = found.wanted(), len(COMMANDS[found.name].split()) if found.name == "gen" else 0
     if not len(wanted) <= len(found.words) <= max(len(wanted), most):
         given = f"{len(found.words)} stand there" if found.words else "none stands there"
-        takes = f"{len(wanted)} or {most} words, {COMMANDS[found.name]}" if most else f"{len(wanted)} words, {' '.join(wanted)}"
+        takes = f"{len(wanted)} or {most} arguments, {COMMANDS[found.name]}" if most else f"{len(wanted)} arguments, {' '.join(wanted)}"
         yield f"`{found.name}` takes {takes}, and {given}."
     if found.name in ("gen", "grant"):
         yield from about_numbers(found) if found.name == "gen" else about_amount(found)
@@ -700,7 +700,7 @@ def about_failure(command, script, told):
     if command.name == "run":
         said += about_input(script)
     where = "a port" if command.name == "serve" else "standard input or output"
-    yield from said or [f"Nothing that fails is found now: neither a file that the words or the catalog name, nor {where}."]
+    yield from said or [f"Nothing that fails is found now: neither a file that the arguments or the catalog name, nor {where}."]
 
 
 def about_doors(command):

@@ -94,7 +94,7 @@ def form_of(name, words=(), more=()):
     program = program_of(words, dict(more))
     if statistics.is_statistic(program):
         return said.replace("PROGRAM", program)
-    return f"{said}, or in PROGRAM's place a statistic's name and its words but for TABLE"
+    return f"{said}, or in PROGRAM's place a statistic's name and its arguments but for TABLE"
 
 
 def fit(name, words, more):
@@ -105,9 +105,9 @@ def fit(name, words, more):
     try:
         bound = takes.bind(None, *words, **more).arguments
     except TypeError as fault:
-        raise BadCall(f"{name}: {fault}. Its words are {name} {form_of(name, words, more)}") from None
+        raise BadCall(f"{name}: {fault}. Its arguments are {name} {form_of(name, words, more)}") from None
     if "charge" in takes.parameters and "eps" not in takes.parameters and bound.get("charge") is None:
-        raise BadCall(f"{name}: a charge is said, which is divided among its asks. Its words are {name} {form_of(name, words, more)}")
+        raise BadCall(f"{name}: a charge is said, which is divided among its asks. Its arguments are {name} {form_of(name, words, more)}")
 
 
 class Client:
@@ -150,7 +150,7 @@ class Client:
         except ValueError as fault:
             raise BadCall(str(fault)) from None
         except (TypeError, AttributeError) as fault:
-            raise BadCall(f"{name}: one of its words is of another kind than is wanted ({fault}). Its words are {name} {form_of(name, words, more)}") from fault
+            raise BadCall(f"{name}: one of its arguments is of another kind than is wanted ({fault}). Its arguments are {name} {form_of(name, words, more)}") from fault
 
     def afford(self, plan, paid=()):
         """Refuses asks of the whole that don't fit together, so that none of them is paid in vain. Of parts it can't be known. PAID are answered already."""

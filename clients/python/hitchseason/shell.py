@@ -33,7 +33,7 @@ HELP = [
     ("\\f [PROGRAM]", "says what it would take and how far it would be off, and asks nothing. Alone: of what is typed above it, or was last"),
     ("\\s [PROGRAM]", "the program as it is sent, with the columns' names written out"),
     ("\\g", "asks what \\f or \\s was shown last, or what was refused"),
-    ("\\a NAME WORDS", f"asks a statistic: {', '.join(list(PLANS)[1:])}; \\a NAME says its words"),
+    ("\\a NAME ARGUMENTS", f"asks a statistic: {', '.join(list(PLANS)[1:])}; \\a NAME says its arguments"),
     ("\\r N [EPS]", "tells the answer with this number again, for nothing; \\r alone, what came of a run that was cut"),
     ("\\b", "the budget"),
     ("\\q", "ends, as `quit`, `exit` and Ctrl-D do; Ctrl-C gives up what is typed"),
@@ -403,7 +403,7 @@ class Shell:
         try:
             takes.bind(None, *words, **more)
         except TypeError:
-            raise Unsaid(f"its words are \\a {name} {form_of(name, words)}") from None
+            raise Unsaid(f"its arguments are \\a {name} {form_of(name, words)}") from None
         return name, words, {**self.usual(name, words, takes.parameters, more), **more}
 
     def usual(self, name, words, takes, more):
@@ -414,7 +414,7 @@ class Shell:
         if "eps" not in takes and "charge" not in more:
             raise Unsaid(f"a charge is said, which is divided among its asks: \\a {name} {form_of(name, words)}")
         if "eps" in usual and self.eps is None:
-            raise Unsaid("no epsilon is set: \\e 0.5 sets one, or eps=0.5 among its words")
+            raise Unsaid("no epsilon is set: \\e 0.5 sets one, or eps=0.5 among its arguments")
         if self.part and "part" in takes:
             if self.part[1] is None:
                 raise Unsaid("\\a asks no statistic of each key: \\p PARTITION KEY sets one, and \\p the whole")

@@ -563,8 +563,8 @@ class Refusals(unittest.TestCase):
 
     def test_of_calls(self):
         """Words that aren't a call's: they are a Fault, which says the call's words, and nothing is asked."""
-        mean = "Its words are mean TABLE COLUMN LOW HIGH [where=] [charge=] [shares=] [part=]"
-        of_each = "Its words are groups PARTITION mean COLUMN LOW HIGH [where=] [charge=] [shares=] [keys=]"
+        mean = "Its arguments are mean TABLE COLUMN LOW HIGH [where=] [charge=] [shares=] [part=]"
+        of_each = "Its arguments are groups PARTITION mean COLUMN LOW HIGH [where=] [charge=] [shares=] [keys=]"
         part = '`part` is a partition and one of its keys, as part=("areas", "{}"), and not {}'
         with survey(capacity=100) as place:
             client = place.client()
@@ -574,14 +574,14 @@ class Refusals(unittest.TestCase):
                 (lambda: client.mean("persons", "income", 0, 5000), f"mean: a charge is said, which is divided among its asks. {mean}"),
                 (lambda: client.groups("areas", "mean", "income", charge=1), f"groups: missing a required argument: 'low'. {of_each}"),
                 (lambda: client.groups("areas", "mean", "income", 0, 5000, eps=1), of_each),
-                (lambda: client.groups("areas", "size persons", eps=1, part=("areas", "north")), "Its words are groups PARTITION PROGRAM [eps=] [charge=] "
+                (lambda: client.groups("areas", "size persons", eps=1, part=("areas", "north")), "Its arguments are groups PARTITION PROGRAM [eps=] [charge=] "
                     "[keys=], or in PROGRAM's place"),
                 (lambda: client.forecast("crosstabs", "areas", eps=1), "there is no call `crosstabs`: is `crosstab` meant?"),
                 (lambda: client.count("persons", part="west", eps=1), part.format("west", "'west'")),
                 (lambda: client.count("persons", part="nowhere", eps=1), part.format("north", "'nowhere'")),
                 (lambda: client.count("persons", part=("areas",), eps=1), part.format("north", "('areas',)")),
                 (lambda: client.count("persons", part="", eps=1), part.format("north", "''")),
-                (lambda: client.count("persons", where=5, eps=1), "Its words are count TABLE [where=] [eps=] [charge=] [part=]"),
+                (lambda: client.count("persons", where=5, eps=1), "Its arguments are count TABLE [where=] [eps=] [charge=] [part=]"),
                 (lambda: client.top("areas", "3", eps=1), "how many keys is a whole number over 0, and not '3'"),
                 (lambda: client.top("areas", 3, eps=1, percent=200), "a level is over 0"),
             ):
