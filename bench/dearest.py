@@ -1,9 +1,9 @@
 #!/usr/bin/env python3
-"""Times the dearest programs that are accepted, whose walks are 1, 2 and 3 deep, over tables of 2^10, 2^14 and 2^17 rows.
+"""Times the most expensive programs that are accepted, whose walks are 1, 2 and 3 deep, over tables of 2^10, 2^14 and 2^17 rows.
 
 usage: bench/dearest.py [SECONDS]    (PROGRAM=FILE times another build; SECONDS of processor time, 60, after which a run is ended)
 Of each depth there are two: the shortest program, a `filter` in `map`s of the table; and the longest, of nearly 20,000 turns in the innermost
-function, over bags 64, 8 and 4 tables wide, since a program may walk 64 bags, by whichever of some bodies takes longest a turn. Beside them is a
+function, over bags 64, 8 and 4 tables wide, since a program may walk 64 bags, by whichever of some bodies takes longest a turn. Next to them is a
 `filter` of a `map` over a bag of 64 tables, which makes pairs. All are charged nothing. First a program is timed over tables of 1, 2, 4, .. rows
 until it takes a second. By what it takes for each visit of a row or a term (tools/lib/walks.py says how many there are at most, and here
 none is left out) the rest is worked out, in parentheses. What would then take over twice SECONDS isn't run.
@@ -71,7 +71,7 @@ def filled(body, turns):
 
 
 def nested(depth, width, inner, between):
-    """The innermost function's body, in so many `map`s of such a bag, behind a name with so many pairs of names between."""
+    """The innermost function's body, in so many `map`s of such a bag, after a name with so many pairs of names between."""
     lets, bag = bags(width)
     text = f"( {inner} )"
     for _ in range(depth):

@@ -110,7 +110,7 @@ def long_names(pairs):
 
 
 def walks(inner, forms, times, doublings, form="filter h", walk="size b"):
-    """A bag 64 wide behind so many forms, each nested so often, that is walked so many times."""
+    """A bag 64 wide after so many forms, each nested so often, that is walked so many times."""
     lets, bag = applied(nested(form, inner), forms, "p")
     again, last = walked(walk, times, doublings)
     return f"{HEAD}let p = people in {wide('p')}{lets}let q = {bag} in {again}0 * {last} (![inf] q)"

@@ -3,7 +3,7 @@
 
 usage: bench/held.py [ROWS [ASKS]]    8,192 rows and 400 asks, unless said (PROGRAM=FILE tries another build than tools/build's)
 One connection asks a program that is charged nothing and visits each row as often as there are rows; until it is answered, the other one asks
-`size people` again and again, at most 50,000 times, of the same owner and then of another one. Beside that stand as many asks as are said with
+`size people` again and again, at most 50,000 times, of the same owner and then of another one. Next to that stand as many asks as are said with
 nothing to hold anybody. Of each series it prints how many were answered, and the median, the 95th of a hundred and the greatest time of one, from
 its line to its reply.
 It ends with status 1 where the held program's reply isn't an answer, where fewer than ten asks were answered meanwhile, or where numbers aren't given
@@ -55,7 +55,7 @@ def beside(service, name):
             numbers.append(asked(other, name, times))
         held.join()
         took = time.monotonic() - begun
-    # The last ask may have been answered behind the held one.
+    # The last ask may have been answered after the held one.
     if not replies or not replies[0].startswith("answer ") or len(times) < 10:
         raise Wrong(f"the held one was answered {replies}, and {len(times)} asks were answered meanwhile")
     if [number - numbers[0] for number in numbers] != list(range(len(numbers))):

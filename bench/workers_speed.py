@@ -1,9 +1,9 @@
 #!/usr/bin/env python3
-"""How fast several workers answer, beside one worker, beside processes of one worker each, and beside a plain C loop, in turn.
+"""How fast several workers answer, next to one worker, next to processes of one worker each, and next to a plain C loop, in turn.
 
 usage: bench/workers_speed.py [ROUNDS [ANSWERS [FOLDER]]]    (PROGRAM=FILE measures another build)
 9 rounds, 500 answers an owner, and a folder on the disk of this repository, unless said. Needs cc; the last bar needs perf, and is left out without it.
-Each figure is the median of the rounds, in which what is beside each other is run in turn, in either order; what stands beside it is what it comes to
+Each figure is the median of the rounds, in which what is beside each other is run in turn, in either order; what stands next to it is what it comes to
 by the median of the rounds' ratios. Above it stand the least and the most wall time of both. Bars:
 
 - a run by one worker takes at most 1.25 times the wall time of the loop that writes and syncs the same (bench/journal_loop.c);
@@ -17,7 +17,7 @@ by the median of the rounds' ratios. Above it stand the least and the most wall 
 
 2 and 4 workers at one owner stand below, without a bar.
 
-Times are of whole processes, but the loop's, which takes its own behind the making of its file. It ends with status 1 where a bar isn't met.
+Times are of whole processes, but the loop's, which takes its own after the making of its file. It ends with status 1 where a bar isn't met.
 """
 import os
 import re
@@ -107,7 +107,7 @@ class Table:
 
 
 def in_turn(rounds, ours, theirs):
-    """The figures of both ways: the medians of ours, and beside them theirs by the median of the rounds' ratios, since machines change their speed from
+    """The figures of both ways: the medians of ours, and next to them theirs by the median of the rounds' ratios, since machines change their speed from
     round to round. Every other round begins with the other way."""
     found = {ours: [], theirs: []}
     for number in range(rounds):

@@ -322,7 +322,7 @@ LINES = [
 ]  # fmt: skip
 NO_LINES = ["no", "no 40 1", "no 15", "no 10", "answer 1 2", "no 33 a b", "journal labour", "foo", "no 010", "granted labour 1", "granted 1 2 3",
     "too large", "full 2", "owner labour budget 1", "labour reservations 1", "distance -3", "values 1", "gap", "hello", "\x1b[31m"]  # fmt: skip
-# A program beside a line that isn't the program's refusal: what is said of the line.
+# A program next to a line that isn't the program's refusal: what is said of the line.
 OTHERS = [
     ("no 13", "write 0.5"), ("answer 0 1 2", "noisy value 1"),
     ("no 40 1000000 21000000 20000000 4", "an EPS of 19 is the greatest that fits now. (That is so where it was asked of the whole"),
@@ -484,7 +484,7 @@ class Trial:
         self.codes.add("90")
 
     def by_client(self):
-        """A program with rows and columns by name, beside what is said of it as it is sent: it is marked as it is written, and hints have its names."""
+        """A program with rows and columns by name, next to what is said of it as it is sent: it is marked as it is written, and hints have its names."""
         for program, line, first, part, said in (
             ("p.age < 30", "no 21 20", "no 21 20: no term begins with the program's tokens up to here, `)`; its place", ")", "`x <= 29`"),
             ("p.age == p.work", "no 30 mismatch 116 120", "no 30 mismatch 116 120: this part has another type", "p.work", "with: `30`"),
@@ -620,7 +620,7 @@ class Trial:
         script = "hello mia\nask labour 0.5 size persons\nask labour 0.5 size (union persons persons)\nbye\n"
         came, wanted = set(), {"fail_disk": {"42", "52"}, "refuse_allocation": {"51", "90"}}
         for library, faults in (("fail_disk", "FAIL"), ("refuse_allocation", "REFUSE")):
-            # Each call, the last ones first: a run writes its records, and runs its programs, behind all that it opens.
+            # Each call, the last ones first: a run writes its records, and runs its programs, after all that it opens.
             for number in range(int(self.run_failing(script, library, {"TELL": "1"}).stderr), 0, -1):
                 if came >= wanted[library]:
                     break

@@ -71,7 +71,7 @@ def copy_slot(source, target):
 
 
 def given(*grants, number=0):
-    """Grants behind a journal's records, each a number and an amount."""
+    """Grants after a journal's records, each a number and an amount."""
     def lay():
         data = contents(f"journals/{number}.bud")
         write(f"journals/{number}.bud", appended(data, capacity_in(data), [Grant(*one) for one in grants]))
@@ -171,8 +171,8 @@ GRANTS = [
      ["The journal of health has 10 records, and room for 10"]),
     (given((0, 7)), f"{GRANT} 500000", "", 0, []),
 ]  # fmt: skip
-# What is done to a folder with journals that have an answered ask, the program's words, the shell's words behind them, the status, and words
-# that are said. A word with ! in front of it must not be said. Cases behind "more" are left out of the quick form.
+# What is done to a folder with journals that have an answered ask, the program's words, the shell's words after them, the status, and words
+# that are said. A word with ! in front of it must not be said. Cases after "more" are left out of the quick form.
 MADE = [
     (nothing, "", "", 2, ["No arguments were given", "hitchseason gap CATALOG OWNER CATALOG2 FILE"]),
     (nothing, "walk catalog.json key", "", 2, ["`walk` is no command"]),
@@ -478,7 +478,7 @@ class Trial:
             self.differ("a copy", before.stdout + more.stdout, "no change, and an answer over the budget")
         if after.returncode != 1 or not all(line.startswith(part) for line, part in zip(after.stdout.splitlines(), wanted)):
             self.differ("a copy", after.stdout + after.stderr, wanted)
-        # An older journal that is put back, beside the copy and the audits; a file that isn't there; a header that somebody has changed.
+        # An older journal that is put back, with the copy and the audits; a file that isn't there; a header that somebody has changed.
         write("audits", run([PROGRAM, *AUDIT.split()]).stdout.encode())
         shutil.copytree("journals", "later")
         shutil.rmtree("journals")

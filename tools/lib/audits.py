@@ -1,6 +1,6 @@
-"""Audits that were kept, one behind the other: whether a figure fell, as it does where an old journal is put back.
+"""Audits that were kept, one after the other: whether a figure fell, as it does where an old journal is put back.
 
-    fallen(LINES, COPIES)    a sentence for each figure that did; COPIES where the audits are of copies beside a service
+    fallen(LINES, COPIES)    a sentence for each figure that did; COPIES where the audits are of copies of a running service
     check_audits()           audits worked by hand
 """
 import re
@@ -14,7 +14,7 @@ AUDIT = re.compile(r"(\w+) " + " ".join(f"{name} ([0-9]+)" for name in FIGURES))
 def fallen(lines, copies=False):
     """A sentence for each figure of an owner that is less than in the audit before. What is spent may fall where there are more exhausted numbers.
 
-    In a copy beside a service what is being answered counts as lost, and doesn't once it is answered: there `lost` may be less than it ever was, by
+    In a copy of a running service what is being answered counts as lost, and doesn't once it is answered: there `lost` may be less than it ever was, by
     one for each worker. No other figure falls."""
     # Each worker answers one ask at a time.
     last, being_answered = {}, WORKERS if copies else 0

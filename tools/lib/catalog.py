@@ -57,7 +57,7 @@ def no_constant(word):
 
 
 def surrogates_pair(text):
-    """Whether each escape of a first half of a pair has one of a second half right behind it, and no second half stands alone."""
+    """Whether each escape of a first half of a pair has one of a second half right after it, and no second half stands alone."""
     wanted = None
     for escape in ESCAPE.finditer(text):
         code = int(escape[1], 16) if escape[1] else 0

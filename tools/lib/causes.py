@@ -189,7 +189,7 @@ def plain(name):
 
 
 class Files:
-    """What is found of each file and owner that a command names, in the program's order: a name, its Fault or nothing, and lines beside."""
+    """What is found of each file and owner that a command names, in the program's order: a name, its Fault or nothing, and more lines."""
 
     def __init__(self, command, told):
         self.command, self.told, self.catalogs = command, told, []
@@ -232,7 +232,7 @@ class Files:
             raise Fault(f"its entries in the two catalogs don't fit: {differing}")
 
     def all(self):
-        """A catalog that can't be read hides what is behind it. `gen` names no file."""
+        """A catalog that can't be read hides what is after it. `gen` names no file."""
         words, name = self.command.words, self.command.name
         if name == "gen":
             return
@@ -261,7 +261,7 @@ def numbers_of(command, entries):
 
 
 class BadTable(Fault):
-    """The fault of a table, and all that is found beside it."""
+    """The fault of a table, and all else that is found."""
 
     def __init__(self, survey):
         super().__init__(str(survey.first))
@@ -344,7 +344,7 @@ def seen(number):
 
 
 def open_slots(data):
-    """The first slots of a journal that are open, by its own header; where that names no capacity, of those behind it."""
+    """The first slots of a journal that are open, by its own header; where that names no capacity, of those after it."""
     if len(data) < HEAD:
         return []
     return begun(data, capacity_in(data) or (len(data) - HEAD) // SLOT)

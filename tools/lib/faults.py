@@ -38,7 +38,7 @@ FORMS = {
     "keys": f"a key has 1 to {KEY_BYTES} bytes, and no blank and no control byte among them",
 }
 NAME_FORM = f"a name is a letter or `_`, then letters, digits and `_`, {NAME_BYTES} bytes at most, without other letters than a to z and A to Z"
-# What tools/find_fault, whose option that is, says beside what it leaves out.
+# What tools/find_fault, whose option that is, says with what it leaves out.
 ALL = "(--all tells them)"
 NO_CAUSE = "it is nested over 127 deep, or has half of a pair of \\u escapes"
 

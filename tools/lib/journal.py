@@ -7,10 +7,10 @@
     journal.py --compare COPY CATALOG KEY   whether each journal in ./journals begins with the records of its copy in the folder COPY: records
                                         are only ever added, so any other change was made by somebody, or by the disk. It ends with status 1
                                         where one is changed or gone, or its copy is too short for one
-    journal.py --audits [--copies] FILE whether a figure ever fell in FILE, in which audits were kept one behind the other, as it does where an
+    journal.py --audits [--copies] FILE whether a figure ever fell in FILE, in which audits were kept one after the other, as it does where an
                                         old journal is put back; only what is spent may fall, where there are more exhausted numbers. A budget
                                         is raised by grants, and never falls. It ends with status 1 where one did. With --copies they are what
-                                        this tool says of copies beside a service: what is being answered counts as lost there, until it is
+                                        this tool says of copies of a running service: what is being answered counts as lost there, until it is
     journal.py --check                  the values that are known from outside
 
 It shares nothing with the server but the rules (docs/journal-format.md). A journal is the file N.bud of owner N: a header of 128 bytes
@@ -271,7 +271,7 @@ def length_of(data):
 
 
 def as_far_as_areas_go(head):
-    """Behind which byte nothing of a journal with this header is read, but to see that there is more. Where the capacity is none, of the greatest."""
+    """After which byte nothing of a journal with this header is read, but to see that there is more. Where the capacity is none, of the greatest."""
     capacity = capacity_in(head) if 2 <= capacity_in(head) <= MOST_CAPACITY else MOST_CAPACITY
     return areas(1 if head[VERSION_AT : VERSION_AT + 1] == b"\1" else 2, capacity)[-1].end + SLOT
 
@@ -306,7 +306,7 @@ def check_header(data, head, capacity):
 
 
 def length_fault(data, area):
-    """What is wrong with a journal's length, where this area is live, or nothing. From version 2 on the file may go on behind it."""
+    """What is wrong with a journal's length, where this area is live, or nothing. From version 2 on the file may go on after it."""
     if len(data) == area.end or (area.version > 1 and len(data) > area.end):
         return None
     if len(data) > area.end:
@@ -318,7 +318,7 @@ def length_fault(data, area):
 
 def slots(data, capacity, first=0):
     """The records of the live area's slots before the first closed one, from slot `first` on. The least slot that isn't wholly there, is
-    past the last one in version 1, or is open and no record or behind a closed one is damaged."""
+    past the last one in version 1, or is open and no record or after a closed one is damaged."""
     area = live_area(data, capacity)
     found, length = [], length_fault(data, area)
     wrong = [length] if length else []
@@ -341,7 +341,7 @@ def slots(data, capacity, first=0):
 
 
 def behind_closed(slot, closed):
-    """What is said of an open slot behind a closed one, whose bytes are these."""
+    """What is said of an open slot after a closed one, whose bytes are these."""
     held = decoded(bytes([GATE]) + slot[1:])
     gate = f"its first byte is 0x{slot[0]:02X}, and 0x{GATE:02X} opens a slot"
     rest = "the rest of it is a whole record" if held else "all of it is zeros" if not any(slot) else "the rest of it is no record"
@@ -357,13 +357,13 @@ def made(head, capacity):
 
 
 def put(data, place, more):
-    """Writes bytes at a place, behind zeros where that is behind the end."""
+    """Writes bytes at a place, after zeros where that is after the end."""
     data += bytes(max(0, place - len(data)))
     data[place : place + len(more)] = more
 
 
 def appended(data, capacity, records):
-    """A journal's bytes with these records behind its own. Where all slots of the live area are taken, from version 2 on, the next one is written
+    """A journal's bytes with these records after its own. Where all slots of the live area are taken, from version 2 on, the next one is written
     first."""
     data, area = bytearray(data), live_area(data, capacity)
     gates = area.gates(data)
@@ -384,7 +384,7 @@ def remade(data, version):
 
 
 def dearest(sums):
-    """What the dearest part of each partition costs, by the sum of each view's charges."""
+    """What the part with the highest cost of each partition costs, by the sum of each view's charges."""
     found = {}
     for (partition, _), amount in sums.items():
         if partition != WHOLE[0]:
@@ -393,7 +393,7 @@ def dearest(sums):
 
 
 def cost(sums):
-    """The whole view's charges, and for each partition its dearest part's."""
+    """The whole view's charges, and for each partition those of its part with the highest sum."""
     return sums.get(WHOLE, 0) + sum(dearest(sums).values())
 
 
@@ -493,7 +493,7 @@ class Book:
         )
 
     def said(self, analysts):
-        """Each record in words, behind a grant the budget with it."""
+        """Each record in words, after a grant the budget with it."""
         budget = self.entry["budget"]
         for one in self.records:
             budget += one.amount if isinstance(one, Grant) else 0
@@ -537,7 +537,7 @@ def books(catalog_name, key_name, folder=".", file=contents):
             yield f"journal {entry['name']} {refusal}"
 
 
-# A copy beside what became of it.
+# A copy with what became of it.
 
 
 def begun(data, capacity):

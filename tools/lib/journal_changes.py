@@ -251,7 +251,7 @@ class Search:
                 yield said, compact(analysts), one
 
     def fits(self, begun, tables):
-        """Whether the digest comes out of what is hashed already, by `begun`, and these tables behind it."""
+        """Whether the digest comes out of what is hashed already, by `begun`, and these tables after it."""
         self.tried += 1
         hashed = begun.copy()
         hashed.update(b"".join(tables))
@@ -288,7 +288,7 @@ class Search:
 
 
 def begun(key, analysts, entry):
-    """The hash of a header's digest up to the tables, of which many are tried behind one entry."""
+    """The hash of a header's digest up to the tables, of which many are tried after one entry."""
     return hashlib.sha256(key + analysts + b"\n" + compact(entry) + b"\n")
 
 
@@ -306,7 +306,7 @@ def search(house, order, found):
 
 
 def at_init(house, entry):
-    """Which files are others by `at_init`, the checksums that an operator takes behind `init`: names, or nothing where there are none."""
+    """Which files are others by `at_init`, the checksums that an operator takes after `init`: names, or nothing where there are none."""
     try:
         with TextIOWrapper(plain("at_init"), encoding="utf-8", errors="surrogateescape") as file:
             sums = {line[66:].rstrip("\n"): line[:64] for line in file if len(line) > 66}

@@ -3,7 +3,7 @@
     written(PROGRAM, TABLES)      a Written: the program as it is sent, and the places of its parts in what the analyst wrote
 
 The row is bound by `fn (p : row people) => ..` or `fun (p : row people) => ..`. There the type is written out, and the row is taken apart right
-behind the `=>`, as far as the last column that is used; a column is then a name, its own where no other name of the program is alike. All else is
+after the `=>`, as far as the last column that is used; a column is then a name, its own where no other name of the program is alike. All else is
 left as it stands, and a program without such types is sent as it is. TABLES are those of an owner by what tools/public gives.
 """
 import lines
@@ -89,7 +89,7 @@ def tokens_of(data):
 
 
 class Reader(programs.Parser):
-    """Reads terms with columns. Forms beside the language's: `column` with a row's name and a column's, and the type ("row", TABLE)."""
+    """Reads terms with columns. Forms besides the language's: `column` with a row's name and a column's, and the type ("row", TABLE)."""
 
     def __init__(self, tokens):
         super().__init__(tokens)

@@ -1,8 +1,8 @@
 """What the server must write for a script, worked out apart from it.
 
     reference.py [--key FILE] [--catalog FILE] < SCRIPT          the transcript of a script
-    reference.py --key FILE --catalog FILE --found FOLDER        the same, behind the records of the journals in FOLDER/journals
-    reference.py --key FILE --catalog FILE --found FOLDER --grant AMOUNT OWNER   the line of a grant behind these records, and its status
+    reference.py --key FILE --catalog FILE --found FOLDER        the same, after the records of the journals in FOLDER/journals
+    reference.py --key FILE --catalog FILE --found FOLDER --grant AMOUNT OWNER   the line of a grant after these records, and its status
     reference.py --program [--catalog FILE] [OWNER] < PROGRAM    what is said of a program
     reference.py --gen SEED N                                    the line of `gen SEED N`, whatever the number of its workers
     reference.py --check                                         the values that are known from outside
@@ -101,7 +101,7 @@ def noise(epsilon, draws):
 
 
 def cost_of(charges):
-    """The whole view's charges, and for each partition the charges of its dearest part."""
+    """The whole view's charges, and for each partition the charges of its part with the highest sum."""
     dearest = {}
     for view, amount in charges.items():
         if view is not None:
@@ -122,13 +122,13 @@ class Owner:
         self.reservations, self.added, self.unsettled = [], [], 0
 
     def goes_on(self, charges, records, reservations):
-        """From here on a later run is answered, behind so many records, where each view was charged so much. A reservation is who
+        """From here on a later run is answered, after so many records, where each view was charged so much. A reservation is who
         made it, and its standing or None."""
         self.charges, self.records, self.reservations = dict(charges), records, list(reservations)
         self.start = len(self.reservations)
 
     def found(self, book, analysts):
-        """From here on a run is answered behind the records of a journal (journal.py)."""
+        """From here on a run is answered after the records of a journal (journal.py)."""
         self.version, self.budget = book.version, book.budget
         charges = {None if view == WHOLE else view: amount for view, amount in book.sums.items()}
         standings = [book.settled[number].standing() if number in book.settled else None for number in range(len(book.reserved))]
@@ -330,7 +330,7 @@ def transcript(script, house=with_rows(ROWS), draws=key_words(bytes(32)), found=
 
 
 def granted(book, amount):
-    """What `grant` does behind the records of a journal: its status, its line, and the records that it adds. Nothing is unsettled of its own run."""
+    """What `grant` does after the records of a journal: its status, its line, and the records that it adds. Nothing is unsettled of its own run."""
     used, capacity = len(book.records), book.entry["capacity"]
     if book.budget + amount > MOST_BUDGET:
         return 9, f"too large {book.budget}\n", []
@@ -437,7 +437,7 @@ KNOWN_PROGRAMS = [
 ]
 
 
-# Programs with their values on the rows 20, 30, 40, or on those that stand beside.
+# Programs with their values on the rows 20, 30, 40, or on those that are named.
 KNOWN_VALUES = [
     (b"2 * size people", 6),
     (b"let !y = ![2] (size people) in y", 3),
@@ -496,7 +496,7 @@ def check():
     assert transcript(hello + one, with_rows([]), lambda *_: followed([0, 0, 0, 0, 1, 0, 1, 0])).endswith(
         "answer 0 -1 1000000\n"
     )
-    # Parts worked by hand: the dearest part of each partition is charged.
+    # Parts worked by hand: the part with the highest cost of each partition is charged.
     towns = owner(tables=(("people", "people.csv", (("town", "text"), ("age", "num"))),), budget=10,
                   partitions=(("area", "people", "town", ("A", "B")),))
     house = House(read(catalog(towns)), [{"people": [(b"A", 20), (b"B", 30), (b"A", 40), (b"C", 5)]}])
@@ -528,7 +528,7 @@ def check():
 
 
 def check_found(hello, one):
-    """Runs that go on, worked by hand: a stop behind a reservation, an answer, and what others may recall of it."""
+    """Runs that go on, worked by hand: a stop after a reservation, an answer, and what others may recall of it."""
     digest, house = hashlib.sha256(b"size people").digest(), with_rows(ROWS)
     reservation = Reservation(0, WHOLE, 10**6, 1, 1, 10**6, 0, digest)
     cases = [

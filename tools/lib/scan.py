@@ -36,7 +36,7 @@ def raw(text):
 
 
 class Fault:
-    """A fault with its place: a BadTable's kind and words; the line from 1, the row behind the header from 0, the column's number."""
+    """A fault with its place: a BadTable's kind and words; the line from 1, the row after the header from 0, the column's number."""
 
     def __init__(self, kind, why, line, row=None, column=None):
         self.kind, self.why, self.line, self.row, self.column = kind, why, line, row, column
@@ -75,7 +75,7 @@ class Tally:
 
 
 class Survey:
-    """What was found of a table: `rows` behind the header, `first` fault or nothing, cells that are no number or no text (`bad`, by a
+    """What was found of a table: `rows` after the header, `first` fault or nothing, cells that are no number or no text (`bad`, by a
     column's number and why), `widths` of rows that have too few fields or too many, `texts` and the first lines of those in no key (`lost`)
     by a column's number, `unquotable` texts and `unkeyed` ones, and the line of a quote that is `unclosed`."""
 
@@ -257,7 +257,7 @@ class Scan:
         return self.found
 
     def header(self):
-        """Reads the header, and says where it ends and the line behind it."""
+        """Reads the header, and says where it ends and the line after it."""
         reader = Reader(self.text, 0)
         fields, line = [], 1
         while not fields and reader.at < len(self.text):
@@ -299,7 +299,7 @@ def lines_before_end(reader, line):
 
 
 def over_lines(cell, line):
-    """What is said beside a cell that goes over several lines, which is mostly a quote that nobody closed."""
+    """What is said next to a cell that goes over several lines, which is mostly a quote that nobody closed."""
     ends = len(re.findall(r"\r\n|\r|\n", cell))
     return f" (it goes from line {line} to line {line + ends}: is a `\"` there that isn't closed?)" if ends else ""
 

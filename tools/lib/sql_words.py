@@ -40,7 +40,7 @@ LIKE = {
     "when": "case", "len": "length",
 }  # fmt: skip
 SQL.update({other: SQL[word] for word, others in LIKE.items() for other in others.split()})
-# Those of which nothing else could be meant where the program is stuck at them, or behind them.
+# Those of which nothing else could be meant where the program is stuck at them, or after them.
 STUCK = "and or not between where select distinct group having order limit like median histogram from join when is quantile percentile".split()
 
 

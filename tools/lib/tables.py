@@ -5,7 +5,7 @@
     held(OWNER, READ)             each table's rows by its name, READ giving a file's bytes by its name
 
 It shares nothing with the server but the rules. Columns and owners are as catalog.py reads them. A row of several columns is
-pairs in pairs, the first column beside the rest; a cell of text is bytes.
+pairs in pairs, the first column next to the rest; a cell of text is bytes.
 """
 import re
 
@@ -17,7 +17,7 @@ TYPES = {"num": NUM, "text": TEXT}
 
 
 class BadTable(Exception):
-    """kind is BadHeader, BadRecord, BadCell or TooManyRows; row counts from 0 behind the header, line from 1 in the file."""
+    """kind is BadHeader, BadRecord, BadCell or TooManyRows; row counts from 0 after the header, line from 1 in the file."""
 
     def __init__(self, kind, why, line, row=None, column=None):
         super().__init__(why)
@@ -30,7 +30,7 @@ PLAIN, QUOTED = re.compile(rb"[^,\r\n]*"), re.compile(rb'"((?:[^"]|"")*)("|\Z)')
 
 
 def field_at(data, at):
-    """The field there, and where it ends. Behind the closing quote it goes on as a plain one."""
+    """The field there, and where it ends. After the closing quote it goes on as a plain one."""
     quoted = QUOTED.match(data, at)
     inside = quoted[1].replace(b'""', b'"') if quoted else b""
     plain = PLAIN.match(data, quoted.end() if quoted else at)
@@ -102,7 +102,7 @@ def rows_of(data, columns):
 
 
 def nested(parts, join):
-    """Parts as pairs in pairs: the first one beside the rest."""
+    """Parts as pairs in pairs: the first one next to the rest."""
     made = parts[-1]
     for part in reversed(parts[:-1]):
         made = join((part, made))

@@ -1,4 +1,4 @@
-"""Hints beside programs that are no terms: the refusals 20 to 22. Each is given a Refusal, and answers a sentence or nothing."""
+"""Hints next to programs that are no terms: the refusals 20 to 22. Each is given a Refusal, and answers a sentence or nothing."""
 import re
 
 from bounds import HALF, NAME_BYTES, NUMBER_LIMIT, PROGRAM_LIMIT, TEXT_LIMIT, TOKEN_LIMIT
@@ -125,7 +125,7 @@ def hint_of_times(refusal, tokens, place):
 
 
 def of_halvings(tokens, place, done):
-    """What is said beside a product or quotient that stands in a function."""
+    """What is said next to a product or quotient that stands in a function."""
     if not {"fun", "fn"} & set(open_parts(tokens[:place])):
         return ""
     return f" Numbers of one row are {done} by halvings (`docs/first-programs.md`, \"Correlation\")."
@@ -147,7 +147,7 @@ def open_parts(tokens):
 
 
 def of_total(refusal, tokens, place):
-    """What is said beside a comparison that stands in no function."""
+    """What is said next to a comparison that stands in no function."""
     if {"fun", "fn", "let"} & set(open_parts(tokens[:place])):
         return ""
     for table in refusal.house.owner["tables"]:
@@ -242,7 +242,7 @@ def hint_of_type(refusal, tokens, place):
 
 
 def in_type(tokens, place):
-    """Whether a place lies in the type behind a `:`, or in the brackets of an `inl` or `inr`."""
+    """Whether a place lies in the type after a `:`, or in the brackets of an `inl` or `inr`."""
     depth = 0
     for number in range(place - 1, -1, -1):
         kind = tokens[number][0]

@@ -1,4 +1,4 @@
-"""Hints beside programs that the typing rules, or the run without data, refuse: 30 to 37. Each is given a Refusal, and answers a sentence
+"""Hints next to programs that the typing rules, or the run without data, refuse: 30 to 37. Each is given a Refusal, and answers a sentence
 or nothing."""
 import difflib
 

@@ -15,7 +15,7 @@ from .shows import lines_html
 
 # In millionths; no charge is greater than a budget.
 MOST_EPS, MOST_CHARGE = bounds.MOST_EPS, bounds.MOST_BUDGET
-# Numbers with more digits than that before or behind the point are none that is meant.
+# Numbers with more digits than that before or after the point are none that is meant.
 FAR = 1000
 
 
@@ -210,7 +210,7 @@ class Forecast:
         return noise.margin(self.kinds()[number][0].e, noise.level_of(percent))
 
     def at_most(self):
-        """Whether the charge may be less: parts are charged where they are the dearest of their partition."""
+        """Whether the charge may be less: parts are charged where they have the highest cost of their partition."""
         return any(ask.part for ask in self.asks)
 
     def margins_of_sums(self):
@@ -219,7 +219,7 @@ class Forecast:
         return [(name, count, {percent: noise.sum_margin([e] * count, noise.level_of(percent)) for percent in PERCENTS}) for name, count in self.sums]
 
     def too_much(self):
-        """What is said where it takes more than what was left, or than the catalog's budget, beside which the owner may have granted more."""
+        """What is said where it takes more than what was left, or than the catalog's budget, to which the owner may have added grants."""
         most = self.budget if self.left is None else self.left
         if most is None or self.charge <= most:
             return []

@@ -122,7 +122,7 @@ class Client:
                 raise Refused(f"there is no {what} `{name}`: {known(name, [one for one in all_names if one], 'there is')}")
         self.transport, self.catalog, self.analyst = transport, catalog, analyst
         self.view = View(catalog, catalog["owners"][names.index(owner)], getattr(transport, "closed", False))
-        # The next number; what was left at a time when there was none behind it that isn't another's; what isn't known yet; what was left at last.
+        # The next number; what was left at a time when there was none after it that isn't another's; what isn't known yet; what was left at last.
         self.next = self.before = self.pending = self.known = None
 
     # What is asked. Each takes `eps` or `charge`, and `part=(PARTITION, KEY)`, as statistics.py says, and `resume=ANSWERS` of a call that was cut.
@@ -246,7 +246,7 @@ class Client:
         self.pending.keep(self.one(ask, reply, None) for ask, reply in zip(self.pending.asks, heard[1:]))
 
     def taken(self, asks, replies, left):
-        """The answers, or the first fault with the answers beside it."""
+        """The answers, or the first fault with the answers with it."""
         found = [self.one(ask, reply, left) for ask, reply in zip(asks, replies)]
         numbers = [one.number for one in found if isinstance(one, (Answer, Unanswered))]
         self.next = None if None in numbers else max([self.next - 1, *numbers]) + 1
@@ -309,7 +309,7 @@ class Client:
                 raise Failed("more numbers are recalled than were reserved: what answers is no hitchseason service, or its catalog is another.")
 
     def recover(self, why=""):
-        """What came of the asks of a run that was cut: the replies that were heard, and behind them `recall`, which costs nothing. Their answers, where the
+        """What came of the asks of a run that was cut: the replies that were heard, and after them `recall`, which costs nothing. Their answers, where the
         analyst's new numbers are as many as the other asks; Failed where nothing was charged; else Cut, with the answers of those that are known."""
         if self.pending is None:
             raise Failed("no run was cut")

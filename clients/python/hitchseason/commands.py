@@ -57,7 +57,7 @@ def run(name, call, parser, words):
 
 
 def failed(name, why, status):
-    """Says why, behind what was said before. What can't be written is let go, so that Python doesn't try it once more at its end."""
+    """Says why, after what was said before. What can't be written is let go, so that Python doesn't try it once more at its end."""
     for file, said in ((sys.stdout, ""), (sys.stderr, f"tools/{name}: {why}\n")):
         try:
             if file:
@@ -134,7 +134,7 @@ def text_lines(groups, percent, missing):
 
 
 def csv_lines(groups, _, missing):
-    """A key without an answer has nothing behind it."""
+    """A key without an answer has nothing after it."""
     file = io.StringIO()
     lines = csv.writer(file, lineterminator="\n")
     lines.writerow(["key", "value", *(f"{end}_{percent}" for percent in PERCENTS for end in ("low", "high")), "number", "taken"])

@@ -147,12 +147,12 @@ class Shell:
             self.tried(lambda: self.ask(program), f"{program};")
 
     def taken(self, rest=""):
-        """What is typed, with what is behind it, and nothing is typed any more."""
+        """What is typed, with what is after it, and nothing is typed any more."""
         program, self.typed = f"{self.typed}{rest}".strip(), ""
         return program
 
     def tried(self, call, typed):
-        """Does it, and tells what went wrong. Where Ctrl-C let an ask end, what is typed behind it is given up."""
+        """Does it, and tells what went wrong. Where Ctrl-C let an ask end, what is typed after it is given up."""
         self.lines.keep(" ".join(typed.split("\n")))
         try:
             said = call()
@@ -325,7 +325,7 @@ class Shell:
         self.part = (view.part(partition, key) if key else (partition, None)) if partition else None
 
     def shown_program(self, rest):
-        """The program of \\f and \\s: what is typed above and behind it, or else the last one."""
+        """The program of \\f and \\s: what is typed above and after it, or else the last one."""
         program = self.taken(rest).removesuffix(";")
         if program:
             self.wait(program)

@@ -127,7 +127,7 @@ def sum_of(view, table, column, low, high, where=None, eps=None, charge=None, pa
 
 def groups(view, partition, program, *words, keys=None, made=Groups, **more):
     """A program of each key of a partition, or of some, each once; or a statistic by its name, with its words but for the table, which is the
-    partition's, and `part`: groups("areas", "mean", "income", 0, 5000, charge=1). The charge is each key's, and the dearest key's alone is taken."""
+    partition's, and `part`: groups("areas", "mean", "income", 0, 5000, charge=1). The charge is each key's, and the highest alone is taken."""
     table, every = view.partition(partition)["table"], view.partition(partition)["keys"]
     keys = dict.fromkeys(every if keys is None else [keys] if isinstance(keys, str) else keys)
     if not keys:

@@ -170,7 +170,7 @@ def login_of(place):
 
 
 def transport_of(place, public=None, ssh=("ssh",), words=(), wait=None, **of_folder):
-    """A folder's; a service's behind `ssh://USER@HOST:PORT`, for which WORDS are ssh's own, or at `HOST:PORT`."""
+    """A folder's; a service's at `ssh://USER@HOST:PORT`, for which WORDS are ssh's own, or at `HOST:PORT`."""
     from .server import Address, Login
 
     place = os.fspath(place)

@@ -15,7 +15,7 @@ from hitchseason.server import Ended, Server
 from hitchseason.transport import Stopped, Waited
 
 # The program under a mode that the folder's file `mode` has, once: killed before it has read anything, killed when it has answered and before it has
-# written, asked twice so, behind another analyst's ask, and killed always.
+# written, asked twice so, after another analyst's ask, and killed always.
 WRAPPED = """
 mode=$(cat mode 2>/dev/null)
 [ "$mode" = dead ] || rm -f mode
@@ -178,7 +178,7 @@ class Cuts(unittest.TestCase):
         self.assertEqual(self.client.count("persons", eps=1).number, 1)
 
     def test_new_client(self):
-        """Another client of the analyst begins behind what there is, lost numbers among it."""
+        """Another client of the analyst begins after what there is, lost numbers among it."""
         for _ in range(3):
             self.client.count("persons", eps=1)
         other = self.place.client("tom")
@@ -315,7 +315,7 @@ class Servers(unittest.TestCase):
         self.assertEqual(sum("ask " in line for lines in client.transport.asked for line in lines), 1)
 
     def mean(self, *exchanges):
-        """Of a mean, whose sum and count are asked at once behind a `left`; number 3 is the next one, and 4 records are of numbers 0 to 1 at most."""
+        """Of a mean, whose sum and count are asked at once after a `left`; number 3 is the next one, and 4 records are of numbers 0 to 1 at most."""
         client = self.client([], *exchanges)
         call = lambda **more: client.mean("persons", "age", 0, 100, charge=1, **more)
         return client, call
@@ -335,7 +335,7 @@ class Servers(unittest.TestCase):
         self.assertEqual((mean.value, mean.numbers, mean.taken, client.next), (44, [3, 4], None, 5))
         self.assertEqual([answer.recalled for answer in mean.answers], [False, True])
         self.assertEqual([line for line in client.transport.asked[2] if "recall" in line][0], "recall labour 4")
-        # Both were heard, and the line behind them wasn't; whether a recall is answered or not.
+        # Both were heard, and the line after them wasn't; whether a recall is answered or not.
         heard = [HELLO, "answer 3 -60 500000", "answer 5 10 500000"]
         for recall, spent in (([HELLO], 10**6), (Stopped("cut"), None)):
             client, call = self.mean(Stopped("cut", heard), recall)
@@ -382,7 +382,7 @@ class Servers(unittest.TestCase):
             self.assertEqual(([number for number, _ in cut.numbers], len(cut.unasked)), ([4 if what == "others" else 3], 1 if what is None else 0))
 
     def test_granted(self):
-        """One new number of two asks, behind grants or without: where something was granted meanwhile, which took room, nothing is sure."""
+        """One new number of two asks, after grants or without: where something was granted meanwhile, which took room, nothing is sure."""
         one = [HELLO, "recall 3 answer -60 6"]
         for budget, before, sure in ((20_000_000, 20_000_000, True), (10**6, 20_000_000, True), (10**6, 19_000_000, False), (20_000_000, 19_000_000, False)):
             client, call = self.mean(Stopped("cut", [HELLO]), one)
@@ -430,7 +430,7 @@ class Servers(unittest.TestCase):
         self.assertEqual(self.asked(client), 5)
 
     def test_groups_of_searches(self):
-        """What is paid of searches that are done is told, too, and the call goes on behind them."""
+        """What is paid of searches that are done is told, too, and the call goes on after them."""
         client = self.client([HELLO, "answer 3 5 500000"], [HELLO, "answer 4 5 500000"], Stopped("cut", [HELLO]), [HELLO])
         call = lambda **more: client.groups("areas", "median", "age", 0, 100, charge=1, steps=2, keys=["north", "south"], **more)
         fault = self.cut_of(call, Failed)

@@ -363,7 +363,7 @@ class Pipes(unittest.TestCase):
             return piped(place.folder, "\\e 1", "size persons;", *lines, program=wrapped)
 
     def test_cut(self):
-        """Runs that are killed before, behind and after two of what they ask."""
+        """Runs that are killed before, after and after two of what they ask."""
         answered, twice = 'REAL "$@" >/dev/null', 'cat >script; REAL "$@" <script >/dev/null; REAL "$@" <script >/dev/null'
         for act, out, why in (
             ("true", "labour: 20 left", "nothing is charged"),
@@ -467,7 +467,7 @@ class Typed:
             return ""
 
     def after(self, typed, awaited, seconds=30):
-        """Types, and gives what is written up to what is awaited; what came behind it is the next call's."""
+        """Types, and gives what is written up to what is awaited; what came after it is the next call's."""
         os.write(self.terminal, typed.encode())
         said = self.rest
         while awaited not in said:
@@ -628,7 +628,7 @@ class Terminals(unittest.TestCase):
             pass
 
     def test_interrupted(self):
-        """The first Ctrl-C waits for the answer, and gives up what is typed behind it."""
+        """The first Ctrl-C waits for the answer, and gives up what is typed after it."""
         with self.typed(program=self.slow()) as typed:
             typed.prompted()
             typed.prompted("\\e 0.1\r")
@@ -664,7 +664,7 @@ class Terminals(unittest.TestCase):
             self.assertIn("nothing more was asked", said)
 
     def test_interrupted_lines(self):
-        """Plain lines end by it, too, behind the answer."""
+        """Plain lines end by it, too, after the answer."""
         ran = started(self.place.folder, self.slow())
         ran.stdin.write(b"\\e 0.1\nsize persons;\nsize persons;\n")
         ran.stdin.flush()
@@ -691,7 +691,7 @@ class Terminals(unittest.TestCase):
             self.assertIn("number 1, ", typed.after("\\g\r", "19.8, eps 0.1> "))
 
     def test_lock_outlives(self):
-        """Who is killed while it asks leaves a run behind that still holds the lock."""
+        """Who is killed while it asks leaves a run that still holds the lock."""
         with self.typed(program=self.slow()) as typed:
             typed.prompted()
             typed.prompted("\\e 0.1\r")
@@ -739,7 +739,7 @@ class Candidates(unittest.TestCase):
 
 
 class Page(unittest.TestCase):
-    """The session in docs/client.md: what is behind a prompt is typed, and all else is what comes."""
+    """The session in docs/client.md: what is after a prompt is typed, and all else is what comes."""
 
     def test_session(self):
         session = re.search(r"^```session\n(.*?)^```$", text_of(PAGE), re.M | re.S)[1]
