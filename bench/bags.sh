@@ -1,5 +1,5 @@
 #!/usr/bin/env bash
-# Asks over a table of 2^20 rows, beside sqlite3's query for the same number on the same rows, in turn; and runs that are long or deep.
+# Asks over a table of 2^20 rows, next to sqlite3's query for the same number on the same rows, in turn; and runs that are long or deep.
 # usage: bench/bags.sh [ROUNDS]    (PROGRAM=FILE measures another build; BEFORE=FILE has a function that isn't flat beside that build's)
 # Bars: each ask takes less processor time than sqlite3's query, a third of it where a function runs in columns; those with a function of
 # numbers take at most 20 times what a plain C loop takes (bench/bags_loop.c), one whose function isn't flat at most 1.05 times what it took
@@ -103,7 +103,7 @@ beside() {
         "$(awk -v ours="$ours" -v theirs="$theirs" -v times="$4" 'BEGIN { print ours <= times * theirs ? "met, of the build before" : "MISSED" }')"
 }
 
-# row NAME EPSILON PROGRAM QUERY TIMES NANOSECONDS: a program beside a query, of which it may take so many times the time, and at
+# row NAME EPSILON PROGRAM QUERY TIMES NANOSECONDS: a program next to a query, of which it may take so many times the time, and at
 # most so many nanoseconds a row.
 row() {
     local round answer ours theirs
@@ -252,7 +252,7 @@ above "the same, row by row"
 over towns.json towns.csv "town text"
 row "size of a filter of texts" 0.1 'size (filter (fn (t : text) => t == "town 7") people)' "select count(*) from t where town = 'town 7'" 0.3333 0
 over both.json both.csv "town text, age integer"
-row "the same, beside a number" 0.1 'size (filter (fn (r : text * num) => let (t, n) = r in t == "town 7") people)' \
+row "the same, next to a number" 0.1 'size (filter (fn (r : text * num) => let (t, n) = r in t == "town 7") people)' \
     "select count(*) from t where town = 'town 7'" 0.3333 0
 long_run "$(turns)"
 ends "map to pairs 50 deep, 2 GB" cat.json -v 2097152 "size (map (fn (x : num) => $(pairs 50)) people)"

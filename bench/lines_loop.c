@@ -98,7 +98,7 @@ static void ask(const char *port, int count, const char *hello, const char *word
         size_t held = hear(link, said, sizeof said);
         took[i] = now() - before;
         if (memcmp(said, "answer ", 7) && (held != length || memcmp(said, line, length))) {
-            fprintf(stderr, "told %.*s", (int)held, said);
+            fprintf(stderr, "answered %.*s", (int)held, said);
             exit(1);
         }
     }

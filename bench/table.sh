@@ -1,5 +1,5 @@
 #!/usr/bin/env bash
-# Reads tables of 2^20 rows and answers ten asks, beside sqlite3's import of the same file, in turn.
+# Reads tables of 2^20 rows and answers ten asks, next to sqlite3's import of the same file, in turn.
 # usage: bench/table.sh [ROUNDS]    (PROGRAM=FILE measures another build)
 # Bars: of one column of numbers, a fifth of sqlite3's wall time; of four columns, two of them texts, a third; and a peak of at most 8
 # times the file and 64 MB. It ends with status 1 where one isn't met.
@@ -44,7 +44,7 @@ beside() {
     done
     echo "sqlite3 counts $(sqlite3 :memory: '.mode csv' ".import $3 t" 'select count(*) from t') rows; the replies, the same in each round:"
     afresh "$2" key <script | head -n 3
-    echo "median wall: $(median ours_wall) s beside sqlite3's $(median theirs_wall) s, bar $4 times faster"
+    echo "median wall: $(median ours_wall) s next to sqlite3's $(median theirs_wall) s, bar $4 times faster"
     echo "greatest peak: $worst KiB, bar $bar KiB"
     [ "$worst" -le "$bar" ] || { echo "over the memory bar"; passed=1; }
     awk -v ours="$(median ours_wall)" -v theirs="$(median theirs_wall)" -v times="$4" 'BEGIN { exit !(times * ours <= theirs) }' ||
