@@ -128,7 +128,7 @@ if command -v cc >/dev/null; then
     try tests/faults/failing_workers.py --quick
     try tests/faults/torn_writes.py 1
     PROGRAM=$program "$top/tests/faults/refused_memory.sh" >memory.said || passed=1
-    grep -c "want of memory" memory.said | sed 's/$/ refused allocations end with 7/' | tee said
+    grep -c "out of memory" memory.said | sed 's/$/ refused allocations end with 7/' | tee said
     counted tests/faults/refused_memory.sh said || passed=1
     grep WRONG memory.said && passed=1
 else

@@ -23,7 +23,7 @@ passed=0
 judge() {
     local verdict=WRONG
     case "$2/$3" in
-        7/memory | 7/) verdict="want of memory" ;;
+        7/memory | 7/) verdict="out of memory" ;;
         "0/$right") verdict="the right replies" ;;
         "0/$spared") verdict="the ask's refusal" ;;
         "0/$lost") verdict="lost once reserved" ;;

@@ -1,5 +1,5 @@
 #!/usr/bin/env python3
-"""Refuses allocation 1, 2, 3, .. of the test of want of memory in session_tests, alone and with all later ones.
+"""Refuses allocation 1, 2, 3, .. of the test of session_tests in which memory runs out, alone and with all later ones.
 
 usage: tests/faults/refused_sessions.py     (PROGRAM=FILE tries another build of the tests). Needs cc. `tests/faults/refused_memory.sh --sessions` calls it.
 The test judges its session itself: it ends unread, with nothing read or written and the passes as they were; or the replies are
