@@ -20,7 +20,6 @@ The test values of crates/hitchseason are written by this program. It shares not
 - A program is read and checked by programs.py, and run by runs.py; catalogs are read by catalog.py, tables by tables.py, and
   journals by journal.py.
 """
-import argparse
 import hashlib
 import sys
 from fractions import Fraction
@@ -32,6 +31,7 @@ from cryptography.hazmat.primitives.ciphers import Cipher, algorithms
 from catalog import catalog, census, owner, read
 from journal import MOST_BUDGET, VERSIONS, WHOLE, Book, Grant, Reservation, Settlement, books
 from lines import LINE_LIMIT, SCRIPT_LIMIT, amount_of, lines_of, millionths, whole_number
+from options import Parser
 from programs import Refused
 from runs import Run, asked, chain, judgement, unions, value
 from tables import cells, held, signature
@@ -596,7 +596,7 @@ def contents(name):
 
 
 def main():
-    words = argparse.ArgumentParser()
+    words = Parser()
     words.add_argument("--key")
     words.add_argument("--catalog")
     words.add_argument("--found")

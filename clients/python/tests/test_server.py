@@ -352,8 +352,8 @@ class Served(unittest.TestCase):
         asks = ("mia", "labour", "areas", "1", program)
         for tool, words, given in (("left", ("labour",), ""), ("askparts", asks, ""), ("shell", ("mia", "labour"), "\\b\n")):
             self.assertEqual(self.interrupted(Silent(), tool, *words, given=given), (130, "", f"tools/{tool}: given up; nothing was asked\n"))
-        # A `left`, a hello, 64 recalls, a `left` and a hello come before the line that asks.
-        status, out, err = self.interrupted(Silent(self.port, 68), "askparts", *asks)
+        # A hello, a `left` and a hello come before the line that asks: where there is no record nothing is recalled.
+        status, out, err = self.interrupted(Silent(self.port, 3), "askparts", *asks)
         self.assertEqual((status, out), (130, ""))
         self.assertTrue(err.startswith("tools/askparts: given up; what was asked may be answered and paid: "), err)
 
@@ -396,7 +396,7 @@ class Keeps(Between):
 
 
 class Says(Between):
-    """What listens is another program: it says the same to whatever comes, or one after the other, and how many lines came is counted."""
+    """What listens is another program: it says the same to whatever comes, one after the other, or what a function says of a line. What came is kept."""
 
     def __init__(self, said, port=0):
         self.said, self.lines = said, []
@@ -409,7 +409,12 @@ class Says(Between):
         with link, link.makefile("rb") as lines:
             for line in lines:
                 self.lines.append(line)
-                link.sendall(self.said if isinstance(self.said, bytes) else b"bye\n" if line == b"bye\n" else next(self.said))
+                link.sendall(self.said_to(line))
+
+    def said_to(self, line):
+        if callable(self.said):
+            return self.said(line)
+        return self.said if isinstance(self.said, bytes) else b"bye\n" if line == b"bye\n" else next(self.said)
 
 
 class OtherPrograms(unittest.TestCase):
@@ -469,21 +474,55 @@ class OtherPrograms(unittest.TestCase):
             self.assertTrue(str(fault).isprintable(), str(fault))
             self.assertLess(time.monotonic() - begun, 10)
 
-    def test_recalls_have_an_end(self):
-        """A server that recalls whatever is asked for is asked for no more numbers than there is room for, and a step of them."""
-        def replies():
-            yield b"left 0 20000000 9\n"
-            while True:
-                yield b"hello mia\n"
-                yield from (b"recall %d answer 5 9\n" % number for number in range(64))
-                yield b"left 0 20000000 %d\n" % 10**30
+    def recalled_by(self, records, call, budget=10**15):
+        """Which numbers are recalled, and how it ends, of a server that recalls whatever is asked for, ends a connection that asks, and has so many records
+        one after the other."""
+        records = iter(records)
+        told = [next(records)]
 
-        other = Says(replies())
-        with self.assertRaises(Failed) as caught:
-            connect("127.0.0.1", other.port, "mia", "labour", public=self.public).learn()
+        def reply(line):
+            word, *words = line.split()
+            if word == b"ask":
+                told[0] = next(records)
+                return b"door closed: the service ended\n"
+            if word == b"recall":
+                return b"recall %s answer 5 9\n" % words[1]
+            if word != b"left":
+                return line
+            if asked() and asked()[-1] not in seen:
+                seen.add(asked()[-1])
+                told[0] = next(records, told[0])
+            return b"left 0 %d %d\n" % (budget, told[0])
+
+        other, seen = Says(reply), set()
+        asked = lambda: [int(line.split()[2]) for line in other.lines if line.startswith(b"recall")]
+        client = connect("127.0.0.1", other.port, "mia", "labour", public=self.public)
+        try:
+            call(client)
+            said = f"next {client.next}"
+        except (Failed, Cut) as fault:
+            said = str(fault)
         other.close()
-        self.assertIn("more numbers are recalled than were reserved", str(caught.exception))
-        self.assertEqual(sum(line.startswith(b"recall") for line in other.lines), 64)
+        return asked(), said
+
+    def test_recalls_have_an_end(self):
+        """No number is asked for that can't be there, by the records that are told and by the room for them, which is 10. Of nine records five at least are of
+        numbers, where none is of a grant."""
+        more = "there are more records than there is room for: what answers is no hitchseason service, or its catalog is another."
+        learn = lambda client: client.learn()
+        for records, budget, recalled, said in (
+            ([0], 10**15, [], "next 0"),
+            ([9], 10**15, range(5, 9), "next 9"),
+            ([9, 10**30], 10**15, range(5, 10), more),
+            ([10], 10**15, range(5, 10), "next 10"),
+            ([10**30], 10**15, [], more),
+            ([3], 10**15 + 1, range(3), "next 3"),
+            ([10**30], 10**15 + 1, range(10), more),
+        ):
+            self.assertEqual(self.recalled_by(records, learn, budget), (list(recalled), said), records)
+        # Behind an ask that was cut.
+        recalled, said = self.recalled_by([0, 3], lambda client: client.count("persons", eps=1))
+        self.assertEqual((recalled, "Of 1 asks the analyst has 3 new reservations" in said), ([0, 1, 2], True), said)
 
     def test_noise_of_a_login(self):
         """What a login says on its standard error has no control characters when it is told."""
@@ -540,7 +579,7 @@ class OtherPrograms(unittest.TestCase):
 
     def test_hello_refused(self):
         """By another connection than the one by which the next number was learnt: nothing was asked, and the client goes on."""
-        replies = iter([b"left 0 20000000 0\n", b"hello mia\n", *[b"no 60 0 0\n"] * 64, b"left 0 20000000 0\n", b"no 12 1\n", b"left 0 20000000 0\n"])
+        replies = iter([b"hello mia\n", b"left 0 20000000 0\n", b"no 12 1\n", b"left 0 20000000 0\n"])
         other = Says(replies)
         client = connect("127.0.0.1", other.port, "mia", "labour", public=self.public)
         client.learn()
