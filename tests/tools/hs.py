@@ -52,7 +52,8 @@ HOSTILE = "no\udcff\x1b]0;x\x07\x9b31m\u202e\u2028such"
 CONTROLS = {*map(chr, (*range(9), *range(11, 32), *range(127, 160), 0x61C, 0x200E, 0x200F, *range(0x2028, 0x202F), *range(0x2066, 0x206A)))}
 # Arguments of tools, X being hostile and Q a program: names of files, of folders, of owners, and words that are none.
 NAMED = """
-explain X|explain X labour Q no|explain {c} X Q no|explain {c} labour X no|explain {c} labour Q X|explain --script X Q|explain --script {c} X|explain --script {c} Q X
+explain X|explain X labour Q no|explain {c} X Q no|explain {c} labour X no|explain {c} labour Q X
+explain --script X Q|explain --script {c} X|explain --script {c} Q X
 public X|public {c} X|public --json X|prepare X --guess x|prepare X --spec X|prepare {c} --spec X|prepare {c} --guess X/x|prepare {c} --X
 find_fault X|find_fault {c} X|walks X labour Q|walks {c} X Q|walks {c} labour X|walks --X
 forecast X labour 1 Q|forecast {f} X 1 Q|forecast {f} labour X Q|forecast {f} labour 1 X|forecast {f} labour 1 Q X|forecast {f} labour 1 Q --public X

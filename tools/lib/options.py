@@ -1,5 +1,4 @@
-"""Options of commands, as argparse reads them: what is said of a wrong one has no control characters of it. It imports nothing else, since tools/door
-shall begin fast."""
+"""Options of commands, as argparse reads them: what is said of a wrong one has no control characters of it."""
 import argparse
 
 
