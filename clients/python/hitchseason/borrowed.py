@@ -52,4 +52,6 @@ finally:
         sys.modules.pop(name, None)
     sys.modules.update(others)
 
-__all__ = ["TOOLS", "TOP", "explain", "lines", "meanings", "name_hints", "names", "options", "program_parts", "programs", "public", "runs", "sql_words", "tables"]
+__all__ = [
+    "TOOLS", "TOP", "explain", "lines", "meanings", "name_hints", "names", "options", "program_parts", "programs", "public", "runs", "sql_words", "tables",
+]  # fmt: skip

@@ -30,8 +30,8 @@ def has_serve():
 
 
 class Proxy(Between):
-    """Hands bytes through, and cuts a connection where it is told: before a line that asks, behind it, within it, or behind its reply; of lines that ask
-    it lets so many through before."""
+    """Hands bytes through, and cuts a connection where it is told: before a line that asks, behind it, within it, or behind its reply; of lines that
+    ask it lets so many through before."""
 
     def __init__(self, port):
         self.cut, self.through, self.connections = None, 0, 0
@@ -53,21 +53,43 @@ class Proxy(Between):
                 mode = self.cut if line.startswith(b"ask") and self.through == 0 else None
                 self.through -= self.through > 0 and line.startswith(b"ask")
                 self.cut = None if mode else self.cut
-                if mode == "before":
-                    return
-                if mode == "within":
-                    to.sendall(line.rpartition(b" + ")[0])
-                    return
-                to.sendall(line)
-                if mode == "behind":
-                    return
-                reply = replies.readline()
-                if mode == "answered":
+                if mode != "before":
+                    to.sendall(line.rpartition(b" + ")[0] if mode == "within" else line)
+                reply = replies.readline() if mode in ("answered", None) else b""
+                if mode:
                     # A reset would take away replies that weren't read yet, where lines are still being sent.
                     link.shutdown(socket.SHUT_WR)
                     lines.read()
                     return
                 link.sendall(reply)
+
+
+class Hears(io.StringIO):
+    """Standard error: behind the first that is said something is done."""
+
+    def __init__(self, call):
+        self.call = call
+        super().__init__()
+
+    def write(self, text):
+        super().write(text)
+        call, self.call = self.call, lambda: None
+        call()
+
+
+class Clock:
+    """In the place of time: it goes by what is slept alone, and does something at a time."""
+
+    def __init__(self, at, call):
+        self.now, self.at, self.call = 0.0, at, call
+
+    def monotonic(self):
+        return self.now
+
+    def sleep(self, seconds):
+        before, self.now = self.now, self.now + seconds
+        if self.at is not None and before < self.at <= self.now:
+            self.call()
 
 
 class Silent(Between):
@@ -254,7 +276,7 @@ class Served(unittest.TestCase):
         """The worker serves another connection: that is said once, and past the limit nothing was asked. What was cut meanwhile is known later."""
         told, server.TOLD_AFTER = server.TOLD_AFTER, 0.2
         self.addCleanup(setattr, server, "TOLD_AFTER", told)
-        for wait, said in ((0.5, f"port {self.port} serves another connection; waiting\n"), (0.1, "")):
+        for wait, said in ((3, f"port {self.port} serves another connection; waiting\n"), (0.1, "")):
             client = connect("127.0.0.1", self.port, "mia", "labour", public=self.public, wait=wait)
             with socket.create_connection(("127.0.0.1", self.port)) as other, other.makefile("rb") as replies:
                 other.sendall(b"hello tom\n")
@@ -269,8 +291,7 @@ class Served(unittest.TestCase):
                 other = socket.create_connection(("127.0.0.1", self.port))
                 other.sendall(b"hello tom\n")
                 other.recv(100)
-                threading.Timer(0.5, other.close).start()
-                with redirect_stderr(io.StringIO()) as stderr:
+                with redirect_stderr(Hears(other.close)) as stderr:
                     before = patient.left().records
                 self.assertEqual((stderr.getvalue(), before), (f"port {self.port} serves another connection; waiting\n", 0))
 
@@ -536,35 +557,31 @@ class OtherPrograms(unittest.TestCase):
 
     def test_waiting(self):
         """A service that isn't there: that it is waited for is told once, after a second, and not where it comes before."""
-        port, patience = free_ports(1), server.PATIENCE
+        kept = server.PATIENCE, server.time
+        self.addCleanup(lambda: (setattr(server, "PATIENCE", kept[0]), setattr(server, "time", kept[1])))
         server.PATIENCE = 2.5
-        try:
-            for ready, told in ((None, True), (1.8, True), (0.3, False)):
-                late = threading.Timer(ready or 0, lambda: others.append(Says(b"left 0 20000000 0\n", port)))
-                others, said, begun = [], io.StringIO(), time.monotonic()
+        for ready, told in ((None, True), (1.8, True), (0.3, False)):
+            port, others, said = free_ports(1), [], io.StringIO()
+            server.time = Clock(ready, lambda port=port, others=others: others.append(Says(b"left 0 20000000 0\n", port)))
+            client = connect("127.0.0.1", port, "mia", "labour", public=self.public)
+            with redirect_stderr(said):
                 if ready:
-                    late.start()
-                with redirect_stderr(said):
-                    client = connect("127.0.0.1", port, "mia", "labour", public=self.public)
-                    if ready:
-                        self.assertEqual(client.left().records, 0)
-                    else:
-                        with self.assertRaises(Failed) as caught:
-                            client.left()
-                        self.assertIn(f"127.0.0.1, port {port}, can't be reached", str(caught.exception))
-                        self.assertGreater(time.monotonic() - begun, 2.5)
-                self.assertEqual(said.getvalue(), f"waiting for 127.0.0.1, port {port}, up to 2.5 s\n" if told else "")
-                for other in others:
-                    other.close()
-        finally:
-            server.PATIENCE = patience
+                    self.assertEqual(client.left().records, 0)
+                else:
+                    with self.assertRaises(Failed) as caught:
+                        client.left()
+                    self.assertIn(f"127.0.0.1, port {port}, can't be reached", str(caught.exception))
+                    self.assertGreater(server.time.now, 2.5)
+            self.assertEqual(said.getvalue(), f"waiting for 127.0.0.1, port {port}, up to 2.5 s\n" if told else "")
+            for other in others:
+                other.close()
 
     def test_ends_behind_another(self):
         """A service ends while it serves another connection, which took longer than one that isn't there is waited for: it is waited for from there on."""
         kept = server.PATIENCE, server.TOLD_AFTER
         self.addCleanup(lambda: (setattr(server, "PATIENCE", kept[0]), setattr(server, "TOLD_AFTER", kept[1])))
-        server.PATIENCE, server.TOLD_AFTER = 1, 0.2
-        for keeps, answers in ((1.5, True), (0, False)):
+        server.PATIENCE = 1
+        for keeps, answers, server.TOLD_AFTER in ((1.5, True, 0.2), (0, False, kept[1])):
             other = Keeps(keeps, b"left 0 20000000 0\n" if answers else None)
             client = connect("127.0.0.1", other.port, "mia", "labour", public=self.public)
             said = io.StringIO()
