@@ -115,6 +115,9 @@ def tried(raw, room):
     user.type(prepare, own, 1)
     user.type(user.proposed("row out"), own)
     user.type(rows.replace("=N", f"={ROWS}"), own)
+    if "raw.spec is as before: with --save" not in user.type("../tools/prepare raw.csv --spec raw.spec --set catalog.capacity=9", own):
+        raise AssertionError(f"nothing says that a flag holds once:\n{user.said}")
+    user.type("../tools/prepare raw.csv --save --set catalog.capacity=9", own, 2)
     user.type(prepare, own)
     user.type(each, own)
     user.type("../tools/prepare raw.csv --spec raw.spec.persons", own, 1)
