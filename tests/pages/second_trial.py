@@ -136,8 +136,9 @@ def tried(raw, room):
     # Keys stand in the order of their texts, the one of missing cells last.
     pairs = [(answer, raw.rows), (persons, PERSONS), (unknown, 0), *zip(sorted(towns), sorted(raw.towns.values()))]
     off = [pair for pair in pairs if abs(pair[0] - pair[1]) > MARGIN]
-    bars = drawn.count("<title>") or drawn.count("<path") + drawn.count("<line")
-    if off or len(towns) != len(raw.towns) or bars < len(towns):
+    # An error bar is a line with two ends.
+    bars = drawn.count("<line") // 3
+    if off or len(towns) != len(raw.towns) or bars <= len(towns):
         raise AssertionError(f"answers and what the raw file has: {pairs}; {bars} bars")
     if user.read > WORDS or first > SECONDS:
         raise AssertionError(f"{user.read} words were to be read, and the first answer came after {first:.0f} s")
