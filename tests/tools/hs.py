@@ -4,6 +4,7 @@
 usage: tests/tools/hs.py    (PROGRAM=FILE tries another build than tools/build's)
 It ends with status 1 where one differs.
 """
+import concurrent.futures
 import os
 import re
 import subprocess
@@ -46,13 +47,31 @@ PROGRAMS = [
     ("size persons * 2", 1, "no 21 2\n", "write `2 * size persons`"),
 ]
 
+# What a terminal takes for a command, or for the order of what is written; and a byte that is none of UTF-8's.
+HOSTILE = "no\udcff\x1b]0;x\x07\x9b31m\u202e\u2028such"
+CONTROLS = {*map(chr, (*range(9), *range(11, 32), *range(127, 160), 0x61C, 0x200E, 0x200F, *range(0x2028, 0x202F), *range(0x2066, 0x206A)))}
+# Arguments of tools, X being hostile and Q a program: names of files, of folders, of owners, and words that are none.
+NAMED = """
+explain X|explain X labour Q no|explain {c} X Q no|explain {c} labour X no|explain {c} labour Q X
+explain --script X Q|explain --script {c} X|explain --script {c} Q X
+public X|public {c} X|public --json X|prepare X --guess x|prepare X --spec X|prepare {c} --spec X|prepare {c} --guess X/x|prepare {c} --X
+find_fault X|find_fault {c} X|walks X labour Q|walks {c} X Q|walks {c} labour X|walks --X
+forecast X labour 1 Q|forecast {f} X 1 Q|forecast {f} labour X Q|forecast {f} labour 1 X|forecast {f} labour 1 Q X|forecast {f} labour 1 Q --public X
+ask {c} {k} X labour 1 Q|ask {c} {k} mia X 1 Q|ask {c} {k} mia labour X Q|ask {c} {k} mia labour 1 X|ask {c} {k} mia labour 1 Q X X
+shell X mia labour|shell {f} X labour|shell {f} mia X|askparts {f} mia labour X 1 Q|askparts {f} mia labour areas 1 X
+left X labour|left {f} X|left ssh://X labour|left h:1 labour --public X|plot X|plot histogram X|plot --X
+door X 7000 1|door mia X 1|door mia 7000 1 --catalog X|door mia 7000 1 X|snapshot X copies|snapshot Q copies|watch X copies|watch Q X|watch --X
+why run X {k}|why run {c} X|why X|why check {c} X Q|why check {c} labour X|why serve {c} {k} --port X --each 1|why grant {c} {k} X 1|why gap {c} labour X Q
+reference.py X {k}|reference.py {c} X|journal.py X {k}|journal.py {c} X|hs X|hs check X labour Q|hs check {c} X Q|hs check {c} labour X
+"""
+
 
 class Trial:
     def __init__(self, room):
         self.room, self.tried, self.differences = room, 0, 0
 
-    def called(self, tool, *words):
-        return subprocess.run([f"{TOP}/tools/{tool}", *words], cwd=TOP, capture_output=True, text=True, stdin=subprocess.DEVNULL)
+    def called(self, tool, *words, text=True):
+        return subprocess.run([f"{TOP}/tools/{tool}", *words], cwd=TOP, capture_output=True, text=text, stdin=subprocess.DEVNULL)
 
     def holds(self, what, holds, found):
         self.tried += 1
@@ -106,6 +125,19 @@ class Trial:
             ran = self.called(*words)
             self.holds(words[0], ran.returncode == 1 and "has no column `aeg`: is `age` meant?" in ran.stdout + ran.stderr, f"{ran.stdout}{ran.stderr}")
 
+    def hostile(self):
+        """Whatever a file or another argument is called, nothing of it goes on to the terminal. What the program says on standard output is its own."""
+        program = self.program("size persons")
+        calls = [call.split() for call in NAMED.format(c=CATALOG, k=KEY, f=os.path.dirname(CATALOG)).replace("\n", "|").strip("|").split("|")]
+        tried = [(word, [program if one == "Q" else one.replace("X", HOSTILE) for one in words]) for word, *words in calls]
+        with concurrent.futures.ThreadPoolExecutor(4) as pool:
+            came = pool.map(lambda call: self.called(call[0], *map(os.fsencode, call[1]), text=False), tried)
+        for (word, words), ran in zip(tried, came):
+            of_program = word in ("why", "ask", "hs")
+            lines = [line for line in ran.stdout.split(b"\n") if not (of_program and line.startswith(b"refused "))]
+            said = b"\n".join([*lines, ran.stderr]).decode(errors="replace")
+            self.holds((word, words), ran.returncode != 0 and said.strip() and not CONTROLS & {*said} and "Traceback" not in said, (ran.returncode, said))
+
     def deep(self):
         """A walk within walks is marked where it is written."""
         text = "let n = fn (q : row persons) =>\n  size (filter (fn (p : row persons) => p.age <= q.age) persons) in\n"
@@ -122,7 +154,7 @@ def main():
     os.environ["PROGRAM"] = os.path.abspath(os.environ["PROGRAM"])
     with tempfile.TemporaryDirectory() as room:
         trial = Trial(room)
-        for call in (trial.lists, trial.calls, trial.helps, trial.names, trial.deep):
+        for call in (trial.lists, trial.calls, trial.helps, trial.names, trial.hostile, trial.deep):
             call()
     print(f"{trial.tried} calls of tools/hs and of programs with names, {trial.differences} differences")
     return 1 if trial.differences else 0

@@ -258,7 +258,7 @@ def proposals(found):
     return [
         f"WARNING: {name} looks like a key of persons: {values} values in {rows} rows. The promise speaks of rows: a person with several is several rows apart",
         "If a row is about whom it names, say how many rows a person may have (N, known of such tables and not taken from this one), or make one row a person:",
-        f"    tools/prepare RAW --spec SPEC --set person.column={name} --set person.rows=N",
+        f"    tools/prepare RAW --spec SPEC --set person.column={name} --set person.rows=N --save",
         f"    tools/prepare RAW --guess SPEC.persons --set person.column={name} --set table.per=person --set table.name=persons --set table.file={file}",
         *([f"Such keys may be {', '.join(others)}, too"] if others else []),
     ]

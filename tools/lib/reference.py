@@ -19,7 +19,6 @@ The test values of crates/hitchseason are written by this program. It shares not
 - A program is read and checked by programs.py, and run by runs.py; catalogs are read by catalog.py, tables by tables.py, and
   journals by journal.py.
 """
-import argparse
 import hashlib
 import sys
 from fractions import Fraction
@@ -32,6 +31,7 @@ from bounds import DRAW_LIMIT, LINE_LIMIT, MOST_BUDGET, SCRIPT_LIMIT
 from catalog import catalog, census, owner, read
 from journal import VERSIONS, WHOLE, Book, Grant, Reservation, Settlement, books
 from lines import amount_of, lines_of, millionths, whole_number
+from options import Parser
 from programs import Refused
 from runs import Run, asked, chain, judgement, unions, value
 from tables import cells, held, signature
@@ -595,7 +595,7 @@ def contents(name):
 
 
 def main():
-    words = argparse.ArgumentParser()
+    words = Parser()
     words.add_argument("--key")
     words.add_argument("--catalog")
     words.add_argument("--found")

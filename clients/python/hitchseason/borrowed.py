@@ -38,6 +38,7 @@ try:
     import meanings
     import name_hints
     import names
+    import options
     import program_parts
     import programs
     import runs
@@ -52,4 +53,6 @@ finally:
         sys.modules.pop(name, None)
     sys.modules.update(others)
 
-__all__ = ["TOOLS", "TOP", "bounds", "explain", "lines", "meanings", "name_hints", "names", "program_parts", "programs", "public", "runs", "sql_words", "tables"]
+__all__ = [
+    "TOOLS", "TOP", "bounds", "explain", "lines", "meanings", "name_hints", "names", "options", "program_parts", "programs", "public", "runs", "sql_words", "tables",
+]  # fmt: skip

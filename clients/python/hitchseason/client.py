@@ -273,40 +273,54 @@ class Client:
 
     def learn(self):
         """The next number."""
-        self.next, _, self.before = unasked(lambda: self.numbers_from(self.reserved(self.left())))
+        left = unasked(self.left_of_analyst)
+        self.next, _, self.before = unasked(lambda: self.numbers_from(self.reserved(left), left))
 
     def reserved(self, left):
         """How many numbers there are at least. Each has one record or two, and all records are theirs but those of grants; where the owner has granted
         something the numbers are tried, since those that are there are the first ones."""
-        least, most = least_of(left, self.view.entry), left.records
+        least, most = least_of(left, self.view.entry), self.room(left)
         while left.budget > self.view.entry["budget"] and most - least > RECALLS:
             tried = range(least, most, -(-(most - least) // RECALLS))
-            replies = self.transport.replies([self.hello(), *(f"recall {self.view.name} {number}" for number in tried), f"left {self.view.name}"])
-            gone = [number for number, reply in zip(tried, replies[1:]) if reply.startswith("no 60 ")]
+            gone = [number for number, words in zip(tried, self.recalls(tried)) if words[:2] == ["no", "60"]]
             least, most = max([least, *(number + 1 for number in tried if number not in gone)]), min([most, *gone])
         return least
 
-    def numbers_from(self, first):
-        """The next number, those of the analyst from the first on with what `recall` says of each, and what is left."""
+    def room(self, left):
+        """How many numbers there are at most: each has a record, and a journal has room for so many."""
+        return min(left.records, self.view.entry["capacity"])
+
+    def numbers_from(self, first, left):
+        """The next number, those of the analyst from the first on with what `recall` says of each, and what is left. None is asked for that, by what was
+        left at last, can't be there."""
         found, at = [], first
-        while True:
-            asked = [self.hello(), *(f"recall {self.view.name} {number}" for number in range(at, at + RECALLS)), f"left {self.view.name}"]
-            replies = [reply.split(" ") for reply in self.transport.replies(asked)]
-            if replies[0] != asked[0].split(" "):
-                said = " ".join(replies[0])
-                raise Refused(f"{said}: nothing was asked.", said)
-            for number, words in enumerate(replies[1:-1], at):
-                must_be_reply(" ".join(words))
+        while at < self.room(left):
+            numbers = range(at, min(at + RECALLS, self.room(left)))
+            for number, words in zip(numbers, replies := self.recalls(numbers)):
                 if words[:2] == ["no", "60"]:
                     return number, found, self.left_of(" ".join(replies[-1]))
                 if words[0] == "recall":
                     found.append((number, words[2:-1]))
                 elif words[:2] != ["no", "61"]:
                     raise Failed(f"`{' '.join(words)}` is no reply to a recall.", " ".join(words))
-            at += RECALLS
-            # Each number has a record at least, and there is room for so many.
-            if at > min(self.left_of(" ".join(replies[-1])).records, self.view.entry["capacity"]):
-                raise Failed("more numbers are recalled than were reserved: what answers is no hitchseason service, or its catalog is another.")
+            at, left = numbers.stop, self.left_of(" ".join(replies[-1]))
+        if left.records > self.room(left):
+            raise Failed("there are more records than there is room for: what answers is no hitchseason service, or its catalog is another.")
+        return at, found, left
+
+    def left_of_analyst(self):
+        """What is left, if the analyst is one."""
+        return self.left_of(" ".join(self.recalls(())[-1]))
+
+    def recalls(self, numbers):
+        """The words of the replies to a recall of each number, and to a `left` behind them."""
+        hello = self.hello()
+        replies = self.transport.replies([hello, *(f"recall {self.view.name} {number}" for number in numbers), f"left {self.view.name}"])
+        if replies[0] != hello:
+            raise Refused(f"{replies[0]}: nothing was asked.", replies[0])
+        for reply in replies[1:-1]:
+            must_be_reply(reply)
+        return [reply.split(" ") for reply in replies[1:]]
 
     def recover(self, why=""):
         """What came of the asks of a run that was cut: the replies that were heard, and after them `recall`, which costs nothing. Their answers, where the
@@ -316,7 +330,7 @@ class Client:
         pending = self.pending
         heard, rest = pending.heard, pending.rest()
         try:
-            after, found, left = self.numbers_from(pending.behind())
+            after, found, left = self.numbers_from(pending.behind(), self.left_of_analyst())
         except (Stopped, Failed) as fault:
             fault = str(fault).removesuffix(" Nothing was asked.").removesuffix(".")
             if not rest:

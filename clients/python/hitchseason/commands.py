@@ -8,8 +8,10 @@ import sys
 
 from . import grids, noise, pictures
 from .answers import PERCENTS, Groups, for_person, laid_out, numbers_said, units
+from .borrowed import options
 from .client import connect
 from .faults import Fault
+from .told import harmless
 from .transport import Waited
 
 FOLDER = ("public", "program", "catalog", "key")
@@ -58,7 +60,7 @@ def run(name, call, parser, words):
 
 def failed(name, why, status):
     """Says why, after what was said before. What can't be written is let go, so that Python doesn't try it once more at its end."""
-    for file, said in ((sys.stdout, ""), (sys.stderr, f"tools/{name}: {why}\n")):
+    for file, said in ((sys.stdout, ""), (sys.stderr, harmless(f"tools/{name}: {why}\n"))):
         try:
             if file:
                 file.write(said)
@@ -73,7 +75,7 @@ class Interrupted(KeyboardInterrupt):
 
 
 def parser_of(name, doc):
-    return argparse.ArgumentParser(prog=f"tools/{name}", description=doc, formatter_class=argparse.RawDescriptionHelpFormatter)
+    return options.Parser(prog=f"tools/{name}", description=doc, formatter_class=argparse.RawDescriptionHelpFormatter)
 
 
 # A program of each part.

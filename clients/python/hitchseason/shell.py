@@ -487,7 +487,7 @@ def shell(words, doc):
 def fail(why):
     try:
         if sys.stderr:
-            print(f"tools/shell: {why}", file=sys.stderr, flush=True)
+            print(harmless(f"tools/shell: {why}"), file=sys.stderr, flush=True)
     except OSError:
         pass
     return 1

@@ -262,13 +262,16 @@ class Connections(unittest.TestCase):
 
 
 class Told:
-    """A transport that has its replies written down: a list of replies, or what is raised, an exchange."""
+    """A transport that has its replies written down: a list of replies, or what is raised, an exchange. A hello and a `left`, before recalls, are none, unless
+    they fail: they say that there are more records than are recalled."""
 
     def __init__(self, *exchanges):
         self.exchanges, self.asked = list(exchanges), []
 
     def replies(self, lines):
         self.asked.append(lines)
+        if len(lines) == 2 and not isinstance(self.exchanges[0], Exception):
+            return [lines[0], "left 1000000 20000000 40"]
         said = self.exchanges.pop(0)
         if isinstance(said, Exception):
             raise said
@@ -334,7 +337,7 @@ class Servers(unittest.TestCase):
         mean = call()
         self.assertEqual((mean.value, mean.numbers, mean.taken, client.next), (44, [3, 4], None, 5))
         self.assertEqual([answer.recalled for answer in mean.answers], [False, True])
-        self.assertEqual([line for line in client.transport.asked[2] if "recall" in line][0], "recall labour 4")
+        self.assertEqual([line for line in client.transport.asked[3] if "recall" in line][0], "recall labour 4")
         # Both were heard, and the line after them wasn't; whether a recall is answered or not.
         heard = [HELLO, "answer 3 -60 500000", "answer 5 10 500000"]
         for recall, spent in (([HELLO], 10**6), (Stopped("cut"), None)):
@@ -396,6 +399,7 @@ class Servers(unittest.TestCase):
         """Of some records many are grants, and the rest of numbers with two: the next number is found, by few runs, whoever made them."""
         for numbers, grants in ((0, 0), (7, 0), (0, 1), (1, 1), (2, 300), (100, 5000), (131_000, 1), (0, 262_144), (65_000, 100_000)):
             client = self.client()
+            client.view.entry["capacity"] = 2**20
             client.transport = Granted(numbers, grants, client.view.entry)
             client.next = None
             client.learn()

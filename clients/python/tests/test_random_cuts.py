@@ -195,7 +195,7 @@ class RandomCuts(unittest.TestCase):
 
             def heard(lines):
                 """Once the ask is out, the next connection is late."""
-                client.transport.opened = between if any(line.startswith("recall") for line in lines) else opened
+                client.transport.opened = opened if any(line.startswith("ask") for line in lines) else between
                 return said(lines)
 
             client.transport.heard = heard

@@ -30,8 +30,8 @@ def has_serve():
 
 
 class Proxy(Between):
-    """Hands bytes through, and cuts a connection where it is told: before a line that asks, behind it, within it, or behind its reply; of lines that ask
-    it lets so many through before."""
+    """Hands bytes through, and cuts a connection where it is told: before a line that asks, behind it, within it, or behind its reply; of lines that
+    ask it lets so many through before."""
 
     def __init__(self, port):
         self.cut, self.through, self.connections = None, 0, 0
@@ -53,21 +53,43 @@ class Proxy(Between):
                 mode = self.cut if line.startswith(b"ask") and self.through == 0 else None
                 self.through -= self.through > 0 and line.startswith(b"ask")
                 self.cut = None if mode else self.cut
-                if mode == "before":
-                    return
-                if mode == "within":
-                    to.sendall(line.rpartition(b" + ")[0])
-                    return
-                to.sendall(line)
-                if mode == "behind":
-                    return
-                reply = replies.readline()
-                if mode == "answered":
+                if mode != "before":
+                    to.sendall(line.rpartition(b" + ")[0] if mode == "within" else line)
+                reply = replies.readline() if mode in ("answered", None) else b""
+                if mode:
                     # A reset would take away replies that weren't read yet, where lines are still being sent.
                     link.shutdown(socket.SHUT_WR)
                     lines.read()
                     return
                 link.sendall(reply)
+
+
+class Hears(io.StringIO):
+    """Standard error: behind the first that is said something is done."""
+
+    def __init__(self, call):
+        self.call = call
+        super().__init__()
+
+    def write(self, text):
+        super().write(text)
+        call, self.call = self.call, lambda: None
+        call()
+
+
+class Clock:
+    """In the place of time: it goes by what is slept alone, and does something at a time."""
+
+    def __init__(self, at, call):
+        self.now, self.at, self.call = 0.0, at, call
+
+    def monotonic(self):
+        return self.now
+
+    def sleep(self, seconds):
+        before, self.now = self.now, self.now + seconds
+        if self.at is not None and before < self.at <= self.now:
+            self.call()
 
 
 class Silent(Between):
@@ -254,7 +276,7 @@ class Served(unittest.TestCase):
         """The worker serves another connection: that is said once, and past the limit nothing was asked. What was cut meanwhile is known later."""
         told, server.TOLD_AFTER = server.TOLD_AFTER, 0.2
         self.addCleanup(setattr, server, "TOLD_AFTER", told)
-        for wait, said in ((0.5, f"port {self.port} serves another connection; waiting\n"), (0.1, "")):
+        for wait, said in ((3, f"port {self.port} serves another connection; waiting\n"), (0.1, "")):
             client = connect("127.0.0.1", self.port, "mia", "labour", public=self.public, wait=wait)
             with socket.create_connection(("127.0.0.1", self.port)) as other, other.makefile("rb") as replies:
                 other.sendall(b"hello tom\n")
@@ -269,8 +291,7 @@ class Served(unittest.TestCase):
                 other = socket.create_connection(("127.0.0.1", self.port))
                 other.sendall(b"hello tom\n")
                 other.recv(100)
-                threading.Timer(0.5, other.close).start()
-                with redirect_stderr(io.StringIO()) as stderr:
+                with redirect_stderr(Hears(other.close)) as stderr:
                     before = patient.left().records
                 self.assertEqual((stderr.getvalue(), before), (f"port {self.port} serves another connection; waiting\n", 0))
 
@@ -352,8 +373,8 @@ class Served(unittest.TestCase):
         asks = ("mia", "labour", "areas", "1", program)
         for tool, words, given in (("left", ("labour",), ""), ("askparts", asks, ""), ("shell", ("mia", "labour"), "\\b\n")):
             self.assertEqual(self.interrupted(Silent(), tool, *words, given=given), (130, "", f"tools/{tool}: given up; nothing was asked\n"))
-        # A `left`, a hello, 64 recalls, a `left` and a hello come before the line that asks.
-        status, out, err = self.interrupted(Silent(self.port, 68), "askparts", *asks)
+        # A hello, a `left` and a hello come before the line that asks: where there is no record nothing is recalled.
+        status, out, err = self.interrupted(Silent(self.port, 3), "askparts", *asks)
         self.assertEqual((status, out), (130, ""))
         self.assertTrue(err.startswith("tools/askparts: given up; what was asked may be answered and paid: "), err)
 
@@ -396,7 +417,7 @@ class Keeps(Between):
 
 
 class Says(Between):
-    """What listens is another program: it says the same to whatever comes, or one after the other, and how many lines came is counted."""
+    """What listens is another program: it says the same to whatever comes, one after the other, or what a function says of a line. What came is kept."""
 
     def __init__(self, said, port=0):
         self.said, self.lines = said, []
@@ -409,7 +430,12 @@ class Says(Between):
         with link, link.makefile("rb") as lines:
             for line in lines:
                 self.lines.append(line)
-                link.sendall(self.said if isinstance(self.said, bytes) else b"bye\n" if line == b"bye\n" else next(self.said))
+                link.sendall(self.said_to(line))
+
+    def said_to(self, line):
+        if callable(self.said):
+            return self.said(line)
+        return self.said if isinstance(self.said, bytes) else b"bye\n" if line == b"bye\n" else next(self.said)
 
 
 class OtherPrograms(unittest.TestCase):
@@ -469,21 +495,55 @@ class OtherPrograms(unittest.TestCase):
             self.assertTrue(str(fault).isprintable(), str(fault))
             self.assertLess(time.monotonic() - begun, 10)
 
-    def test_recalls_have_an_end(self):
-        """A server that recalls whatever is asked for is asked for no more numbers than there is room for, and a step of them."""
-        def replies():
-            yield b"left 0 20000000 9\n"
-            while True:
-                yield b"hello mia\n"
-                yield from (b"recall %d answer 5 9\n" % number for number in range(64))
-                yield b"left 0 20000000 %d\n" % 10**30
+    def recalled_by(self, records, call, budget=10**15):
+        """Which numbers are recalled, and how it ends, of a server that recalls whatever is asked for, ends a connection that asks, and has so many records
+        one after the other."""
+        records = iter(records)
+        told = [next(records)]
 
-        other = Says(replies())
-        with self.assertRaises(Failed) as caught:
-            connect("127.0.0.1", other.port, "mia", "labour", public=self.public).learn()
+        def reply(line):
+            word, *words = line.split()
+            if word == b"ask":
+                told[0] = next(records)
+                return b"door closed: the service ended\n"
+            if word == b"recall":
+                return b"recall %s answer 5 9\n" % words[1]
+            if word != b"left":
+                return line
+            if asked() and asked()[-1] not in seen:
+                seen.add(asked()[-1])
+                told[0] = next(records, told[0])
+            return b"left 0 %d %d\n" % (budget, told[0])
+
+        other, seen = Says(reply), set()
+        asked = lambda: [int(line.split()[2]) for line in other.lines if line.startswith(b"recall")]
+        client = connect("127.0.0.1", other.port, "mia", "labour", public=self.public)
+        try:
+            call(client)
+            said = f"next {client.next}"
+        except (Failed, Cut) as fault:
+            said = str(fault)
         other.close()
-        self.assertIn("more numbers are recalled than were reserved", str(caught.exception))
-        self.assertEqual(sum(line.startswith(b"recall") for line in other.lines), 64)
+        return asked(), said
+
+    def test_recalls_have_an_end(self):
+        """No number is asked for that can't be there, by the records that are told and by the room for them, which is 10. Of nine records five at least are of
+        numbers, where none is of a grant."""
+        more = "there are more records than there is room for: what answers is no hitchseason service, or its catalog is another."
+        learn = lambda client: client.learn()
+        for records, budget, recalled, said in (
+            ([0], 10**15, [], "next 0"),
+            ([9], 10**15, range(5, 9), "next 9"),
+            ([9, 10**30], 10**15, range(5, 10), more),
+            ([10], 10**15, range(5, 10), "next 10"),
+            ([10**30], 10**15, [], more),
+            ([3], 10**15 + 1, range(3), "next 3"),
+            ([10**30], 10**15 + 1, range(10), more),
+        ):
+            self.assertEqual(self.recalled_by(records, learn, budget), (list(recalled), said), records)
+        # Behind an ask that was cut.
+        recalled, said = self.recalled_by([0, 3], lambda client: client.count("persons", eps=1))
+        self.assertEqual((recalled, "Of 1 asks the analyst has 3 new reservations" in said), ([0, 1, 2], True), said)
 
     def test_noise_of_a_login(self):
         """What a login says on its standard error has no control characters when it is told."""
@@ -497,35 +557,31 @@ class OtherPrograms(unittest.TestCase):
 
     def test_waiting(self):
         """A service that isn't there: that it is waited for is told once, after a second, and not where it comes before."""
-        port, patience = free_ports(1), server.PATIENCE
+        kept = server.PATIENCE, server.time
+        self.addCleanup(lambda: (setattr(server, "PATIENCE", kept[0]), setattr(server, "time", kept[1])))
         server.PATIENCE = 2.5
-        try:
-            for ready, told in ((None, True), (1.8, True), (0.3, False)):
-                late = threading.Timer(ready or 0, lambda: others.append(Says(b"left 0 20000000 0\n", port)))
-                others, said, begun = [], io.StringIO(), time.monotonic()
+        for ready, told in ((None, True), (1.8, True), (0.3, False)):
+            port, others, said = free_ports(1), [], io.StringIO()
+            server.time = Clock(ready, lambda port=port, others=others: others.append(Says(b"left 0 20000000 0\n", port)))
+            client = connect("127.0.0.1", port, "mia", "labour", public=self.public)
+            with redirect_stderr(said):
                 if ready:
-                    late.start()
-                with redirect_stderr(said):
-                    client = connect("127.0.0.1", port, "mia", "labour", public=self.public)
-                    if ready:
-                        self.assertEqual(client.left().records, 0)
-                    else:
-                        with self.assertRaises(Failed) as caught:
-                            client.left()
-                        self.assertIn(f"127.0.0.1, port {port}, can't be reached", str(caught.exception))
-                        self.assertGreater(time.monotonic() - begun, 2.5)
-                self.assertEqual(said.getvalue(), f"waiting for 127.0.0.1, port {port}, up to 2.5 s\n" if told else "")
-                for other in others:
-                    other.close()
-        finally:
-            server.PATIENCE = patience
+                    self.assertEqual(client.left().records, 0)
+                else:
+                    with self.assertRaises(Failed) as caught:
+                        client.left()
+                    self.assertIn(f"127.0.0.1, port {port}, can't be reached", str(caught.exception))
+                    self.assertGreater(server.time.now, 2.5)
+            self.assertEqual(said.getvalue(), f"waiting for 127.0.0.1, port {port}, up to 2.5 s\n" if told else "")
+            for other in others:
+                other.close()
 
     def test_ends_behind_another(self):
         """A service ends while it serves another connection, which took longer than one that isn't there is waited for: it is waited for from there on."""
         kept = server.PATIENCE, server.TOLD_AFTER
         self.addCleanup(lambda: (setattr(server, "PATIENCE", kept[0]), setattr(server, "TOLD_AFTER", kept[1])))
-        server.PATIENCE, server.TOLD_AFTER = 1, 0.2
-        for keeps, answers in ((1.5, True), (0, False)):
+        server.PATIENCE = 1
+        for keeps, answers, server.TOLD_AFTER in ((1.5, True, 0.2), (0, False, kept[1])):
             other = Keeps(keeps, b"left 0 20000000 0\n" if answers else None)
             client = connect("127.0.0.1", other.port, "mia", "labour", public=self.public)
             said = io.StringIO()
@@ -540,7 +596,7 @@ class OtherPrograms(unittest.TestCase):
 
     def test_hello_refused(self):
         """By another connection than the one by which the next number was learnt: nothing was asked, and the client goes on."""
-        replies = iter([b"left 0 20000000 0\n", b"hello mia\n", *[b"no 60 0 0\n"] * 64, b"left 0 20000000 0\n", b"no 12 1\n", b"left 0 20000000 0\n"])
+        replies = iter([b"hello mia\n", b"left 0 20000000 0\n", b"no 12 1\n", b"left 0 20000000 0\n"])
         other = Says(replies)
         client = connect("127.0.0.1", other.port, "mia", "labour", public=self.public)
         client.learn()

@@ -356,7 +356,7 @@ class Pipes(unittest.TestCase):
         self.assertLessEqual(self.place.client().left().records, 4)
 
     def killed(self, acts, *lines):
-        """What comes where some of its runs are killed: the first two learn the next number, and the third asks."""
+        """What comes where some of its runs are killed: the first learns the next number, and the second asks."""
         with survey(budget=20_000_000, capacity=1000) as place:
             cases = " ".join(f"{run}) {act}; kill -KILL $$ ;;" for run, act in acts.items())
             wrapped = place.wrapped(f'echo >>runs; case $(wc -l <runs) in {cases} esac; exec REAL "$@"\n')
@@ -370,13 +370,13 @@ class Pipes(unittest.TestCase):
             (answered, "number 0, recalled, 19 left\n", ""),
             (twice, "labour: 18 left", "which is whose isn't known: 0 answer"),
         ):
-            ran = self.killed({3: act}, "\\b")
+            ran = self.killed({2: act}, "\\b")
             self.assertIn(out, ran.stdout.decode())
             self.assertIn(why, ran.stderr.decode())
         # What came to nothing waits for \\g.
-        self.assertEqual(asked(self.killed({3: "true"}, "\\g")), [0])
+        self.assertEqual(asked(self.killed({2: "true"}, "\\g")), [0])
         # Until \\r says what came of it, nothing more is asked.
-        ran = self.killed({3: answered, 4: "true"}, "size persons;", "\\r", "size persons;")
+        ran = self.killed({2: answered, 3: "true"}, "size persons;", "\\r", "size persons;")
         self.assertEqual(ran.stderr.count(b"Here \\r alone does what recover() does."), 2)
         self.assertEqual(asked(ran), [0, 1])
         self.assertIn(b"number 0, recalled, 19 left", ran.stdout)
