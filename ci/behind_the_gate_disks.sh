@@ -72,6 +72,21 @@ ends "run: standard output is closed" 2
 "$program" run cat.json key <&- >&- 2>errors
 status=$?
 ends "run: both are closed" 2
+"$program" run cat.json key <&- >&- 2>&-
+status=$?
+: >errors
+ends "run: all three are closed" 2
+# A service is looked at while its journal is open: what stands in the place of standard error is no journal, where a message would go.
+port=$(python3 -c 'import socket; s = socket.socket(); s.bind(("127.0.0.1", 0)); print(s.getsockname()[1])')
+"$program" serve cat.json key --port "$port" --each 1 <&- >&- 2>&- &
+for _ in $(seq 50); do
+    if readlink /proc/$!/fd/* 2>/dev/null | grep -q 0.bud; then break; fi
+    sleep 0.1
+done
+readlink /proc/$!/fd/{0,1,2} | tr '\n' ' ' >output
+kill $! && wait $! 2>/dev/null
+status=0
+judge "serve: all three are closed" 0 '/ / / '
 
 # ---- tables past the limits: of rows, and of bytes
 

@@ -11,7 +11,7 @@ use Rattle.budget_journal.specs.declared.opening.OpenFault.{OpenFault}
 use Rattle.budget_journal.specs.declared.opening.OpenFault.TheVariants.{NotInitialised, Changed, Damaged}
 use Rattle.budget_journal.specs.declared.form.Form.{Form}
 use Rattle.budget_journal.specs.declared.form.Form.TheVariants.{One, Many}
-use Rattle.budget_journal.specs.Areas.{version_by, version_in, form_in, area_in, live_area, HasGates, IsStray}
+use Rattle.budget_journal.specs.Areas.{version_by, version_in, form_in, area_in, area_slots, live_area, HasGates, IsStray}
 pub use Rattle.budget_journal.specs.Slots.{Layout, slot_place, slot, gate_of, Holds, FillsSlots, IsTornOff, IsBeyond}
 pub use Rattle.budget_journal.specs.Slots.{IsUnreadable, IsBehindClosed, IsDamaged, IsFirstDamaged}
 
@@ -112,6 +112,10 @@ abbrev pub AppendFailed : Mark → Record → Trace → Trace → Type 0
 AppendFailed mark next t u =
     (header : Header) (records : List Record) → IsAtRest header records t → IsMarked mark header records t → mark.used < mark.capacity
     → Passes (IsBeforeOrAfter header records next) t u
+
+-- A next area is opened only where the live one is full.
+abbrev pub GrowsWhereFull : Mark → Mark → Type 0
+GrowsWhereFull mark now = mark.used < area_slots mark.form mark.capacity mark.area → now.area ≡ mark.area
 
 -- ---- opening
 

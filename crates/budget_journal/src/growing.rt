@@ -5,7 +5,7 @@ ghost use Rattle.fz_outside.specs.Faults.{HasCause};
 ghost use Rattle.outside_disks.specs.Disks.{seen_of, noted, WhereTold, MayHaveWritten};
 ghost use Rattle.outside_disks.specs.Disks.Step.{Wrote, Synced};
 ghost use Rattle.budget_journal.specs.Growth.{IsChunk, ChunkCopied, AreaCopied, AreaCopyFailed, AreaAdded, AreaAddFailed, RoomMade, RoomNotMade};
-ghost use Rattle.budget_journal.specs.Journals.{mark_at};
+ghost use Rattle.budget_journal.specs.Journals.{mark_at, GrowsWhereFull};
 ghost use Rattle.budget_journal.specs.declared.form.Form.TheVariants.{Many};
 
 use crate::area::Area;
@@ -105,6 +105,7 @@ pub(crate) fn make_room<D: Disk>(disk: &mut D, live: &Area, used: u32) -> Result
     requires { used < live.now.capacity }
     ensures made { IfOk result (λ area. WhereTold (RoomMade (mark_at live.now used) area.number) (D.trace disk.old) (D.trace disk.new)) }
     ensures refused { OnErr result (WhereTold (RoomNotMade (mark_at live.now used)) (D.trace disk.old) (D.trace disk.new)) }
+    ensures grows { IfOk result (λ area. GrowsWhereFull (mark_at live.now used) (mark_at area (used + 1))) }
     ensures form { IfOk result (λ area. area.form ≡ live.now.form) }
     ensures capacity { IfOk result (λ area. area.capacity ≡ live.now.capacity) }
     ensures cause { HasCause (D.faults disk.old) (D.faults disk.new) (IsErr result) }

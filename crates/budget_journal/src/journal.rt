@@ -8,7 +8,7 @@ ghost use Rattle.fz_outside.specs.Faults.{HasCause};
 ghost use Rattle.outside_disks.specs.Disks.{WhereTold};
 ghost use Rattle.journal_records.specs.Encoding.{IsValid};
 ghost use Rattle.budget_journal.specs.Growth.{SlotFilled, SlotFillFailed};
-ghost use Rattle.budget_journal.specs.Journals.{Appended, AppendFailed, mark_at, mark_of, disk_of, used, is_closed, capacity_of, version_of};
+ghost use Rattle.budget_journal.specs.Journals.{Appended, AppendFailed, GrowsWhereFull, mark_at, mark_of, disk_of, used, is_closed, capacity_of, version_of};
 
 use crate::area::Area;
 use crate::growing::{make_room, put_stable};
@@ -68,6 +68,7 @@ fn add_record<D: Disk>(
     ensures added { IfOk result (λ area. WhereTold (Appended (mark_at live.now used) record_in.now (mark_at area (used + 1)))
         (D.trace disk.old) (D.trace disk.new)) }
     ensures refused { OnErr result (WhereTold (AppendFailed (mark_at live.now used) record_in.now) (D.trace disk.old) (D.trace disk.new)) }
+    ensures grows { IfOk result (λ area. GrowsWhereFull (mark_at live.now used) (mark_at area (used + 1))) }
     ensures form { IfOk result (λ area. area.form ≡ live.now.form) }
     ensures capacity { IfOk result (λ area. area.capacity ≡ live.now.capacity) }
     ensures cause { HasCause (D.faults disk.old) (D.faults disk.new) (IsErr result) }
@@ -92,6 +93,8 @@ impl<D: Disk> Journal<D> {
             (D.trace (disk_of self.old)) (D.trace (disk_of self.new))) }
         ensures refused { OnErr result (WhereTold (AppendFailed (mark_of self.old) record_in.now)
             (D.trace (disk_of self.old)) (D.trace (disk_of self.new))) }
+
+        ensures grows { OnOk result (GrowsWhereFull (mark_of self.old) (mark_of self.new)) }
 
         ensures open { OnOk result (is_closed self.new ≡ false) }
         ensures closed { OnErr result (is_closed self.new ≡ true) }

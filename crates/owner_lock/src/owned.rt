@@ -1,6 +1,6 @@
 //! The lock's calls.
 
-ghost use Rattle.std.specs.Prelude.{◌≡◌, ◌≢◌, ◌<◌, ◌≤◌, ◌%◌, ◌∷◌, [], true, false, length, if◌then◌else◌, IfErr, IfOk};
+ghost use Rattle.std.specs.Prelude.{◌≡◌, ◌≢◌, ◌<◌, ◌≤◌, ◌%◌, ◌/◌, ◌∷◌, [], true, false, length, if◌then◌else◌, IfErr, IfOk};
 ghost use Rattle.std.specs.Fn.{FnOnceReturnsAtMut, FnOnceTakesAtMut};
 ghost use mathlib.Core.List.{IsPrefix};
 ghost use Rattle.owner_lock.specs.Entries.{Ascends};
@@ -9,6 +9,7 @@ ghost use Rattle.owner_lock.specs.Jobs.{ComesBack, Knows, Meets, Owes};
 ghost use Rattle.owner_lock.specs.Views.{IsFreed, IsMarked, MayEnd, Rests};
 ghost use Rattle.owner_lock.specs.History.{Took};
 ghost use Rattle.owner_lock.specs.Passes.{IsPassOf, IsSameLock, known};
+ghost use Rattle.owner_lock.specs.declared.owned.Waiter.TheVariants.{Fresh};
 
 use crate::law::{Free, Halves, Look, Mark, Turn, Warn};
 use crate::lock::{NoMemory, Owned};
@@ -95,7 +96,9 @@ fn is_called(word: u64) -> bool {
 
 // Word 1 for a seat that takes the turn. One that was counted isn't any more, and has come; with the one that was awake nobody is.
 fn taken_word(word: u64, waiter: Waiter) -> u64
-    ensures { result % 4 ≡ 1 }
+    ensures taken { result % 4 ≡ 1 }
+    ensures same { waiter ≡ Fresh → result / 4 ≡ word / 4 }
+    ensures come { waiter ≢ Fresh → result % 8 < 4 }
 {
     let others = (word / SLEEPER).saturating_sub(1) * SLEEPER;
     match waiter {
