@@ -713,19 +713,19 @@ Limited t turns =
     (walk 6 1 (Also (codes "x") (Wide 1 60 0) (Also (codes "y") (Wide 40 3 0) Nothing)) t
     (record { turns = turns; depth = 0; width = 0; walks = 0; reach = 0; too_many = false }))
 
-abbrev too_wide : Term
-too_wide = at (span 3 8) (UnionE y y)
+abbrev wide_pair : Term
+wide_pair = at (span 3 8) (UnionE y y)
 
-wide_behind_walks : Limited (at nowhere (PairE (mapped (counted x) x) too_wide)) 0 ≡ Stops (TooWide (span 3 8) 80)
+wide_behind_walks : Limited (at nowhere (PairE (mapped (counted x) x) wide_pair)) 0 ≡ Stops (TooWide (span 3 8) 80)
 wide_behind_walks = refl
 
-wide_before_walks : Limited (at nowhere (PairE too_wide (mapped (counted x) x))) 0 ≡ Stops (TooWide (span 3 8) 80)
+wide_before_walks : Limited (at nowhere (PairE wide_pair (mapped (counted x) x))) 0 ≡ Stops (TooWide (span 3 8) 80)
 wide_before_walks = refl
 
-late_behind_walks : Limited (at nowhere (PairE (mapped (counted x) x) (numeral_at 4 5 7))) 19993 ≡ Stops (TooLong (span 4 5))
+late_behind_walks : Limited (at nowhere (PairE (mapped (counted x) x) (numeral_at 4 5 7))) 19994 ≡ Stops (TooLong (span 4 5))
 late_behind_walks = refl
 
-walks_in_time : Limited (at nowhere (PairE (mapped (counted x) x) (numeral_at 4 5 7))) 19992 ≡ TooManyWalks
+walks_in_time : Limited (at nowhere (PairE (mapped (counted x) x) (numeral_at 4 5 7))) 19993 ≡ TooManyWalks
 walks_in_time = refl
 
 deep_behind_walks : told (walk 4 1 (Also (codes "x") (Wide 1 60 0) Nothing) (at nowhere (PairE (mapped (counted x) x) (at nowhere (FstE (at nowhere (FstE (numeral_at 4 5 7))))))) start)

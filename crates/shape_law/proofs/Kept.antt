@@ -4,7 +4,7 @@ use Rattle.std.proofs.lemmas.Bool.{leb-false}
 use Rattle.std.specs.Prelude.{Bool, cond, false, max, nat_le, suc, true, zero, ℕ, ◌+◌, ◌*◌, ◌-◌, ◌≡◌, ◌≤◌}
 use Rattle.fz_ast.specs.Terms.{AppE, BangE, CaseE, ClipE, EqE, FilterE, FnE, FstE, FunE, GreatestE, IfE, InlE, InrE, LeE, LeastE, LetBangE, LetE, LetPairE, MapE, MinusE, NumE, PairE, PlusE, SizeE, SndE, SplitE, SumE, Term, TextE, TimesE, UnionE, UnitE, VarE, WithE, at}
 use Rattle.fz_ast.specs.declared.span.Span.{Span}
-use Rattle.shape_law.specs.ShapeIn.{Enters, One, OverBag, ShapeIn, ShapeRules, Shaping, Two}
+use Rattle.shape_law.specs.ShapeIn.{Enters, One, OverBag, OverBoth, ShapeIn, ShapeRules, Shaping, Two}
 use Rattle.shape_law.specs.Shapes.{Also, BangS, FnS, FunS, PairS, Shape, Shapes, Wide, bang_shape, first_half, in_bang, height_of, pair_shape, second_half, shape_of, side_shape, walks_of, width_of, wider}
 use Rattle.shape_law.specs.Walk.{WalkOutcome, ShapeFault, Shaped, Stops, Tally, TooManyWalks, TooWide, Walk, counted_from, as_before, bag, enters, yields, next, noted, after_part, over, over_bag, reach_limit, turn, turn_limit, after_parts, union, walk, walk_limit, walk_rules, walked, walks_at, weighed, width_limit}
 
@@ -160,6 +160,14 @@ module _ (D : ℕ) (W : Walk) (R : ℕ → Shaping) (keeps : Keeps D W R) where
           let g = bag_is D d q s j i.1 k' i.3 in
           record { later = follows (walks_before (counted_from d j) j refl refl x.later) g.1; holds = λ m n. (i.0, x.holds m (up_to g.1.deeper n), g.0.0, g.0.1, g.0.2) }
 
+  over_both : (u : Span) (σ : Shapes) (a b : Term) (s : Shape) (k k' : Tally) → after_parts W σ a b k (union u) ≡ Shaped s k' → Kept D (λ m. OverBoth (R m) σ a b s) k k'
+  over_both u σ a b s k k' h =
+      let r = both σ a b (union u) Joined s k k' (λ p q j h. let g = union_is D u p q s j k' h in record { later = g.1; holds = λ m l. g.0 }) h in
+      record { later = r.later; holds = λ m n. let o = r.holds m n in (o.0, o.1, o.2, o.3, o.4.0, o.4.1, o.4.2) }
+    where
+      Joined : Shape → Shape → ℕ → Type 0
+      Joined = λ p q m. (i h : ℕ) × (s ≡ Wide (width_of p + width_of q) i h)
+
   rules_keep : (d : ℕ) (σ : Shapes) (t : Term) (s : Shape) (k k' : Tally) → walk_rules d W σ t k ≡ Shaped s k' → Kept D (λ m. ShapeRules (R m) σ t s) k k'
   rules_keep d σ (at _ (VarE x)) s k k' h = leaf (shape_of σ x) s k k' h
   rules_keep d σ (at _ (NumE z)) s k k' h = leaf (Wide 0 0 0) s k k' h
@@ -190,7 +198,7 @@ module _ (D : ℕ) (W : Walk) (R : ℕ → Shaping) (keeps : Keeps D W R) where
   rules_keep d σ (at _ (GreatestE e)) s k k' h = alone σ e (λ p. Wide 0 0 0) s k k' h
   rules_keep d σ (at _ (SizeE e)) s k k' h = counted d σ e s k k' h
   rules_keep d σ (at _ (SumE lo hi e)) s k k' h = counted d σ e s k k' h
-  rules_keep d σ (at u (UnionE a b)) s k k' h = both σ a b (union u) (λ p q m. (i h : ℕ) × (s ≡ Wide (width_of p + width_of q) i h)) s k k' (λ p q j h. let g = union_is D u p q s j k' h in record { later = g.1; holds = λ m l. g.0 }) h
+  rules_keep d σ (at u (UnionE a b)) s k k' h = over_both u σ a b s k k' h
   rules_keep d σ (at _ (MapE f b)) s k k' h = over_is d σ f b s k k' h
   rules_keep d σ (at _ (FilterE f b)) s k k' h = over_is d σ f b s k k' h
   rules_keep d σ (at _ (SplitE f b)) s k k' h = over_is d σ f b s k k' h

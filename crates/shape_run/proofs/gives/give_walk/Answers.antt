@@ -26,4 +26,4 @@ returns-clause-is c = λ N p h.
     let r : c.saturating_add-reach.result ≡ c.args.here + height_of p = omega (arith, high, low, sum) in
     let m : c.max-count.result ≡ max c.args.count.now.plan.reach (c.args.here + height_of p) = c.max-count.ensures ∙ ap (λ n. max c.args.count.now.plan.reach n) r in
     let b : nat_le (c.args.here + height_of p) reach_limit ≡ true = le-leb (c.args.here + height_of p) reach_limit (omega (arith, r, low)) in
-    to (Tells N c.give_ground.new.store.cells.items c.give_ground.new.count c.give_ground.result) (walks_at c.args.here p (tally_of c.args.count.now)) _ (rw (b, w, m) refl) (c.give_ground.ensures.is N)
+    to (Tells N c.give_ground-2.new.store.cells.items c.give_ground-2.new.count c.give_ground-2.result) (walks_at c.args.here p (tally_of c.args.count.now)) _ (rw (b, w, m) refl) (c.give_ground-2.ensures.is N)
