@@ -109,6 +109,20 @@ CASES = [
     (MAP.format("sum[0,9] (map (fn (y : num) => y) people)"), 2, R + R**2),
     ("let f = fn (y : num) => sum[0,9] people in let g = fn (x : num) => sum[0,9] (map f people) in " + MAP.format("g (![inf] x)"), 3, R + R**2 + R**3),
 ]
+# Seven maps, each of which sums the bag before for each row: too many walks. Bags that are doubled, and functions that are applied 2^n times.
+HEAVY = "let z = let a = map (fn (x : num) => x + size people) people in " + 6 * "let a = map (fn (x : num) => x + sum[0,1] a) a in " + "0 * size a in "
+DOUBLED = "let b = union people people in " + 5 * "let b = union b b in "
+APPLIED = "let f = fun (x : num) => x in " + 12 * "let f = fun (x : num) => f (f x) in "
+# What is told of a program: a limit that is passed before 90, whether it is passed before the walks or behind them.
+ORDER = [
+    (f"{HEAVY}{DOUBLED}size b", "90"),
+    (f"{DOUBLED}{HEAVY}size b", "90"),
+    (f"{HEAVY}{DOUBLED}let b = union b b in size b", "37 {} 128"),
+    (f"{DOUBLED}let b = union b b in {HEAVY}size b", "37 {} 128"),
+    (f"{HEAVY}{APPLIED}f 1", "36 {}"),
+    (f"{APPLIED}let y = f 1 in {HEAVY}y", "36 {}"),
+    (f"let f = fun (x : num) => {60 * '1 * '}x in let g = fun (x : num) => {50 * '1 * '}f x in {HEAVY}{20 * '1 * '}g 1", "35 {}"),
+]
 # Programs with the terms that they visit: in a body as often as it is run.
 TURNS = [
     ("7", 1),
@@ -252,6 +266,9 @@ class Trial:
         for program, turns in TURNS:
             term = checked(program.encode(), TABLES)[0]
             self.same("turns", program, (walks(term, TABLES, R).most_turns, counted(term, FULL).turns), (turns, turns))
+        for program, told in ORDER:
+            found = self.outcome(lambda: plan(checked(program.encode(), TABLES)[0], TABLES))[0]
+            self.same("order", program, found, told.format(" ".join(found.split()[1:3])))
         self.kinds.clear()
 
     def by_page(self):
@@ -370,7 +387,7 @@ def main():
         deep(lambda: [trial.by_chance(rng, rng.choice([accepted_of, nested_of])(rng)) for _ in range(many)])
         trial.tools()
     kinds = ", ".join(f"{name} {number}" for name, number in sorted(trial.kinds.items()))
-    print(f"{len(CASES) + len(TURNS)} cases, {many} random programs ({kinds}), {trial.differences} differences")
+    print(f"{len(CASES) + len(TURNS) + len(ORDER)} cases, {many} random programs ({kinds}), {trial.differences} differences")
     wanted = {"run": 0.6, "1 deep": 0.05, "2 deep": 0.05, "3 deep": 0.01, "exact": 0.02, "exact within walks": 0.01}
     lacking = [name for name, share in wanted.items() if trial.kinds[name] < share * many]
     if lacking:

@@ -57,8 +57,17 @@ class Ground(int):
 
 
 class Plan:
+    """Where a bag takes too many walks, that is noted and the run goes on: a limit that is passed, before it or behind it, is told and not 90."""
+
     def __init__(self):
         self.turns = self.depth = self.width = self.walks = self.reach = 0
+        self.too_many = False
+
+    def whole(self, term, tables):
+        self.visit(term, {name: Ground(1) for name, _ in tables}, 1)
+        if self.too_many:
+            raise Refused("90")
+        return self
 
     def visit(self, node, scope, depth):
         """The shape of a term that is visited at this depth."""
@@ -90,9 +99,17 @@ class Plan:
     def walk(self, bag, depth):
         """A walk, with those inside it, whose functions are evaluated from this depth on."""
         if depth + bag.height > REACH_LIMIT:
-            raise Refused("90")
+            self.too_many = True
+            return
         self.walks += 1 + bag.walks
         self.reach = max(self.reach, depth + bag.height)
+
+    def weighed(self, bag, walks, height):
+        """The bag, whose functions take so many walks and are evaluated so deep, if that aren't too many."""
+        if walks >= WALK_LIMIT:
+            self.too_many, walks, height = True, 0, 0
+        bag.walks, bag.height = walks, height
+        return bag
 
     def pair(self, node, scope, depth, a, b):
         left, right = self.visit(a, scope, depth), self.visit(b, scope, depth)
@@ -150,9 +167,7 @@ class Plan:
     def joined(self, node, left, right):
         if left + right > WIDTH_LIMIT:
             raise Refused(f"37 {node.span()} {left + right}")
-        if left.walks + right.walks >= WALK_LIMIT:
-            raise Refused("90")
-        return Ground(left + right, left.walks + right.walks, max(left.height, right.height))
+        return self.weighed(Ground(left + right), left.walks + right.walks, max(left.height, right.height))
 
     def over_bag(self, node, scope, depth, f, b):
         function = self.visit(f, scope, depth)
@@ -160,10 +175,8 @@ class Plan:
         before = self.walks, self.reach
         self.walks, self.reach = 0, depth
         behind = self.behind(node, bag, lambda: self.visit(*function.entered(Ground(0)), depth))
-        behind.walks, behind.height = bag.walks + bag * self.walks, max(bag.height, self.reach - depth)
+        self.weighed(behind, bag.walks + bag * self.walks, max(bag.height, self.reach - depth))
         self.walks, self.reach = before
-        if behind.walks >= WALK_LIMIT:
-            raise Refused("90")
         return behind
 
     def behind(self, node, bag, enter):
@@ -189,9 +202,7 @@ def halves(shape):
 
 
 def plan(term, tables=PEOPLE):
-    found = Plan()
-    found.visit(term, {name: Ground(1) for name, _ in tables}, 1)
-    return found
+    return Plan().whole(term, tables)
 
 
 # Values.

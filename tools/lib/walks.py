@@ -97,9 +97,7 @@ class Walks(Plan):
 
 
 def walks(term, tables=PEOPLE, limit=ROW_LIMIT):
-    found = Walks(limit)
-    found.visit(term, {name: Ground(1) for name, _ in tables}, 1)
-    return found
+    return Walks(limit).whole(term, tables)
 
 
 def walks_of(data, tables=PEOPLE, limit=ROW_LIMIT):

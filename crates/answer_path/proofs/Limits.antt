@@ -104,11 +104,11 @@ unweighed n = at (span 0 9) (TimesE (pos 0) (nested n))
 -- seven are accepted by the typing rules, and take too many walks
 pub seven_walk_too_much : TakesTooManyWalks worked_tables (unweighed 7)
 unfolding depth_limit gcd gcd_in is_out
-seven_walk_too_much = (_, _, _, refl, refl)
+seven_walk_too_much = (_, _, refl, refl)
 
 six_do_not : TakesTooManyWalks worked_tables (unweighed 6) → ⊥
 unfolding depth_limit
-six_do_not walks = absurd (cc walks.4)
+six_do_not walks = absurd (cc walks.3)
 
 -- both are judged as accepted, but a program of six alone is: that of seven has no plan
 pub six_are_judged : judgement_of worked_tables (read (unweighed 6)) ≡ accepted (unweighed 6) (Fin 0 1)
@@ -132,4 +132,4 @@ seven_are_not program a reads is = accepted_walks_little worked_tables program a
 -- without the 0 they are refused by the typing rules
 unbounded_walks : TakesTooManyWalks worked_tables (nested 7) → ⊥
 unfolding gcd gcd_in is_out
-unbounded_walks walks = absurd (cc walks.3)
+unbounded_walks walks = absurd (cc walks.2)

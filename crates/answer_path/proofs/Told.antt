@@ -28,7 +28,7 @@ use Rattle.wire_lines.specs.Name.{is_name}
 use Rattle.shape_law.specs.Walk.{shape}
 use Rattle.shape_run.specs.declared.plan.Plan.{Plan}
 use Rattle.shape_run.specs.declared.plan.ShapeFault.{ShapeFault}
-use Rattle.shape_run.specs.declared.plan.ShapeFault.TheVariants.{TooDeep, TooLong, TooWide, NoMemory as NoCell}
+use Rattle.shape_run.specs.declared.plan.ShapeFault.TheVariants.{TooDeep, TooLong, TooWide, TooManyWalks, NoMemory as NoCell}
 use Rattle.shape_run.specs.Plans.{IsPlanOf, IsStopOf}
 use Rattle.wire_lines.specs.Refusal.{ProgramRefusal, Refusal, by_line, by_program, by_money, by_disk, by_number, no_memory}
 use Rattle.answer_path.specs.Reading.{unlexed, stuck, nested, read, IsReading}
@@ -124,6 +124,7 @@ stopped_refused ts e checked fault refusal h p r = subst (λ x. IsTermRefusal ts
     go (TooDeep s) p = by_shape ts e checked h ∙ ap (shaped_by e (distance_of checked.sens)) p
     go (TooLong s) p = by_shape ts e checked h ∙ ap (shaped_by e (distance_of checked.sens)) p
     go (TooWide s w) p = by_shape ts e checked h ∙ ap (shaped_by e (distance_of checked.sens)) p
+    go TooManyWalks p = tt
     go NoCell p = tt
 
 -- the refusal of a program's term is the program's
@@ -139,7 +140,7 @@ term_refused ts w e (by_number refusal) h k = absurd k
 
 walks_accepted : (ts : Signature) (e : Term) → TakesTooManyWalks ts e → (r : Distance) × (judgement_of ts (read e) ≡ accepted e r)
 unfolding judgement_of
-walks_accepted ts e (D, r, s, typed, walks) = (lowest r, ap (judged_by ts e) typed ∙ ap (shaped_by e (lowest r)) walks)
+walks_accepted ts e (D, r, typed, walks) = (lowest r, ap (judged_by ts e) typed ∙ ap (shaped_by e (lowest r)) walks)
 
 -- so it isn't refused for itself
 pub refused_walks_little : (ts : Signature) (w : List ℕ) (refusal : ProgramRefusal) → IsRefusedFor ts w refusal → HasTooManyWalks ts w → ⊥
@@ -160,7 +161,7 @@ walks_refused ts w (by_number refusal) walks h = absurd h
 -- and has no plan
 pub planned_walks_little : (ts : Signature) (w : List ℕ) (e : Term) (plan : Plan) → IsReading w (read e) → IsPlanOf ts e plan → HasTooManyWalks ts w → ⊥
 planned_walks_little ts w e plan reads planned (d, reads', walks) =
-    let stops = sym (ap (shape ts) (same_term w d e reads' reads)) ∙ walks.4 in
+    let stops = sym (ap (shape ts) (same_term w d e reads' reads)) ∙ walks.3 in
     cc (stops, planned.1)
 
 pub accepted_walks_little : (ts : Signature) (w : List ℕ) (a : Accepted) → IsAccepted ts w a → HasTooManyWalks ts w → ⊥

@@ -22,7 +22,7 @@ use Rattle.sensitivity_check.specs.declared.fault.CheckFault.TheVariants.{Unboun
 use Rattle.sensitivity_check.specs.Answered.{IsChecked, IsCheckFault}
 use Rattle.shape_run.specs.declared.plan.Plan.{Plan}
 use Rattle.shape_run.specs.declared.plan.ShapeFault.{ShapeFault}
-use Rattle.shape_run.specs.declared.plan.ShapeFault.TheVariants.{TooDeep, TooLong, TooWide, NoMemory as NoCell}
+use Rattle.shape_run.specs.declared.plan.ShapeFault.TheVariants.{TooDeep, TooLong, TooWide, TooManyWalks, NoMemory as NoCell}
 use Rattle.shape_run.specs.Plans.{IsPlanOf}
 use Rattle.wire_lines.specs.Refusal.{ProgramRefusal, no_token, no_term, too_nested, too_deep, too_long, too_wide, Refusal, by_program, no_memory}
 use Rattle.answer_path.specs.Reading.{Reading, read, IsReading}
@@ -84,11 +84,12 @@ parse_refusal (Stuck token) = by_program (no_term token)
 parse_refusal (TooNested depth) = by_program (too_nested depth)
 parse_refusal NoSpace = no_memory
 
--- 35 to 37, or want of memory
+-- 35 to 37; too many walks are told as want of memory is
 abbrev pub limit_refusal : ShapeFault → Refusal
 limit_refusal (TooDeep s) = by_program (too_deep s.from s.to)
 limit_refusal (TooLong s) = by_program (too_long s.from s.to)
 limit_refusal (TooWide s width) = by_program (too_wide s.from s.to width)
+limit_refusal TooManyWalks = no_memory
 limit_refusal NoCell = no_memory
 
 -- the token's number is one of a program's

@@ -3,7 +3,6 @@ use Rattle.std.specs.Prelude.{◌≡◌, ℕ, ℤ, List}
 use Rattle.fz_frac.specs.Distance.{Distance}
 use Rattle.fz_frac.specs.Lowest.{lowest}
 use Rattle.fz_ast.specs.Signature.{Signature}
-use Rattle.fz_ast.specs.declared.span.Span.{Span}
 use Rattle.fz_ast.specs.Terms.{Term}
 use Rattle.linear_types.specs.Program.{Acceptance, Accepted, Faulty, sensitivity_of}
 use Rattle.linear_types.specs.Sensitivities.{Sensitivities}
@@ -44,11 +43,11 @@ shape_refusal (TooWide s width) = too_wide s.from s.to width
 abbrev pub shaped_by : Term → Distance → WalkOutcome → Judgement
 shaped_by e r (Shaped s k) = accepted e r
 shaped_by e r (Stops fault) = refused_for (shape_refusal fault)
-shaped_by e r (TooManyWalks s) = accepted e r
+shaped_by e r TooManyWalks = accepted e r
 
--- the typing rules accept the term, and the functions of one of its bags take too many walks for a row
+-- the typing rules accept the term, it passes no limit, and the functions of one of its bags take too many walks for a row
 abbrev pub TakesTooManyWalks : Signature → Term → Type 0
-TakesTooManyWalks ts e = (D : Sensitivities) × (r : Distance) × (s : Span) × (sensitivity_of ts e ≡ Accepted D r) × (shape ts e ≡ TooManyWalks s)
+TakesTooManyWalks ts e = (D : Sensitivities) × (r : Distance) × (sensitivity_of ts e ≡ Accepted D r) × (shape ts e ≡ TooManyWalks)
 
 abbrev pub judged_by : Signature → Term → Acceptance → Judgement
 judged_by ts e (Accepted D r) = shaped_by e (lowest r) (shape ts e)

@@ -88,7 +88,7 @@ pub(crate) fn fault_refusal<'s>(sig: &'s Sig, fault: &CheckFault) -> Refusal<'s>
     })
 }
 
-/// A run would go too deep, take too many turns or make too wide a bag; or memory ran out.
+/// A run would go too deep, take too many turns or make too wide a bag; or it would take too many walks, or memory ran out, which are told alike.
 pub(crate) fn limit_refusal<'s>(fault: ShapeFault) -> Refusal<'s>
     ensures { refusal_at result ≡ limit_refusal fault }
 {
@@ -106,6 +106,6 @@ pub(crate) fn limit_refusal<'s>(fault: ShapeFault) -> Refusal<'s>
             to: span.to,
             width,
         },
-        ShapeFault::NoMemory => return Refusal::NoMemory,
+        ShapeFault::TooManyWalks | ShapeFault::NoMemory => return Refusal::NoMemory,
     })
 }

@@ -17,7 +17,7 @@ use Rattle.sensitivity_check.specs.Answered.{IsChecked}
 use Rattle.sensitivity_check.specs.declared.checker.Checked.{Checked}
 use Rattle.shape_law.proofs.Programs.{shaped}
 use Rattle.shape_run.specs.Plans.{IsPlanOf}
-use Rattle.shape_run.specs.Tells.{tally_of}
+use Rattle.shape_run.specs.Tells.{planned}
 use Rattle.shape_run.specs.declared.plan.Plan.{Plan}
 use Rattle.fuzz_eval.specs.Run.{IsNearEachOther}
 
@@ -36,7 +36,7 @@ lowest_most Inf = ⊑-refl Inf
 
 module _ (ts : Signature) (t : Term) (checked : Checked) (h : IsChecked ts t checked) (s : IsSignature ts) (l : TermLimits t) (X : Dataset) (i : IsDataset ts X) where
   pub has_number : (plan : Plan) → IsPlanOf ts t plan → HasNumber plan.depth (rows_of ts X) t
-  has_number plan p = shaped ts t h.D h.r s l h.accepted p.0 (tally_of plan) p.1 X i
+  has_number plan p = shaped ts t h.D h.r s l h.accepted p.0 (planned plan) p.1 X i
 
   pub is_number : (z : ℤ) → Means (rows_of ts X) t (NumV z) → IsNumber z
   is_number z m =

@@ -25,7 +25,7 @@ fn told(alloc: Global, sig: &Sig, program: &[u8]) -> Verdict {
         Err(ShapeFault::TooDeep { span }) => Verdict::TooDeep(span.from, span.to),
         Err(ShapeFault::TooLong { span }) => Verdict::TooLong(span.from, span.to),
         Err(ShapeFault::TooWide { span, width }) => Verdict::TooWide(span.from, span.to, width),
-        Err(ShapeFault::NoMemory) => Verdict::NoPlan,
+        Err(ShapeFault::TooManyWalks | ShapeFault::NoMemory) => Verdict::NoPlan,
     }
 }
 
@@ -81,11 +81,13 @@ fn plans_and_limits(rt: HostRuntime) -> Result<(), Fail> {
     Ok(())
 }
 
-/// How many walks of bags a program takes where each table has one row, or that those of one bag are too many or too deep, which is told as want of memory.
+/// How many walks of bags a program takes where each table has one row, or that those of one bag are too many or too deep, or how wide a bag is that is
+/// too wide.
 #[derive(Clone, Copy, PartialEq, Eq)]
 enum WalkVerdict {
     Takes(u32),
-    NoMemory,
+    TooMany,
+    TooWide(u32),
     NoPlan,
 }
 
@@ -95,7 +97,8 @@ fn walks_of(alloc: Global, sig: &Sig, program: &[u8]) -> WalkVerdict {
     };
     match shape(alloc, sig, &term) {
         Ok(plan) => WalkVerdict::Takes(plan.walks),
-        Err(ShapeFault::NoMemory) => WalkVerdict::NoMemory,
+        Err(ShapeFault::TooManyWalks) => WalkVerdict::TooMany,
+        Err(ShapeFault::TooWide { width, .. }) => WalkVerdict::TooWide(width),
         Err(_) => WalkVerdict::NoPlan,
     }
 }
@@ -140,6 +143,15 @@ const TWICE_AND_AGAIN: Piece = (
     1,
 );
 
+// A bag whose walks are too many, and which is counted.
+const SEVEN_WALKED: Piece = (
+    "let z = let a = map (fn (x : num) => x + size people) people in \
+    let a = map (fn (x : num) => x + sum[0,1] a) a in let a = map (fn (x : num) => x + sum[0,1] a) a in \
+    let a = map (fn (x : num) => x + sum[0,1] a) a in let a = map (fn (x : num) => x + sum[0,1] a) a in \
+    let a = map (fn (x : num) => x + sum[0,1] a) a in let a = map (fn (x : num) => x + sum[0,1] a) a in 0 * size a in ",
+    1,
+);
+
 // A function that takes two walks, and as many more as come.
 const MANY: Piece = (
     "size (map (fn (x : num) => let y = size people + size people in ",
@@ -147,7 +159,7 @@ const MANY: Piece = (
 );
 
 #[rattlefmt::skip]
-static WALKS: [(&[Piece], WalkVerdict); 24] = [
+static WALKS: [(&[Piece], WalkVerdict); 28] = [
     (&[("size people", 1)], WalkVerdict::Takes(1)),
     (&[("size people + sum[0,9] people", 1)], WalkVerdict::Takes(2)),
     (&[("if size people <= 3 then 0 else size people", 1)], WalkVerdict::Takes(2)),
@@ -162,24 +174,29 @@ static WALKS: [(&[Piece], WalkVerdict); 24] = [
     (&[WALKED, ("size (union a a)", 1)], WalkVerdict::Takes(3)),
     (&[("size (map (fn (x : num) => x + size people) (union people people))", 1)], WalkVerdict::Takes(3)),
     (&[WALKED, UNITED, UNITED, UNITED, ("size a", 1)], WalkVerdict::Takes(41)),
-    (&[WALKED, UNITED, UNITED, UNITED, UNITED, ("size a", 1)], WalkVerdict::NoMemory),
+    (&[WALKED, UNITED, UNITED, UNITED, UNITED, ("size a", 1)], WalkVerdict::TooMany),
     // of both 63, and of one 63 twice
     (&[WALKED, ("let a = map (fn (x : num) => x + sum[0,1] a) a in ", 5), ("size (union people a)", 1)], WalkVerdict::Takes(64)),
-    (&[WALKED, ("let a = map (fn (x : num) => x + sum[0,1] a) a in ", 5), ("size (union a a)", 1)], WalkVerdict::NoMemory),
+    (&[WALKED, ("let a = map (fn (x : num) => x + sum[0,1] a) a in ", 5), ("size (union a a)", 1)], WalkVerdict::TooMany),
     // nothing but walks within one another, 64 deep and 65 deep
     (&[WITHIN, ("let f = fn (b : bag num) => f (![inf] (f (![inf] b))) in ", 4), DEEP, (ONE_DEEPER, 15), ("sum[0,1] a", 1)], WalkVerdict::Takes(64)),
-    (&[WITHIN, ("let f = fn (b : bag num) => f (![inf] (f (![inf] b))) in ", 4), DEEP, (ONE_DEEPER, 16), ("sum[0,1] a", 1)], WalkVerdict::NoMemory),
+    (&[WITHIN, ("let f = fn (b : bag num) => f (![inf] (f (![inf] b))) in ", 4), DEEP, (ONE_DEEPER, 16), ("sum[0,1] a", 1)], WalkVerdict::TooMany),
     // eight maps, each of which sums the one before under 47 sums, walked below eight sums and below nine: evaluated 400 levels deep, and 401
     (&[SUMS, (" + 0", 47), TWICE_AND_AGAIN, ("0 * sum[0,1] a", 1), (" + 0", 8)], WalkVerdict::Takes(9)),
-    (&[SUMS, (" + 0", 47), TWICE_AND_AGAIN, ("0 * sum[0,1] a", 1), (" + 0", 9)], WalkVerdict::NoMemory),
+    (&[SUMS, (" + 0", 47), TWICE_AND_AGAIN, ("0 * sum[0,1] a", 1), (" + 0", 9)], WalkVerdict::TooMany),
     // and under 48 sums, where the last map's own body is
-    (&[SUMS, (" + 0", 48), TWICE_AND_AGAIN, ("0 * sum[0,1] a", 1)], WalkVerdict::NoMemory),
+    (&[SUMS, (" + 0", 48), TWICE_AND_AGAIN, ("0 * sum[0,1] a", 1)], WalkVerdict::TooMany),
     // each `let` doubles them: six of them take 64
     (&[WALKED, ("let a = map (fn (x : num) => x + sum[0,1] a) a in ", 5), ("size a", 1)], WalkVerdict::Takes(64)),
-    (&[WALKED, ("let a = map (fn (x : num) => x + sum[0,1] a) a in ", 6), ("size a", 1)], WalkVerdict::NoMemory),
+    (&[WALKED, ("let a = map (fn (x : num) => x + sum[0,1] a) a in ", 6), ("size a", 1)], WalkVerdict::TooMany),
+    // a limit that is passed is told first, whether it is before the walks or behind them
+    (&[SEVEN_WALKED, SIX_NAMES, ("let g = union f f in size g", 1)], WalkVerdict::TooWide(128)),
+    (&[SIX_NAMES, ("let g = union f f in ", 1), SEVEN_WALKED, ("size g", 1)], WalkVerdict::TooWide(128)),
+    (&[SEVEN_WALKED, SIX_NAMES, ("size f", 1)], WalkVerdict::TooMany),
+    (&[SIX_NAMES, SEVEN_WALKED, ("size f", 1)], WalkVerdict::TooMany),
     // and so do 63 in a row
     (&[MANY, ("let y = y + size people + size people in ", 20), ("y ", 1), ("+ size people ", 21), (") people)", 1)], WalkVerdict::Takes(64)),
-    (&[MANY, ("let y = y + size people + size people in ", 20), ("y ", 1), ("+ size people ", 22), (") people)", 1)], WalkVerdict::NoMemory),
+    (&[MANY, ("let y = y + size people + size people in ", 20), ("y ", 1), ("+ size people ", 22), (") people)", 1)], WalkVerdict::TooMany),
 ];
 
 #[test]

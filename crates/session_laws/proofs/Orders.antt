@@ -152,7 +152,7 @@ module _ (tables : Signature) (t : Term) where
       here : (other : ProgramRefusal) → RefusesTerm tables t other → ⊥
       here other (inl (fault, faulty, same)) = cc (faulty, typed)
       here other (inr (fault, stops, same)) = cc (stops, shaped)
-  judged_shape D r typed (TooManyWalks s) shaped = here
+  judged_shape D r typed TooManyWalks shaped = here
     where
       here : (other : ProgramRefusal) → RefusesTerm tables t other → ⊥
       here other (inl (fault, faulty, same)) = cc (faulty, typed)

@@ -1,13 +1,13 @@
 -- The run without data at worked terms: each form's shape, turns, depth and width, what is visited in which order, and each limit on both sides.
 use Rattle.std.proofs.Common.{ap, arith, refl}
-use Rattle.std.specs.Prelude.{ℕ, codes, pos, suc, zero, ◌≡◌}
+use Rattle.std.specs.Prelude.{ℕ, codes, false, pos, suc, true, zero, ◌≡◌}
 use Rattle.fz_frac.specs.Distance.{Fin, Inf}
 use Rattle.fz_ast.specs.Bare.{nowhere}
 use Rattle.fz_ast.specs.Terms.{AppE, BangE, CaseE, ClipE, EqE, FilterE, FnE, FstE, FunE, GreatestE, IfE, InlE, InrE, LeE, LeastE, LetBangE, LetE, LetPairE, MapE, MinusE, NumE, PairE, PlusE, SizeE, SndE, SplitE, SumE, Term, TextE, TimesE, UnionE, UnitE, VarE, WithE, TermForm, TrueE, FalseE, at}
 use Rattle.fz_ast.specs.Types.{BangT, NumT, UnitT}
 use Rattle.metric_law.specs.Worked.{name_at, numeral_at, span, split_in_halves, bang_undone, unused_names, worked_tables}
-use Rattle.shape_law.specs.Shapes.{Also, BangS, FnS, FunS, Nothing, PairS, Shape, Shapes, Wide, bang_shape, first_half, in_bang, pair_shape, second_half, shape_of, side_shape, table_shapes, union_shape, walks_of, width_of, wider}
-use Rattle.shape_law.specs.Walk.{Shaped, Stops, Tally, WalkOutcome, TooDeep, TooLong, TooManyWalks, TooWide, depth_limit, shape, start, walk}
+use Rattle.shape_law.specs.Shapes.{Also, BangS, FnS, FunS, Nothing, PairS, Shape, Shapes, Wide, bang_shape, first_half, in_bang, pair_shape, second_half, shape_of, side_shape, table_shapes, walks_of, width_of, wider}
+use Rattle.shape_law.specs.Walk.{Shaped, Stops, Tally, WalkOutcome, TooDeep, TooLong, TooManyWalks, TooWide, depth_limit, shape, start, told, walk}
 use Rattle.shape_law.specs.Worked.{PassesLimit, Plans}
 
 -- words of shapes
@@ -69,7 +69,7 @@ abbrev b : Term
 b = at nowhere (VarE (codes "b"))
 
 abbrev Takes : Term → Shape → (turns depth width walks reach : ℕ) → Type 0
-Takes t r turns depth width walks reach = walk 5 1 under t start ≡ Shaped r (record { turns = turns; depth = depth; width = width; walks = walks; reach = reach })
+Takes t r turns depth width walks reach = walk 5 1 under t start ≡ Shaped r (record { turns = turns; depth = depth; width = width; walks = walks; reach = reach; too_many = false })
 
 -- and with no walks, evaluated as deep as it is visited
 abbrev Visits : Term → Shape → (turns depth width : ℕ) → Type 0
@@ -261,7 +261,7 @@ nested zero = at (span 0 0) (NumE (pos 1))
 nested (suc n) = at (span n (suc n)) (LeastE (nested n))
 
 -- 128 visits below each other are within the depth, and the 129th is not
-just_deep : shape worked_tables (nested 127) ≡ Shaped (Wide 0 0 0) (record { turns = 128; depth = 128; width = 0; walks = 0; reach = 128 })
+just_deep : shape worked_tables (nested 127) ≡ Shaped (Wide 0 0 0) (record { turns = 128; depth = 128; width = 0; walks = 0; reach = 128; too_many = false })
 unfolding depth_limit
 just_deep = refl
 
@@ -275,9 +275,9 @@ too_deep_within = refl
 
 -- after so many turns a term is visited, or not
 abbrev after : ℕ → Tally
-after n = record { turns = n; depth = 0; width = 0; walks = 0; reach = 0 }
+after n = record { turns = n; depth = 0; width = 0; walks = 0; reach = 0; too_many = false }
 
-last_turn : walk 5 1 under (numeral_at 3 4 7) (after 19999) ≡ Shaped (Wide 0 0 0) (record { turns = 20000; depth = 1; width = 0; walks = 0; reach = 1 })
+last_turn : walk 5 1 under (numeral_at 3 4 7) (after 19999) ≡ Shaped (Wide 0 0 0) (record { turns = 20000; depth = 1; width = 0; walks = 0; reach = 1; too_many = false })
 last_turn = refl
 
 too_long : walk 5 1 under (numeral_at 3 4 7) (after 20000) ≡ Stops (TooLong (span 3 4))
@@ -297,7 +297,7 @@ wide_names w = Also (codes "x") (Wide w 0 0) (Also (codes "y") (Wide 32 0 0) Not
 abbrev wide_union : Term
 wide_union = at (span 0 9) (UnionE (name_at 6 7 (codes "x")) (name_at 8 9 (codes "y")))
 
-just_wide : walk 5 1 (wide_names 32) wide_union start ≡ Shaped (Wide 64 0 0) (record { turns = 3; depth = 2; width = 64; walks = 0; reach = 2 })
+just_wide : walk 5 1 (wide_names 32) wide_union start ≡ Shaped (Wide 64 0 0) (record { turns = 3; depth = 2; width = 64; walks = 0; reach = 2; too_many = false })
 just_wide = refl
 
 too_wide : walk 5 1 (wide_names 33) wide_union start ≡ Stops (TooWide (span 0 9) 65)
@@ -358,7 +358,7 @@ body_after_bag = refl
 
 -- an element has no width: a union over it in the body is as wide as the other side
 element_without_width : walk 5 1 under (at nowhere (MapE (at nowhere (FnE (codes "x") nowhere NumT (at nowhere (UnionE (at nowhere (VarE (codes "x"))) b)))) a)) start
-    ≡ Shaped (Wide 1 0 1) (record { turns = 6; depth = 3; width = 2; walks = 0; reach = 2 })
+    ≡ Shaped (Wide 1 0 1) (record { turns = 6; depth = 3; width = 2; walks = 0; reach = 2; too_many = false })
 element_without_width = refl
 
 -- a `fun` takes a bang whole, and an `fn` what it holds; so do `let` and `let !x`
@@ -410,22 +410,22 @@ whole_too_long = refl
 abbrev turns_told : WalkOutcome → ℕ
 turns_told (Shaped r k) = k.turns
 turns_told (Stops f) = 0
-turns_told (TooManyWalks s) = 0
+turns_told TooManyWalks = 0
 
 abbrev width_told : WalkOutcome → ℕ
 width_told (Shaped r k) = k.width
 width_told (Stops f) = 0
-width_told (TooManyWalks s) = 0
+width_told TooManyWalks = 0
 
 abbrev walks_told : WalkOutcome → ℕ
 walks_told (Shaped r k) = k.walks
 walks_told (Stops f) = 0
-walks_told (TooManyWalks s) = 0
+walks_told TooManyWalks = 0
 
 abbrev reach_told : WalkOutcome → ℕ
 reach_told (Shaped r k) = k.reach
 reach_told (Stops f) = 0
-reach_told (TooManyWalks s) = 0
+reach_told TooManyWalks = 0
 
 -- `true` and `false` are two nodes each, at the one span
 
@@ -489,7 +489,7 @@ late_union_is_not_told_wide h = absurd (cc h)
 abbrev wide_function : Term → Term
 wide_function body = at (span 0 40) (LetE (codes "f") (at (span 1 2) (FunE (codes "z") nowhere NumT wide_union)) body)
 
-never_applied : walk 5 1 (wide_names 33) (wide_function (name_at 30 31 (codes "y"))) start ≡ Shaped (Wide 32 0 0) (record { turns = 3; depth = 2; width = 32; walks = 0; reach = 2 })
+never_applied : walk 5 1 (wide_names 33) (wide_function (name_at 30 31 (codes "y"))) start ≡ Shaped (Wide 32 0 0) (record { turns = 3; depth = 2; width = 32; walks = 0; reach = 2; too_many = false })
 never_applied = refl
 
 once_applied : walk 5 1 (wide_names 33) (wide_function (at (span 30 33) (AppE (name_at 30 31 (codes "f")) (name_at 32 33 (codes "y"))))) start ≡ Stops (TooWide (span 0 9) 65)
@@ -558,9 +558,6 @@ wider_takes_the_greater = refl
 pair_takes_the_greater : pair_shape (Wide 3 4 0) (Wide 2 5 0) ≡ Wide 3 5 0
 pair_takes_the_greater = refl
 
-unions_add_up : union_shape (Wide 2 5 0) (Wide 3 4 0) ≡ Wide 5 9 0
-unions_add_up = refl
-
 side_takes_the_same : side_shape (Wide 2 5 0) ≡ Wide 2 5 0
 side_takes_the_same = refl
 
@@ -571,11 +568,11 @@ function_takes_no_walks = refl
 abbrev TakesUnder : (i : ℕ) → Term → Shape → (turns depth width walks reach : ℕ) → Type 0
 TakesUnder i t r turns depth width walks reach =
     walk 6 1 (Also (codes "x") (Wide 1 i 0) (Also (codes "y") (Wide 1 3 0) Nothing)) t start
-    ≡ Shaped r (record { turns = turns; depth = depth; width = width; walks = walks; reach = reach })
+    ≡ Shaped r (record { turns = turns; depth = depth; width = width; walks = walks; reach = reach; too_many = false })
 
--- and its bag at this span takes too many
-abbrev RefusedUnder : (i : ℕ) → Term → (from to : ℕ) → Type 0
-RefusedUnder i t from to = walk 6 1 (Also (codes "x") (Wide 1 i 0) (Also (codes "y") (Wide 1 3 0) Nothing)) t start ≡ TooManyWalks (span from to)
+-- and a bag of it takes too many
+abbrev RefusedUnder : (i : ℕ) → Term → Type 0
+RefusedUnder i t = told (walk 6 1 (Also (codes "x") (Wide 1 i 0) (Also (codes "y") (Wide 1 3 0) Nothing)) t start) ≡ TooManyWalks
 
 abbrev y : Term
 y = at nowhere (VarE (codes "y"))
@@ -669,41 +666,76 @@ walks_before_are_kept h = let told : 14 ≡ 8 = ap walks_told h in absurd (omega
 just_few_enough : TakesUnder 59 (mapped (counted x) y) (Wide 1 63 1) 5 3 1 0 2
 just_few_enough = refl
 
-one_too_many : RefusedUnder 60 (mapped (counted x) y) 3 8
+one_too_many : RefusedUnder 60 (mapped (counted x) y)
 one_too_many = refl
 
 just_few_enough_before : TakesUnder 59 (mapped (counted y) x) (Wide 1 63 1) 5 3 1 0 2
 just_few_enough_before = refl
 
-one_too_many_before : RefusedUnder 60 (mapped (counted y) x) 3 8
+one_too_many_before : RefusedUnder 60 (mapped (counted y) x)
 one_too_many_before = refl
 
-one_too_many_in_a_filter : RefusedUnder 60 (filtered (counted x) y) 3 8
+one_too_many_in_a_filter : RefusedUnder 60 (filtered (counted x) y)
 one_too_many_in_a_filter = refl
 
-one_too_many_in_a_split : RefusedUnder 60 (in_halves (counted x) y) 3 8
+one_too_many_in_a_split : RefusedUnder 60 (in_halves (counted x) y)
 one_too_many_in_a_split = refl
 
 -- of a union, too, and of the tables of one
 just_few_enough_in_a_union : TakesUnder 60 (at (span 3 8) (UnionE x y)) (Wide 2 63 0) 3 2 2 0 2
 just_few_enough_in_a_union = refl
 
-one_too_many_in_a_union : RefusedUnder 61 (at (span 3 8) (UnionE x y)) 3 8
+one_too_many_in_a_union : RefusedUnder 61 (at (span 3 8) (UnionE x y))
 one_too_many_in_a_union = refl
 
 just_few_enough_over_a_union : TakesUnder 0 (mapped (counted y) (at nowhere (UnionE x (at nowhere (UnionE x x))))) (Wide 3 12 1) 9 4 3 0 4
 just_few_enough_over_a_union = refl
 
-one_too_many_over_a_union : RefusedUnder 28 (mapped (counted y) (at nowhere (UnionE x x))) 3 8
+one_too_many_over_a_union : RefusedUnder 28 (mapped (counted y) (at nowhere (UnionE x x)))
 one_too_many_over_a_union = refl
 
 -- walks beside one another have no limit, nor has a bag that is walked last
 many_beside : TakesUnder 63 (at nowhere (PlusE (counted x) (counted x))) (Wide 0 0 0) 5 3 1 128 3
 many_beside = refl
 
--- a refusal comes before what stands behind it
-first_comes_first : RefusedUnder 60 (at nowhere (PairE (mapped (counted x) y) (at nowhere (UnionE x (mapped (counted x) x))))) 3 8
-first_comes_first = refl
+-- from there on the run goes on, the bag's functions taking none
+noted_bag : walk 6 1 (Also (codes "x") (Wide 1 60 0) (Also (codes "y") (Wide 1 3 0) Nothing)) (counted (mapped (counted x) y)) start
+    ≡ Shaped (Wide 0 0 0) (record { turns = 6; depth = 4; width = 1; walks = 1; reach = 3; too_many = true })
+noted_bag = refl
+
+noted_twice : RefusedUnder 60 (at nowhere (PairE (mapped (counted x) y) (at nowhere (UnionE x (mapped (counted x) x)))))
+noted_twice = refl
+
+-- so a limit that is passed later comes first, and so does one that was passed before
+abbrev Limited : Term → (turns : ℕ) → WalkOutcome
+Limited t turns =
+    told
+    (walk 6 1 (Also (codes "x") (Wide 1 60 0) (Also (codes "y") (Wide 40 3 0) Nothing)) t
+    (record { turns = turns; depth = 0; width = 0; walks = 0; reach = 0; too_many = false }))
+
+abbrev wide_pair : Term
+wide_pair = at (span 3 8) (UnionE y y)
+
+wide_behind_walks : Limited (at nowhere (PairE (mapped (counted x) x) wide_pair)) 0 ≡ Stops (TooWide (span 3 8) 80)
+wide_behind_walks = refl
+
+wide_before_walks : Limited (at nowhere (PairE wide_pair (mapped (counted x) x))) 0 ≡ Stops (TooWide (span 3 8) 80)
+wide_before_walks = refl
+
+late_behind_walks : Limited (at nowhere (PairE (mapped (counted x) x) (numeral_at 4 5 7))) 19994 ≡ Stops (TooLong (span 4 5))
+late_behind_walks = refl
+
+walks_in_time : Limited (at nowhere (PairE (mapped (counted x) x) (numeral_at 4 5 7))) 19993 ≡ TooManyWalks
+walks_in_time = refl
+
+deep_behind_walks : told (walk 4 1 (Also (codes "x") (Wide 1 60 0) Nothing) (at nowhere (PairE (mapped (counted x) x) (at nowhere (FstE (at nowhere (FstE (numeral_at 4 5 7))))))) start)
+    ≡ TooManyWalks
+deep_behind_walks = refl
+
+too_deep_behind_walks : told
+    (walk 4 1 (Also (codes "x") (Wide 1 60 0) Nothing) (at nowhere (PairE (mapped (counted x) x) (at nowhere (FstE (at nowhere (FstE (at nowhere (FstE (numeral_at 4 5 7))))))))) start)
+    ≡ Stops (TooDeep (span 4 5))
+too_deep_behind_walks = refl
 
 -- a function that is never applied isn't refused for what its body walks
 never_applied_walks : TakesUnder 60 (at nowhere (LetE (codes "f") (at nowhere (FunE (codes "w") nowhere NumT (mapped (counted x) y))) y)) (Wide 1 3 0) 3 2 1 0 2
@@ -717,9 +749,6 @@ wider_is_as_deep = refl
 pair_is_as_deep : pair_shape (Wide 2 5 6) (Wide 3 4 7) ≡ Wide 3 5 7
 pair_is_as_deep = refl
 
-union_is_as_deep : union_shape (Wide 2 5 6) (Wide 3 4 7) ≡ Wide 5 9 7
-union_is_as_deep = refl
-
 side_is_as_deep : side_shape (Wide 2 5 6) ≡ Wide 2 5 6
 side_is_as_deep = refl
 
@@ -727,11 +756,11 @@ side_is_as_deep = refl
 abbrev ReachesUnder : (h : ℕ) → Term → Shape → (turns depth width walks reach : ℕ) → Type 0
 ReachesUnder h t r turns depth width walks reach =
     walk 6 1 (Also (codes "x") (Wide 1 0 h) (Also (codes "y") (Wide 1 0 3) Nothing)) t start
-    ≡ Shaped r (record { turns = turns; depth = depth; width = width; walks = walks; reach = reach })
+    ≡ Shaped r (record { turns = turns; depth = depth; width = width; walks = walks; reach = reach; too_many = false })
 
--- and the walk at this span evaluates them too deep
-abbrev TooDeepUnder : (h : ℕ) → Term → (from to : ℕ) → Type 0
-TooDeepUnder h t from to = walk 6 1 (Also (codes "x") (Wide 1 0 h) (Also (codes "y") (Wide 1 0 3) Nothing)) t start ≡ TooManyWalks (span from to)
+-- and a walk evaluates them too deep
+abbrev TooDeepUnder : (h : ℕ) → Term → Type 0
+TooDeepUnder h t = told (walk 6 1 (Also (codes "x") (Wide 1 0 h) (Also (codes "y") (Wide 1 0 3) Nothing)) t start) ≡ TooManyWalks
 
 -- a walk evaluates the bag's functions from where its part stands
 size_reaches : ReachesUnder 5 (counted x) (Wide 0 0 0) 2 2 1 1 7
@@ -781,18 +810,18 @@ kept_before_a_map = refl
 just_shallow : ReachesUnder 398 (at (span 3 8) (SizeE x)) (Wide 0 0 0) 2 2 1 1 400
 just_shallow = refl
 
-one_too_deep : TooDeepUnder 399 (at (span 3 8) (SizeE x)) 3 8
+one_too_deep : TooDeepUnder 399 (at (span 3 8) (SizeE x))
 one_too_deep = refl
 
 just_shallow_sum : ReachesUnder 398 (at (span 3 8) (SumE (pos 0) (pos 9) x)) (Wide 0 0 0) 2 2 1 1 400
 just_shallow_sum = refl
 
-one_too_deep_sum : TooDeepUnder 399 (at (span 3 8) (SumE (pos 0) (pos 9) x)) 3 8
+one_too_deep_sum : TooDeepUnder 399 (at (span 3 8) (SumE (pos 0) (pos 9) x))
 one_too_deep_sum = refl
 
 -- of a bag that is never walked nothing is refused, nor where it stands in a body that is not
 never_walked : ReachesUnder 399 (mapped (at nowhere (VarE (codes "z"))) x) (Wide 1 0 399) 4 2 1 0 2
 never_walked = refl
 
-walked_in_a_body : TooDeepUnder 398 (mapped (at (span 4 6) (SizeE x)) y) 4 6
+walked_in_a_body : TooDeepUnder 398 (mapped (at (span 4 6) (SizeE x)) y)
 walked_in_a_body = refl

@@ -4,9 +4,9 @@ use Rattle.std.proofs.lemmas.Bool.{leb-false}
 use Rattle.std.specs.Prelude.{Bool, cond, false, max, nat_le, suc, true, zero, ℕ, ◌+◌, ◌*◌, ◌-◌, ◌≡◌, ◌≤◌}
 use Rattle.fz_ast.specs.Terms.{AppE, BangE, CaseE, ClipE, EqE, FilterE, FnE, FstE, FunE, GreatestE, IfE, InlE, InrE, LeE, LeastE, LetBangE, LetE, LetPairE, MapE, MinusE, NumE, PairE, PlusE, SizeE, SndE, SplitE, SumE, Term, TextE, TimesE, UnionE, UnitE, VarE, WithE, at}
 use Rattle.fz_ast.specs.declared.span.Span.{Span}
-use Rattle.shape_law.specs.ShapeIn.{Enters, One, OverBag, ShapeIn, ShapeRules, Shaping, Two}
-use Rattle.shape_law.specs.Shapes.{Also, BangS, FnS, FunS, PairS, Shape, Shapes, Wide, bang_shape, first_half, in_bang, height_of, pair_shape, second_half, shape_of, side_shape, union_shape, walks_of, width_of, wider}
-use Rattle.shape_law.specs.Walk.{WalkOutcome, ShapeFault, Shaped, Stops, Tally, TooManyWalks, TooWide, Walk, counted_from, as_before, bag, enters, yields, next, after_part, over, over_bag, reach_limit, turn, turn_limit, after_parts, union, walk, walk_limit, walk_rules, walked, walks_at, weighed, width_limit}
+use Rattle.shape_law.specs.ShapeIn.{Enters, One, OverBag, OverBoth, ShapeIn, ShapeRules, Shaping, Two}
+use Rattle.shape_law.specs.Shapes.{Also, BangS, FnS, FunS, PairS, Shape, Shapes, Wide, bang_shape, first_half, in_bang, height_of, pair_shape, second_half, shape_of, side_shape, walks_of, width_of, wider}
+use Rattle.shape_law.specs.Walk.{WalkOutcome, ShapeFault, Shaped, Stops, Tally, TooManyWalks, TooWide, Walk, counted_from, as_before, bag, enters, yields, next, noted, after_part, over, over_bag, reach_limit, turn, turn_limit, after_parts, union, walk, walk_limit, walk_rules, walked, walks_at, weighed, width_limit}
 
 -- one tally after another, where no visit is deeper than D
 pub record Later (D : ℕ) (k k' : Tally) : Type 0 where
@@ -37,21 +37,7 @@ yields_is D r s k k' h =
 pub next_is : (o : WalkOutcome) (f : Shape → Tally → WalkOutcome) (s : Shape) (k' : Tally) → next o f ≡ Shaped s k' → (p : Shape) × (j : Tally) × (o ≡ Shaped p j) × (f p j ≡ Shaped s k')
 next_is (Shaped p j) f s k' h = (p, j, refl, h)
 next_is (Stops x) f s k' h = cc
-next_is (TooManyWalks u) f s k' h = cc
-
-weighed_is : (D : ℕ) (u : Span) (r s : Shape) (k k' : Tally) → weighed u r k ≡ Shaped s k' → (s ≡ r) × Later D k k'
-weighed_is D u r s k k' h = go (nat_le walk_limit (walks_of r)) h
-  where
-    go : (b : Bool) → cond b (TooManyWalks u) (yields r k) ≡ Shaped s k' → (s ≡ r) × Later D k k'
-    go true h = cc
-    go false h = yields_is D r s k k' h
-
-union_is : (D : ℕ) (u : Span) (p q s : Shape) (k k' : Tally) → union u p q k ≡ Shaped s k' → (s ≡ union_shape p q) × Later D k k'
-union_is D u p q s k k' h = go (nat_le (width_of p + width_of q) width_limit) h
-  where
-    go : (b : Bool) → cond b (weighed u (union_shape p q) k) (Stops (TooWide u (width_of p + width_of q))) ≡ Shaped s k' → (s ≡ union_shape p q) × Later D k k'
-    go true h = weighed_is D u (union_shape p q) s k k' h
-    go false h = cc
+next_is TooManyWalks f s k' h = cc
 
 -- how many walks a tally has, and how deep they are, is no matter
 walks_before : {D : ℕ} {k' : Tally} (j k : Tally) → j.depth ≡ k.depth → j.turns ≡ k.turns → Later D j k' → Later D k k'
@@ -59,16 +45,35 @@ walks_before j k d t l =
     let a = l.deeper in let b = l.shallow in let c = l.short in
     record { deeper = omega (arith, a, d); shallow = omega (arith, b, d); short = omega (arith, c, t) }
 
-walks_is : (D d : ℕ) (u : Span) (p s : Shape) (k k' : Tally) → walks_at d u p k ≡ Shaped s k' → (s ≡ Wide 0 0 0) × Later D k k'
-walks_is D d u p s k k' h = go (nat_le (d + height_of p) reach_limit) h
+walks_is : (D d : ℕ) (p s : Shape) (k k' : Tally) → walks_at d p k ≡ Shaped s k' → (s ≡ Wide 0 0 0) × Later D k k'
+walks_is D d p s k k' h = go (nat_le (d + height_of p) reach_limit) h
   where
-    go : (b : Bool) → cond b (yields (Wide 0 0 0) (walked d p k)) (TooManyWalks u) ≡ Shaped s k' → (s ≡ Wide 0 0 0) × Later D k k'
+    go : (b : Bool) → yields (Wide 0 0 0) (cond b (walked d p k) (noted k)) ≡ Shaped s k' → (s ≡ Wide 0 0 0) × Later D k k'
     go true h = let g = yields_is D (Wide 0 0 0) s (walked d p k) k' h in (g.0, walks_before (walked d p k) k refl refl g.1)
+    go false h = let g = yields_is D (Wide 0 0 0) s (noted k) k' h in (g.0, walks_before (noted k) k refl refl g.1)
+
+-- a bag of this width, whatever its functions walk
+abbrev IsBag : ℕ → Shape → Type 0
+IsBag w s = (i h : ℕ) × (s ≡ Wide w i h)
+
+weighed_is : (D w i v : ℕ) (s : Shape) (k k' : Tally) → weighed w i v k ≡ Shaped s k' → IsBag w s × Later D k k'
+weighed_is D w i v s k k' h = go (nat_le walk_limit i) h
+  where
+    go : (b : Bool) → cond b (yields (Wide w 0 0) (noted k)) (yields (Wide w i v) k) ≡ Shaped s k' → IsBag w s × Later D k k'
+    go true h = let g = yields_is D (Wide w 0 0) s (noted k) k' h in ((0, 0, g.0), walks_before (noted k) k refl refl g.1)
+    go false h = let g = yields_is D (Wide w i v) s k k' h in ((i, v, g.0), g.1)
+
+union_is : (D : ℕ) (u : Span) (p q s : Shape) (k k' : Tally) → union u p q k ≡ Shaped s k' → IsBag (width_of p + width_of q) s × Later D k k'
+union_is D u p q s k k' h = go (nat_le (width_of p + width_of q) width_limit) h
+  where
+    go : (b : Bool) → cond b (weighed (width_of p + width_of q) (walks_of p + walks_of q) (max (height_of p) (height_of q)) k) (Stops (TooWide u (width_of p + width_of q))) ≡ Shaped s k'
+        → IsBag (width_of p + width_of q) s × Later D k k'
+    go true h = weighed_is D (width_of p + width_of q) (walks_of p + walks_of q) (max (height_of p) (height_of q)) s k k' h
     go false h = cc
 
-bag_is : (D d : ℕ) (u : Span) (q s : Shape) (before k k' : Tally) → bag d u q before k ≡ Shaped s k' → (s ≡ Wide (width_of q) (width_of q * k.walks + walks_of q) (max (height_of q) (k.reach - d))) × Later D k k'
-bag_is D d u q s before k k' h =
-    let g = weighed_is D u (Wide (width_of q) (width_of q * k.walks + walks_of q) (max (height_of q) (k.reach - d))) s (as_before before k) k' h in
+bag_is : (D d : ℕ) (q s : Shape) (before k k' : Tally) → bag d q before k ≡ Shaped s k' → IsBag (width_of q) s × Later D k k'
+bag_is D d q s before k k' h =
+    let g = weighed_is D (width_of q) (width_of q * k.walks + walks_of q) (max (height_of q) (k.reach - d)) s (as_before before k) k' h in
     (g.0, walks_before (as_before before k) k refl refl g.1)
 
 -- W gives shapes by R
@@ -133,27 +138,35 @@ module _ (D : ℕ) (W : Walk) (R : ℕ → Shaping) (keeps : Keeps D W R) where
   entered (BangS a) u s k k' h = leaf (Wide 0 0 0) s k k' h
 
   -- a bag's size or sum
-  counted : (d : ℕ) (u : Span) (σ : Shapes) (e : Term) (s : Shape) (k k' : Tally) → after_part W σ e k (walks_at d u) ≡ Shaped s k' → Kept D (λ m. One (R m) σ e (λ p. Wide 0 0 0) s) k k'
-  counted d u σ e s k k' h =
-      let i = next_is (W σ e k) (walks_at d u) s k' h in
+  counted : (d : ℕ) (σ : Shapes) (e : Term) (s : Shape) (k k' : Tally) → after_part W σ e k (walks_at d) ≡ Shaped s k' → Kept D (λ m. One (R m) σ e (λ p. Wide 0 0 0) s) k k'
+  counted d σ e s k k' h =
+      let i = next_is (W σ e k) (walks_at d) s k' h in
       let a = keeps σ e i.0 k i.1 i.2 in
-      let g = walks_is D d u i.0 s i.1 k' i.3 in
+      let g = walks_is D d i.0 s i.1 k' i.3 in
       record { later = follows a.later g.1; holds = λ m n. (i.0, a.holds m (up_to g.1.deeper n), g.0) }
 
-  over_is : (d : ℕ) (u : Span) (σ : Shapes) (f b : Term) (s : Shape) (k k' : Tally) → over_bag d W u σ f b k ≡ Shaped s k' → Kept D (λ m. OverBag (R m) σ f b s) k k'
-  over_is d u σ f b s k k' h =
-      let r = both σ f b (over d W u) Over s k k' inside h in
+  over_is : (d : ℕ) (σ : Shapes) (f b : Term) (s : Shape) (k k' : Tally) → over_bag d W σ f b k ≡ Shaped s k' → Kept D (λ m. OverBag (R m) σ f b s) k k'
+  over_is d σ f b s k k' h =
+      let r = both σ f b (over d W) Over s k k' inside h in
       record { later = r.later; holds = λ m n. let o = r.holds m n in (o.0, o.1, o.2, o.3, (o.4.0, o.4.1), o.4.2, o.4.3, o.4.4) }
     where
       Over : Shape → Shape → ℕ → Type 0
       Over = λ c q m. (r : Shape) × Enters (R m) c (Wide 0 0 0) r × (i h : ℕ) × (s ≡ Wide (width_of q) i h)
 
-      inside : (c q : Shape) (j : Tally) → over d W u c q j ≡ Shaped s k' → Kept D (Over c q) j k'
+      inside : (c q : Shape) (j : Tally) → over d W c q j ≡ Shaped s k' → Kept D (Over c q) j k'
       inside c q j h =
-          let i = next_is (enters W c (Wide 0 0 0) (counted_from d j)) (λ r. bag d u q j) s k' h in
+          let i = next_is (enters W c (Wide 0 0 0) (counted_from d j)) (λ r. bag d q j) s k' h in
           let x = entered c (Wide 0 0 0) i.0 (counted_from d j) i.1 i.2 in
-          let g = bag_is D d u q s j i.1 k' i.3 in
-          record { later = follows (walks_before (counted_from d j) j refl refl x.later) g.1; holds = λ m n. (i.0, x.holds m (up_to g.1.deeper n), _, _, g.0) }
+          let g = bag_is D d q s j i.1 k' i.3 in
+          record { later = follows (walks_before (counted_from d j) j refl refl x.later) g.1; holds = λ m n. (i.0, x.holds m (up_to g.1.deeper n), g.0.0, g.0.1, g.0.2) }
+
+  over_both : (u : Span) (σ : Shapes) (a b : Term) (s : Shape) (k k' : Tally) → after_parts W σ a b k (union u) ≡ Shaped s k' → Kept D (λ m. OverBoth (R m) σ a b s) k k'
+  over_both u σ a b s k k' h =
+      let r = both σ a b (union u) Joined s k k' (λ p q j h. let g = union_is D u p q s j k' h in record { later = g.1; holds = λ m l. g.0 }) h in
+      record { later = r.later; holds = λ m n. let o = r.holds m n in (o.0, o.1, o.2, o.3, o.4.0, o.4.1, o.4.2) }
+    where
+      Joined : Shape → Shape → ℕ → Type 0
+      Joined = λ p q m. (i h : ℕ) × (s ≡ Wide (width_of p + width_of q) i h)
 
   rules_keep : (d : ℕ) (σ : Shapes) (t : Term) (s : Shape) (k k' : Tally) → walk_rules d W σ t k ≡ Shaped s k' → Kept D (λ m. ShapeRules (R m) σ t s) k k'
   rules_keep d σ (at _ (VarE x)) s k k' h = leaf (shape_of σ x) s k k' h
@@ -183,12 +196,12 @@ module _ (D : ℕ) (W : Walk) (R : ℕ → Shaping) (keeps : Keeps D W R) where
   rules_keep d σ (at _ (ClipE lo hi e)) s k k' h = alone σ e (λ p. Wide 0 0 0) s k k' h
   rules_keep d σ (at _ (LeastE e)) s k k' h = alone σ e (λ p. Wide 0 0 0) s k k' h
   rules_keep d σ (at _ (GreatestE e)) s k k' h = alone σ e (λ p. Wide 0 0 0) s k k' h
-  rules_keep d σ (at u (SizeE e)) s k k' h = counted d u σ e s k k' h
-  rules_keep d σ (at u (SumE lo hi e)) s k k' h = counted d u σ e s k k' h
-  rules_keep d σ (at u (UnionE a b)) s k k' h = both σ a b (union u) (λ p q m. s ≡ union_shape p q) s k k' (λ p q j h. let g = union_is D u p q s j k' h in record { later = g.1; holds = λ m l. g.0 }) h
-  rules_keep d σ (at u (MapE f b)) s k k' h = over_is d u σ f b s k k' h
-  rules_keep d σ (at u (FilterE f b)) s k k' h = over_is d u σ f b s k k' h
-  rules_keep d σ (at u (SplitE f b)) s k k' h = over_is d u σ f b s k k' h
+  rules_keep d σ (at _ (SizeE e)) s k k' h = counted d σ e s k k' h
+  rules_keep d σ (at _ (SumE lo hi e)) s k k' h = counted d σ e s k k' h
+  rules_keep d σ (at u (UnionE a b)) s k k' h = over_both u σ a b s k k' h
+  rules_keep d σ (at _ (MapE f b)) s k k' h = over_is d σ f b s k k' h
+  rules_keep d σ (at _ (FilterE f b)) s k k' h = over_is d σ f b s k k' h
+  rules_keep d σ (at _ (SplitE f b)) s k k' h = over_is d σ f b s k k' h
 
 -- a turn that isn't past the limit
 pub turn_is : (b : Bool) (f : ShapeFault) (o : WalkOutcome) (s : Shape) (k' : Tally) → cond b (Stops f) o ≡ Shaped s k' → (b ≡ false) × (o ≡ Shaped s k')

@@ -1,6 +1,6 @@
 -- What the heights say of whole programs over tables.
 use Rattle.std.proofs.Common.{arith, refl, subst}
-use Rattle.std.specs.Prelude.{[], suc, zero, ℕ, ◌-◌, ◌∷◌, ◌≡◌, ◌≤◌}
+use Rattle.std.specs.Prelude.{Bool, [], cond, false, suc, true, zero, ℕ, ◌-◌, ◌∷◌, ◌≡◌, ◌≤◌}
 use Rattle.fz_ast.specs.Signature.{Signature, table_type}
 use Rattle.fz_ast.specs.Types.{NumT}
 use Rattle.linear_types.specs.Program.{context_of}
@@ -14,9 +14,9 @@ use Rattle.shape_law.proofs.Kept.{walk_keeps}
 use Rattle.shape_law.proofs.Reaches.{low_walk}
 use Rattle.shape_law.proofs.Widths.{narrow_walk, tables_narrow}
 use Rattle.shape_law.specs.Law.{Planned, PlansAreWithinLimits, ShapedProgramsRun, WalksHaveHeights}
-use Rattle.shape_law.specs.Walk.{Shaped, depth_limit, start, turn_limit, walk}
+use Rattle.shape_law.specs.Walk.{Shaped, Stops, Tally, TooManyWalks, WalkOutcome, depth_limit, start, told, turn_limit, walk}
 use Rattle.shape_law.specs.ShapeIn.{ShapeIn}
-use Rattle.shape_law.specs.Shapes.{table_shapes}
+use Rattle.shape_law.specs.Shapes.{Shape, table_shapes}
 
 -- a table's rows fit its shape
 tables_fit : (ts : Signature) (X : Dataset) → IsDataset ts X → FitsEnv (table_shapes ts) (context_of ts) (rows_of ts X)
@@ -42,15 +42,26 @@ heights left σ t s k h = go left h
         let r = walk_keeps (suc n) (suc n) 1 (omega arith) σ t s start k h in
         (subst (λ c. ShapeIn c σ t s) (from_first k.depth) (r.holds k.depth (omega arith)), omega (arith, r.later.shallow), omega (arith, r.later.short))
 
+-- a program that has a plan is a walk that stops nowhere, and doesn't take too many walks
+pub told_is : (o : WalkOutcome) (s : Shape) (k : Tally) → told o ≡ Shaped s k → (o ≡ Shaped s k) × (k.too_many ≡ false)
+told_is (Shaped r j) s k h = go j.too_many refl h
+  where
+    go : (b : Bool) → j.too_many ≡ b → cond b TooManyWalks (Shaped r j) ≡ Shaped s k → (Shaped r j ≡ Shaped s k) × (k.too_many ≡ false)
+    go true e h = absurd (cc h)
+    go false e h = (h, cc (h, e))
+told_is (Stops x) s k h = absurd (cc h)
+told_is TooManyWalks s k h = absurd (cc h)
+
 pub shaped : ShapedProgramsRun
 shaped ts t D r l a p s k h =
-    planned ts t D r l a p k.depth s (heights depth_limit (table_shapes ts) t s k h).0
+    planned ts t D r l a p k.depth s (heights depth_limit (table_shapes ts) t s k (told_is (walk depth_limit 1 (table_shapes ts) t start) s k h).0).0
 
 pub depth_limit_is : depth_limit ≡ 128
 unfolding depth_limit
 depth_limit_is = refl
 
 pub within_limits : PlansAreWithinLimits
-within_limits ts t s k h =
+within_limits ts t s k is =
+    let h = (told_is (walk depth_limit 1 (table_shapes ts) t start) s k is).0 in
     let w = heights depth_limit (table_shapes ts) t s k h in
     record { deep = w.1; long = w.2; wide = (narrow_walk depth_limit 1 (table_shapes ts) t s start k (tables_narrow ts) (omega arith) h).1; shallow = low_walk depth_limit 1 (omega (arith, depth_limit_is)) (table_shapes ts) t s start k (omega arith) h }

@@ -4,8 +4,8 @@ use Rattle.std.proofs.lemmas.Bool.{leb-true}
 use Rattle.std.specs.Prelude.{Bool, cond, false, max, nat_le, suc, true, zero, ℕ, ◌+◌, ◌-◌, ◌*◌, ◌≡◌, ◌≤◌}
 use Rattle.fz_ast.specs.Terms.{AppE, BangE, CaseE, ClipE, EqE, FilterE, FnE, FstE, FunE, GreatestE, IfE, InlE, InrE, LeE, LeastE, LetBangE, LetE, LetPairE, MapE, MinusE, NumE, PairE, PlusE, SizeE, SndE, SplitE, SumE, Term, TextE, TimesE, UnionE, UnitE, VarE, WithE, at}
 use Rattle.fz_ast.specs.declared.span.Span.{Span}
-use Rattle.shape_law.specs.Shapes.{Also, BangS, FnS, FunS, PairS, Shape, Shapes, Wide, bang_shape, first_half, height_of, in_bang, pair_shape, second_half, shape_of, side_shape, union_shape, walks_of, width_of, wider}
-use Rattle.shape_law.specs.Walk.{Shaped, Stops, Tally, TooManyWalks, TooWide, Walk, WalkOutcome, after_part, after_parts, counted_from, as_before, bag, enters, next, over, over_bag, reach_limit, turn, turn_limit, union, walk, walk_limit, walk_rules, walked, walks_at, weighed, width_limit, yields}
+use Rattle.shape_law.specs.Shapes.{Also, BangS, FnS, FunS, PairS, Shape, Shapes, Wide, bang_shape, first_half, height_of, in_bang, pair_shape, second_half, shape_of, side_shape, walks_of, width_of, wider}
+use Rattle.shape_law.specs.Walk.{Shaped, Stops, Tally, TooWide, Walk, WalkOutcome, after_part, after_parts, counted_from, as_before, bag, enters, next, noted, over, over_bag, reach_limit, turn, turn_limit, union, walk, walk_limit, walk_rules, walked, walks_at, weighed, width_limit, yields}
 use Rattle.shape_law.proofs.Kept.{next_is, turn_is}
 
 -- nothing so far is evaluated deeper than the limit
@@ -18,30 +18,30 @@ LowWalk W = (σ : Shapes) (t : Term) (s : Shape) (k k' : Tally) → k.reach ≤ 
 yielded : (r s : Shape) (k k' : Tally) → Low k → yields r k ≡ Shaped s k' → Low k'
 yielded r s k k' l h = let e : k'.reach ≡ k.reach = cc h in omega (arith, e, l)
 
-weighs : (u : Span) (r s : Shape) (k k' : Tally) → Low k → weighed u r k ≡ Shaped s k' → Low k'
-weighs u r s k k' l h = go (nat_le walk_limit (walks_of r)) h
+weighs : (w i v : ℕ) (s : Shape) (k k' : Tally) → Low k → weighed w i v k ≡ Shaped s k' → Low k'
+weighs w i v s k k' l h = go (nat_le walk_limit i) h
   where
-    go : (b : Bool) → cond b (TooManyWalks u) (yields r k) ≡ Shaped s k' → Low k'
-    go true h = cc
-    go false h = yielded r s k k' l h
+    go : (b : Bool) → cond b (yields (Wide w 0 0) (noted k)) (yields (Wide w i v) k) ≡ Shaped s k' → Low k'
+    go true h = yielded (Wide w 0 0) s (noted k) k' l h
+    go false h = yielded (Wide w i v) s k k' l h
 
 united : (u : Span) (p q s : Shape) (k k' : Tally) → Low k → union u p q k ≡ Shaped s k' → Low k'
 united u p q s k k' l h = go (nat_le (width_of p + width_of q) width_limit) h
   where
-    go : (b : Bool) → cond b (weighed u (union_shape p q) k) (Stops (TooWide u (width_of p + width_of q))) ≡ Shaped s k' → Low k'
-    go true h = weighs u (union_shape p q) s k k' l h
+    go : (b : Bool) → cond b (weighed (width_of p + width_of q) (walks_of p + walks_of q) (max (height_of p) (height_of q)) k) (Stops (TooWide u (width_of p + width_of q))) ≡ Shaped s k' → Low k'
+    go true h = weighs (width_of p + width_of q) (walks_of p + walks_of q) (max (height_of p) (height_of q)) s k k' l h
     go false h = cc
 
 -- a bag is as deep as what came before it
-bagged : (d : ℕ) (u : Span) (q s : Shape) (before k k' : Tally) → Low before → bag d u q before k ≡ Shaped s k' → Low k'
-bagged d u q s before k k' l h = weighs u (Wide (width_of q) (width_of q * k.walks + walks_of q) (max (height_of q) (k.reach - d))) s (as_before before k) k' l h
+bagged : (d : ℕ) (q s : Shape) (before k k' : Tally) → Low before → bag d q before k ≡ Shaped s k' → Low k'
+bagged d q s before k k' l h = weighs (width_of q) (width_of q * k.walks + walks_of q) (max (height_of q) (k.reach - d)) s (as_before before k) k' l h
 
-measured : (d : ℕ) (u : Span) (p s : Shape) (k k' : Tally) → Low k → walks_at d u p k ≡ Shaped s k' → Low k'
-measured d u p s k k' l h = go (nat_le (d + height_of p) reach_limit) refl h
+measured : (d : ℕ) (p s : Shape) (k k' : Tally) → Low k → walks_at d p k ≡ Shaped s k' → Low k'
+measured d p s k k' l h = go (nat_le (d + height_of p) reach_limit) refl h
   where
-    go : (b : Bool) → nat_le (d + height_of p) reach_limit ≡ b → cond b (yields (Wide 0 0 0) (walked d p k)) (TooManyWalks u) ≡ Shaped s k' → Low k'
+    go : (b : Bool) → nat_le (d + height_of p) reach_limit ≡ b → yields (Wide 0 0 0) (cond b (walked d p k) (noted k)) ≡ Shaped s k' → Low k'
     go true e h = yielded (Wide 0 0 0) s (walked d p k) k' (let g = leb-true (d + height_of p) reach_limit e in omega (arith, g, l)) h
-    go false e h = cc
+    go false e h = yielded (Wide 0 0 0) s (noted k) k' l h
 
 module _ (W : Walk) (low : LowWalk W) where
   part : (σ : Shapes) (e : Term) (f : Shape → Tally → WalkOutcome) (s : Shape) (k k' : Tally) → Low k
@@ -78,16 +78,16 @@ module _ (W : Walk) (low : LowWalk W) where
   entered (PairS a b) u s k k' l h = yielded (Wide 0 0 0) s k k' l h
   entered (BangS a) u s k k' l h = yielded (Wide 0 0 0) s k k' l h
 
-  counted : (d : ℕ) (u : Span) (σ : Shapes) (e : Term) (s : Shape) (k k' : Tally) → Low k → after_part W σ e k (walks_at d u) ≡ Shaped s k' → Low k'
-  counted d u σ e s k k' l h = part σ e (walks_at d u) s k k' l (λ p j y. measured d u p s j k' y) h
+  counted : (d : ℕ) (σ : Shapes) (e : Term) (s : Shape) (k k' : Tally) → Low k → after_part W σ e k (walks_at d) ≡ Shaped s k' → Low k'
+  counted d σ e s k k' l h = part σ e (walks_at d) s k k' l (λ p j y. measured d p s j k' y) h
 
-  over_low : (d : ℕ) (u : Span) (σ : Shapes) (f b : Term) (s : Shape) (k k' : Tally) → Low k → over_bag d W u σ f b k ≡ Shaped s k' → Low k'
-  over_low d u σ f b s k k' l h = parts σ σ f b (over d W u) s k k' l inside h
+  over_low : (d : ℕ) (σ : Shapes) (f b : Term) (s : Shape) (k k' : Tally) → Low k → over_bag d W σ f b k ≡ Shaped s k' → Low k'
+  over_low d σ f b s k k' l h = parts σ σ f b (over d W) s k k' l inside h
     where
-      inside : (c q : Shape) (j : Tally) → Low j → over d W u c q j ≡ Shaped s k' → Low k'
+      inside : (c q : Shape) (j : Tally) → Low j → over d W c q j ≡ Shaped s k' → Low k'
       inside c q j z h =
-          let i = next_is (enters W c (Wide 0 0 0) (counted_from d j)) (λ r. bag d u q j) s k' h in
-          bagged d u q s j i.1 k' z i.3
+          let i = next_is (enters W c (Wide 0 0 0) (counted_from d j)) (λ r. bag d q j) s k' h in
+          bagged d q s j i.1 k' z i.3
 
   low_rules : (d : ℕ) (σ : Shapes) (t : Term) (s : Shape) (k k' : Tally) → Low k → walk_rules d W σ t k ≡ Shaped s k' → Low k'
   low_rules d σ (at _ (VarE x)) s k k' l h = yielded (shape_of σ x) s k k' l h
@@ -117,12 +117,12 @@ module _ (W : Walk) (low : LowWalk W) where
   low_rules d σ (at _ (ClipE lo hi e)) s k k' l h = alone σ e (λ p. Wide 0 0 0) s k k' l h
   low_rules d σ (at _ (LeastE e)) s k k' l h = alone σ e (λ p. Wide 0 0 0) s k k' l h
   low_rules d σ (at _ (GreatestE e)) s k k' l h = alone σ e (λ p. Wide 0 0 0) s k k' l h
-  low_rules d σ (at u (SizeE e)) s k k' l h = counted d u σ e s k k' l h
-  low_rules d σ (at u (SumE lo hi e)) s k k' l h = counted d u σ e s k k' l h
+  low_rules d σ (at _ (SizeE e)) s k k' l h = counted d σ e s k k' l h
+  low_rules d σ (at _ (SumE lo hi e)) s k k' l h = counted d σ e s k k' l h
   low_rules d σ (at u (UnionE a b)) s k k' l h = parts σ σ a b (union u) s k k' l (λ p q j y. united u p q s j k' y) h
-  low_rules d σ (at u (MapE f b)) s k k' l h = over_low d u σ f b s k k' l h
-  low_rules d σ (at u (FilterE f b)) s k k' l h = over_low d u σ f b s k k' l h
-  low_rules d σ (at u (SplitE f b)) s k k' l h = over_low d u σ f b s k k' l h
+  low_rules d σ (at _ (MapE f b)) s k k' l h = over_low d σ f b s k k' l h
+  low_rules d σ (at _ (FilterE f b)) s k k' l h = over_low d σ f b s k k' l h
+  low_rules d σ (at _ (SplitE f b)) s k k' l h = over_low d σ f b s k k' l h
 
 pub low_walk : (left here : ℕ) → here + left ≤ suc reach_limit → LowWalk (walk left here)
 low_walk zero here e σ t s k k' l h = cc

@@ -279,7 +279,7 @@ run (suc n) Γ w (at _ (SumE lo hi e)) _ _ (is_sum p) σ γ s f h =
     record { value = NumV (clamp (clipped_sum lo hi zs.0)); does = (zs.0, m, refl); fits = rw h.2 (gives_clamped (clipped_sum lo hi zs.0)) }
 run (suc n) Γ w (at _ (UnionE a b)) _ _ (is_union {A = A} p q) σ γ s f h =
     let x = bag_run (run n Γ w a (BagT A) _ p σ γ h.0 f h.2) in let y = bag_run (run n Γ w b (BagT A) _ q σ γ h.1 f h.3) in
-    record { value = BagV (x.0 ++ y.0); does = (x.0, y.0, x.1, y.1, refl); fits = rw h.4 (fits_ground tt (typed_bag (append_all (λ x. Typed A (value_of x)) x.0 y.0 x.2 y.2))) }
+    record { value = BagV (x.0 ++ y.0); does = (x.0, y.0, x.1, y.1, refl); fits = rw h.6 (fits_ground tt (typed_bag (append_all (λ x. Typed A (value_of x)) x.0 y.0 x.2 y.2))) }
 run (suc n) Γ w (at _ (MapE c b)) _ _ (is_map {A = A} {B = B} p g q) σ γ s f h =
     rw h.7 (map_run _ h.5 h.6 (run n) (elements_flat A (written w q)) (results_flat (BangT Inf A) B (written w p) g) (run n Γ w c (ArrowT (BangT Inf A) B) _ p σ γ h.0 f h.2) (run n Γ w b (BagT A) _ q σ γ h.1 f h.3) h.4)
 run (suc n) Γ w (at _ (FilterE c b)) _ _ (is_filter {A = A} p q) σ γ s f h =

@@ -5,8 +5,8 @@ use Rattle.std.specs.Prelude.{Bool, [], bytes_eq, cond, false, max, nat_le, suc,
 use Rattle.fz_ast.specs.Signature.{Signature}
 use Rattle.fz_ast.specs.Terms.{AppE, BangE, CaseE, ClipE, EqE, FilterE, FnE, FstE, FunE, GreatestE, IfE, InlE, InrE, LeE, LeastE, LetBangE, LetE, LetPairE, MapE, MinusE, Name, NumE, PairE, PlusE, SizeE, SndE, SplitE, SumE, Term, TextE, TimesE, UnionE, UnitE, VarE, WithE, at}
 use Rattle.fz_ast.specs.declared.span.Span.{Span}
-use Rattle.shape_law.specs.Shapes.{Also, BangS, FnS, FunS, Nothing, PairS, Shape, Shapes, Wide, bang_shape, first_half, height_of, in_bang, pair_shape, second_half, shape_of, side_shape, table_shapes, union_shape, walks_of, width_of, wider}
-use Rattle.shape_law.specs.Walk.{Shaped, Stops, Tally, TooManyWalks, TooWide, Walk, WalkOutcome, after_part, after_parts, counted_from, as_before, bag, enters, next, over, over_bag, reach_limit, turn, turn_limit, union, walk, walk_limit, walk_rules, walked, walks_at, weighed, width_limit, yields}
+use Rattle.shape_law.specs.Shapes.{Also, BangS, FnS, FunS, Nothing, PairS, Shape, Shapes, Wide, bang_shape, first_half, height_of, in_bang, pair_shape, second_half, shape_of, side_shape, table_shapes, walks_of, width_of, wider}
+use Rattle.shape_law.specs.Walk.{Shaped, Stops, Tally, TooWide, Walk, WalkOutcome, after_part, after_parts, counted_from, as_before, bag, enters, next, noted, over, over_bag, reach_limit, turn, turn_limit, union, walk, walk_limit, walk_rules, walked, walks_at, weighed, width_limit, yields}
 use Rattle.shape_law.proofs.Kept.{next_is, turn_is}
 
 mutual
@@ -107,30 +107,31 @@ yielded r s k k' n l h =
     let w : k'.width ≡ max k.width (width_of r) = cc h in
     (subst Narrow e n, omega (arith, w, width_narrow r n))
 
-weighs : (u : Span) (r s : Shape) (k k' : Tally) → Narrow r → k.width ≤ width_limit → weighed u r k ≡ Shaped s k' → Stays s k'
-weighs u r s k k' n l h = go (nat_le walk_limit (walks_of r)) h
+weighs : (w i v : ℕ) (s : Shape) (k k' : Tally) → w ≤ width_limit → k.width ≤ width_limit → weighed w i v k ≡ Shaped s k' → Stays s k'
+weighs w i v s k k' n l h = go (nat_le walk_limit i) h
   where
-    go : (b : Bool) → cond b (TooManyWalks u) (yields r k) ≡ Shaped s k' → Stays s k'
-    go true h = cc
-    go false h = yielded r s k k' n l h
+    go : (b : Bool) → cond b (yields (Wide w 0 0) (noted k)) (yields (Wide w i v) k) ≡ Shaped s k' → Stays s k'
+    go true h = yielded (Wide w 0 0) s (noted k) k' (narrow_ground n) l h
+    go false h = yielded (Wide w i v) s k k' (narrow_ground n) l h
 
 united : (u : Span) (p q s : Shape) (k k' : Tally) → k.width ≤ width_limit → union u p q k ≡ Shaped s k' → Stays s k'
 united u p q s k k' l h = go (nat_le (width_of p + width_of q) width_limit) refl h
   where
-    go : (b : Bool) → nat_le (width_of p + width_of q) width_limit ≡ b → cond b (weighed u (union_shape p q) k) (Stops (TooWide u (width_of p + width_of q))) ≡ Shaped s k' → Stays s k'
-    go true e h = weighs u (union_shape p q) s k k' (narrow_ground (leb-true (width_of p + width_of q) width_limit e)) l h
+    go : (b : Bool) → nat_le (width_of p + width_of q) width_limit ≡ b
+        → cond b (weighed (width_of p + width_of q) (walks_of p + walks_of q) (max (height_of p) (height_of q)) k) (Stops (TooWide u (width_of p + width_of q))) ≡ Shaped s k' → Stays s k'
+    go true e h = weighs (width_of p + width_of q) (walks_of p + walks_of q) (max (height_of p) (height_of q)) s k k' (leb-true (width_of p + width_of q) width_limit e) l h
     go false e h = cc
 
-bagged : (d : ℕ) (u : Span) (q s : Shape) (before k k' : Tally) → Narrow q → k.width ≤ width_limit → bag d u q before k ≡ Shaped s k' → Stays s k'
-bagged d u q s before k k' n l h =
-    weighs u (Wide (width_of q) (width_of q * k.walks + walks_of q) (max (height_of q) (k.reach - d))) s (as_before before k) k' (narrow_ground (width_narrow q n)) l h
+bagged : (d : ℕ) (q s : Shape) (before k k' : Tally) → Narrow q → k.width ≤ width_limit → bag d q before k ≡ Shaped s k' → Stays s k'
+bagged d q s before k k' n l h =
+    weighs (width_of q) (width_of q * k.walks + walks_of q) (max (height_of q) (k.reach - d)) s (as_before before k) k' (width_narrow q n) l h
 
-measured : (d : ℕ) (u : Span) (p s : Shape) (k k' : Tally) → k.width ≤ width_limit → walks_at d u p k ≡ Shaped s k' → Stays s k'
-measured d u p s k k' l h = go (nat_le (d + height_of p) reach_limit) h
+measured : (d : ℕ) (p s : Shape) (k k' : Tally) → k.width ≤ width_limit → walks_at d p k ≡ Shaped s k' → Stays s k'
+measured d p s k k' l h = go (nat_le (d + height_of p) reach_limit) h
   where
-    go : (b : Bool) → cond b (yields (Wide 0 0 0) (walked d p k)) (TooManyWalks u) ≡ Shaped s k' → Stays s k'
+    go : (b : Bool) → yields (Wide 0 0 0) (cond b (walked d p k) (noted k)) ≡ Shaped s k' → Stays s k'
     go true h = yielded (Wide 0 0 0) s (walked d p k) k' none l h
-    go false h = cc
+    go false h = yielded (Wide 0 0 0) s (noted k) k' none l h
 
 module _ (W : Walk) (narrow : NarrowWalk W) where
   -- what follows a part whose shape stays within the limit
@@ -170,16 +171,16 @@ module _ (W : Walk) (narrow : NarrowWalk W) where
   entered (PairS a b) u s k k' c n l h = yielded (Wide 0 0 0) s k k' none l h
   entered (BangS a) u s k k' c n l h = yielded (Wide 0 0 0) s k k' none l h
 
-  counted : (d : ℕ) (u : Span) (σ : Shapes) (e : Term) (s : Shape) (k k' : Tally) → NarrowNames σ → k.width ≤ width_limit → after_part W σ e k (walks_at d u) ≡ Shaped s k' → Stays s k'
-  counted d u σ e s k k' n l h = part σ e (walks_at d u) s k k' n l (λ p j x y. measured d u p s j k' y) h
+  counted : (d : ℕ) (σ : Shapes) (e : Term) (s : Shape) (k k' : Tally) → NarrowNames σ → k.width ≤ width_limit → after_part W σ e k (walks_at d) ≡ Shaped s k' → Stays s k'
+  counted d σ e s k k' n l h = part σ e (walks_at d) s k k' n l (λ p j x y. measured d p s j k' y) h
 
-  over_stays : (d : ℕ) (u : Span) (σ : Shapes) (f b : Term) (s : Shape) (k k' : Tally) → NarrowNames σ → k.width ≤ width_limit → over_bag d W u σ f b k ≡ Shaped s k' → Stays s k'
-  over_stays d u σ f b s k k' n l h = parts σ σ f b (over d W u) s k k' n n l inside h
+  over_stays : (d : ℕ) (σ : Shapes) (f b : Term) (s : Shape) (k k' : Tally) → NarrowNames σ → k.width ≤ width_limit → over_bag d W σ f b k ≡ Shaped s k' → Stays s k'
+  over_stays d σ f b s k k' n l h = parts σ σ f b (over d W) s k k' n n l inside h
     where
-      inside : (c q : Shape) (j : Tally) → Narrow c → Narrow q → j.width ≤ width_limit → over d W u c q j ≡ Shaped s k' → Stays s k'
+      inside : (c q : Shape) (j : Tally) → Narrow c → Narrow q → j.width ≤ width_limit → over d W c q j ≡ Shaped s k' → Stays s k'
       inside c q j x y z h =
-          let i = next_is (enters W c (Wide 0 0 0) (counted_from d j)) (λ r. bag d u q j) s k' h in
-          bagged d u q s j i.1 k' y (entered c (Wide 0 0 0) i.0 (counted_from d j) i.1 x none z i.2).1 i.3
+          let i = next_is (enters W c (Wide 0 0 0) (counted_from d j)) (λ r. bag d q j) s k' h in
+          bagged d q s j i.1 k' y (entered c (Wide 0 0 0) i.0 (counted_from d j) i.1 x none z i.2).1 i.3
 
   narrow_rules : (d : ℕ) (σ : Shapes) (t : Term) (s : Shape) (k k' : Tally) → NarrowNames σ → k.width ≤ width_limit → walk_rules d W σ t k ≡ Shaped s k' → Stays s k'
   narrow_rules d σ (at _ (VarE x)) s k k' n l h = yielded (shape_of σ x) s k k' (name_narrow σ x n) l h
@@ -213,12 +214,12 @@ module _ (W : Walk) (narrow : NarrowWalk W) where
   narrow_rules d σ (at _ (ClipE lo hi e)) s k k' n l h = alone σ e (λ p. Wide 0 0 0) s k k' n l (λ p x. none) h
   narrow_rules d σ (at _ (LeastE e)) s k k' n l h = alone σ e (λ p. Wide 0 0 0) s k k' n l (λ p x. none) h
   narrow_rules d σ (at _ (GreatestE e)) s k k' n l h = alone σ e (λ p. Wide 0 0 0) s k k' n l (λ p x. none) h
-  narrow_rules d σ (at u (SizeE e)) s k k' n l h = counted d u σ e s k k' n l h
-  narrow_rules d σ (at u (SumE lo hi e)) s k k' n l h = counted d u σ e s k k' n l h
+  narrow_rules d σ (at _ (SizeE e)) s k k' n l h = counted d σ e s k k' n l h
+  narrow_rules d σ (at _ (SumE lo hi e)) s k k' n l h = counted d σ e s k k' n l h
   narrow_rules d σ (at u (UnionE a b)) s k k' n l h = parts σ σ a b (union u) s k k' n n l (λ p q j x y. united u p q s j k') h
-  narrow_rules d σ (at u (MapE f b)) s k k' n l h = over_stays d u σ f b s k k' n l h
-  narrow_rules d σ (at u (FilterE f b)) s k k' n l h = over_stays d u σ f b s k k' n l h
-  narrow_rules d σ (at u (SplitE f b)) s k k' n l h = over_stays d u σ f b s k k' n l h
+  narrow_rules d σ (at _ (MapE f b)) s k k' n l h = over_stays d σ f b s k k' n l h
+  narrow_rules d σ (at _ (FilterE f b)) s k k' n l h = over_stays d σ f b s k k' n l h
+  narrow_rules d σ (at _ (SplitE f b)) s k k' n l h = over_stays d σ f b s k k' n l h
 
 pub narrow_walk : (left here : ℕ) → NarrowWalk (walk left here)
 narrow_walk zero here σ t s k k' n l h = cc

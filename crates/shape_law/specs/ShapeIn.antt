@@ -1,10 +1,10 @@
 -- The shape of a term, by a walk of at most some height: a leaf has height 1,
 -- and a part, or a body that is entered, is one deeper.
-use Rattle.std.specs.Prelude.{ℕ, zero, suc, ◌≡◌}
+use Rattle.std.specs.Prelude.{ℕ, zero, suc, ◌+◌, ◌≡◌}
 use Rattle.fz_ast.specs.Terms.{AppE, BangE, CaseE, ClipE, EqE, FilterE, FnE, FstE, FunE, GreatestE, IfE, InlE, InrE, LeE, LeastE, LetBangE, LetE, LetPairE}
 use Rattle.fz_ast.specs.Terms.{MapE, MinusE, NumE, PairE, PlusE, SizeE, SndE, SplitE, SumE, Term, TextE, TimesE, UnionE, UnitE, VarE, WithE, at}
 use Rattle.shape_law.specs.Shapes.{Shape, Wide, FunS, FnS, Shapes, Also, shape_of, width_of, wider, pair_shape, first_half, second_half, bang_shape, in_bang}
-use Rattle.shape_law.specs.Shapes.{side_shape, union_shape}
+use Rattle.shape_law.specs.Shapes.{side_shape}
 
 -- a relation between shapes of names, terms and shapes
 abbrev pub Shaping : Type 1
@@ -30,6 +30,10 @@ Two R σ a b f r = (p q : Shape) × R σ a p × R σ b q × (r ≡ f p q)
 -- a function, a bag and the function's body; the whole is as wide as the bag, and how many walks it takes for a row, and how deep, isn't said
 abbrev pub OverBag : Shaping → Shapes → Term → Term → Shape → Type 0
 OverBag R σ f b r = (c q : Shape) × R σ f c × R σ b q × Visits R c × (i h : ℕ) × (r ≡ Wide (width_of q) i h)
+
+-- two bags, whose widths add up
+abbrev pub OverBoth : Shaping → Shapes → Term → Term → Shape → Type 0
+OverBoth R σ a b r = (p q : Shape) × R σ a p × R σ b q × (i h : ℕ) × (r ≡ Wide (width_of p + width_of q) i h)
 
 -- one rule per form of term, over the shapes of its parts
 abbrev pub ShapeRules : Shaping → Shaping
@@ -64,7 +68,7 @@ ShapeRules R σ (at s (LeastE e)) r = One R σ e (λ p. Wide 0 0 0) r
 ShapeRules R σ (at s (GreatestE e)) r = One R σ e (λ p. Wide 0 0 0) r
 ShapeRules R σ (at s (SizeE e)) r = One R σ e (λ p. Wide 0 0 0) r
 ShapeRules R σ (at s (SumE lo hi e)) r = One R σ e (λ p. Wide 0 0 0) r
-ShapeRules R σ (at s (UnionE a b)) r = Two R σ a b union_shape r
+ShapeRules R σ (at s (UnionE a b)) r = OverBoth R σ a b r
 ShapeRules R σ (at s (MapE f b)) r = OverBag R σ f b r
 ShapeRules R σ (at s (FilterE f b)) r = OverBag R σ f b r
 ShapeRules R σ (at s (SplitE f b)) r = OverBag R σ f b r

@@ -1,5 +1,5 @@
 -- What the run without data computes with: shapes in the place of values.
-use Rattle.std.specs.Prelude.{ℕ, [], ◌∷◌, ◌+◌, max, bytes_eq, cond}
+use Rattle.std.specs.Prelude.{ℕ, [], ◌∷◌, max, bytes_eq, cond}
 use Rattle.fz_ast.specs.Signature.{Signature}
 use Rattle.fz_ast.specs.Terms.{Name, Term}
 
@@ -46,10 +46,6 @@ wider a b = Wide (max (width_of a) (width_of b)) (max (walks_of a) (walks_of b))
 -- a sum is as wide as its side, and takes its walks as deep
 abbrev pub side_shape : Shape → Shape
 side_shape a = Wide (width_of a) (walks_of a) (height_of a)
-
--- a union has the rows of both: their widths add up, and what their functions walk, as deep as the deeper of both
-abbrev pub union_shape : Shape → Shape → Shape
-union_shape a b = Wide (width_of a + width_of b) (walks_of a + walks_of b) (max (height_of a) (height_of b))
 
 -- a pair of ground values is ground
 abbrev pub pair_shape : Shape → Shape → Shape

@@ -1,11 +1,11 @@
 -- The run without data, with its limits: from left to right, each visit of a node being one turn.
-use Rattle.std.specs.Prelude.{ℕ, zero, suc, ◌+◌, ◌-◌, ◌*◌, max, cond, nat_le}
+use Rattle.std.specs.Prelude.{Bool, ℕ, false, true, zero, suc, ◌+◌, ◌-◌, ◌*◌, max, cond, nat_le}
 use Rattle.fz_ast.specs.declared.span.Span.{Span}
 use Rattle.fz_ast.specs.Signature.{Signature}
 use Rattle.fz_ast.specs.Terms.{AppE, BangE, CaseE, ClipE, EqE, FilterE, FnE, FstE, FunE, GreatestE, IfE, InlE, InrE, LeE, LeastE, LetBangE, LetE, LetPairE}
 use Rattle.fz_ast.specs.Terms.{MapE, MinusE, NumE, PairE, PlusE, SizeE, SndE, SplitE, SumE, Term, TextE, TimesE, UnionE, UnitE, VarE, WithE, at, span_of}
 use Rattle.shape_law.specs.Shapes.{Shape, Wide, FunS, FnS, Shapes, Also, shape_of, width_of, wider, pair_shape, first_half, second_half, bang_shape, in_bang}
-use Rattle.shape_law.specs.Shapes.{height_of, side_shape, table_shapes, union_shape, walks_of}
+use Rattle.shape_law.specs.Shapes.{height_of, side_shape, table_shapes, walks_of}
 
 -- it doesn't unfold by itself, since `walk 128` would unfold 128 times in each goal
 unfoldable pub depth_limit : ℕ
@@ -25,13 +25,15 @@ walk_limit = 64
 abbrev pub reach_limit : ℕ
 reach_limit = 400
 
--- what came so far: how many turns, the deepest visit, the widest shape, the walks of bags where each table has one row, and how deep terms are evaluated
+-- what came so far: how many turns, the deepest visit, the widest shape, the walks of bags where each table has one row, how deep terms are evaluated,
+-- and whether some bag takes more walks than one may, or is evaluated deeper
 pub record Tally : Type 0 where
   pub turns : ℕ
   pub depth : ℕ
   pub width : ℕ
   pub walks : ℕ
   pub reach : ℕ
+  pub too_many : Bool
 
 -- the first limit that is passed, with the term at which it is
 pub data ShapeFault : Type 0 where
@@ -42,8 +44,8 @@ pub data ShapeFault : Type 0 where
 pub data WalkOutcome : Type 0 where
   Shaped : (r : Shape) (k : Tally) → WalkOutcome
   Stops : (f : ShapeFault) → WalkOutcome
-  -- the functions of the bag at this term take too many walks where each table has one row, or its own walk evaluates them too deep
-  TooManyWalks : (s : Span) → WalkOutcome
+  -- of a whole program: no limit of depths, turns and widths is passed, but its bags take too many walks
+  TooManyWalks : WalkOutcome
 
 -- a way to visit a term under names with shapes, after what came so far
 abbrev pub Walk : Type 0
@@ -53,7 +55,7 @@ Walk = Shapes → Term → Tally → WalkOutcome
 abbrev pub next : WalkOutcome → (Shape → Tally → WalkOutcome) → WalkOutcome
 next (Shaped r k) f = f r k
 next (Stops x) f = Stops x
-next (TooManyWalks s) f = TooManyWalks s
+next TooManyWalks f = TooManyWalks
 
 -- a term's own shape, whose width counts
 abbrev pub yields : Shape → Tally → WalkOutcome
@@ -76,9 +78,13 @@ enters W c u k = yields (Wide 0 0 0) k
 abbrev pub walked : (d : ℕ) → Shape → Tally → Tally
 walked d p k = record k { walks = k.walks + walks_of p + 1; reach = max k.reach (d + height_of p) }
 
--- a bag's size or sum at s, whose part has depth d, unless the bag's functions are evaluated too deep
-abbrev pub walks_at : (d : ℕ) → Span → Shape → Tally → WalkOutcome
-walks_at d s p k = cond (nat_le (d + height_of p) reach_limit) (yields (Wide 0 0 0) (walked d p k)) (TooManyWalks s)
+-- it is kept in mind that a bag takes too many walks: the run goes on, since a limit may be passed later
+abbrev pub noted : Tally → Tally
+noted k = record k { too_many = true }
+
+-- a bag's size or sum, whose part has depth d; where the bag's functions are evaluated too deep, that is noted, and the walk isn't counted
+abbrev pub walks_at : (d : ℕ) → Shape → Tally → WalkOutcome
+walks_at d p k = yields (Wide 0 0 0) (cond (nat_le (d + height_of p) reach_limit) (walked d p k) (noted k))
 
 -- no walks yet, and none deeper than d
 abbrev pub counted_from : (d : ℕ) → Tally → Tally
@@ -88,26 +94,29 @@ counted_from d k = record k { walks = 0; reach = d }
 abbrev pub as_before : Tally → Tally → Tally
 as_before b k = record k { walks = b.walks; reach = b.reach }
 
--- the bag at s, unless its functions take too many walks
-abbrev pub weighed : Span → Shape → Tally → WalkOutcome
-weighed s r k = cond (nat_le walk_limit (walks_of r)) (TooManyWalks s) (yields r k)
+-- a bag w tables wide, whose functions take i walks and are evaluated h deep; where those are too many, that is noted, and none count
+abbrev pub weighed : (w i h : ℕ) → Tally → WalkOutcome
+weighed w i h k = cond (nat_le walk_limit i) (yields (Wide w 0 0) (noted k)) (yields (Wide w i h) k)
 
--- The functions of the bag at s take what those of the bag q took, and for each of its tables what the visit of the body counted,
+-- The bag's functions take what those of the bag q took, and for each of its tables what the visit of the body counted,
 -- and are as deep as they, or as that visit was from depth d on.
-abbrev pub bag : (d : ℕ) → Span → Shape → (before : Tally) → Tally → WalkOutcome
-bag d s q before k = weighed s (Wide (width_of q) (width_of q * k.walks + walks_of q) (max (height_of q) (k.reach - d))) (as_before before k)
+abbrev pub bag : (d : ℕ) → Shape → (before : Tally) → Tally → WalkOutcome
+bag d q before k = weighed (width_of q) (width_of q * k.walks + walks_of q) (max (height_of q) (k.reach - d)) (as_before before k)
 
 -- the body of c once at depth d, whose walks are counted apart
-abbrev pub over : (d : ℕ) → Walk → Span → Shape → Shape → Tally → WalkOutcome
-over d W s c q k = next (enters W c (Wide 0 0 0) (counted_from d k)) (λ r. bag d s q k)
+abbrev pub over : (d : ℕ) → Walk → Shape → Shape → Tally → WalkOutcome
+over d W c q k = next (enters W c (Wide 0 0 0) (counted_from d k)) (λ r. bag d q k)
 
 -- the function, the bag, and the function's body once
-abbrev pub over_bag : (d : ℕ) → Walk → Span → Shapes → Term → Term → Tally → WalkOutcome
-over_bag d W s σ f b k = after_parts W σ f b k (over d W s)
+abbrev pub over_bag : (d : ℕ) → Walk → Shapes → Term → Term → Tally → WalkOutcome
+over_bag d W σ f b k = after_parts W σ f b k (over d W)
 
--- the union at s of bags of these widths
+-- The union at s has the rows of both bags: their widths add up, and what their functions walk, as deep as the deeper of both.
 abbrev pub union : Span → Shape → Shape → Tally → WalkOutcome
-union s p q k = cond (nat_le (width_of p + width_of q) width_limit) (weighed s (union_shape p q) k) (Stops (TooWide s (width_of p + width_of q)))
+union s p q k =
+    cond (nat_le (width_of p + width_of q) width_limit)
+    (weighed (width_of p + width_of q) (walks_of p + walks_of q) (max (height_of p) (height_of q)) k)
+    (Stops (TooWide s (width_of p + width_of q)))
 
 -- what a term does after its own turn, W being the way to visit one deeper, at depth d
 abbrev pub walk_rules : (d : ℕ) → Walk → Walk
@@ -140,12 +149,12 @@ walk_rules d W σ (at s (EqE a b)) k = after_parts W σ a b k (λ p q. yields (W
 walk_rules d W σ (at s (ClipE lo hi e)) k = after_part W σ e k (λ p. yields (Wide 0 0 0))
 walk_rules d W σ (at s (LeastE e)) k = after_part W σ e k (λ p. yields (Wide 0 0 0))
 walk_rules d W σ (at s (GreatestE e)) k = after_part W σ e k (λ p. yields (Wide 0 0 0))
-walk_rules d W σ (at s (SizeE e)) k = after_part W σ e k (walks_at d s)
-walk_rules d W σ (at s (SumE lo hi e)) k = after_part W σ e k (walks_at d s)
+walk_rules d W σ (at s (SizeE e)) k = after_part W σ e k (walks_at d)
+walk_rules d W σ (at s (SumE lo hi e)) k = after_part W σ e k (walks_at d)
 walk_rules d W σ (at s (UnionE a b)) k = after_parts W σ a b k (union s)
-walk_rules d W σ (at s (MapE f b)) k = over_bag d W s σ f b k
-walk_rules d W σ (at s (FilterE f b)) k = over_bag d W s σ f b k
-walk_rules d W σ (at s (SplitE f b)) k = over_bag d W s σ f b k
+walk_rules d W σ (at s (MapE f b)) k = over_bag d W σ f b k
+walk_rules d W σ (at s (FilterE f b)) k = over_bag d W σ f b k
+walk_rules d W σ (at s (SplitE f b)) k = over_bag d W σ f b k
 
 -- one turn more, at depth d
 abbrev pub turn : (d : ℕ) → Tally → Tally
@@ -157,8 +166,13 @@ walk zero here σ t k = Stops (TooDeep (span_of t))
 walk (suc left) here σ t k = cond (nat_le turn_limit k.turns) (Stops (TooLong (span_of t))) (walk_rules (suc here) (walk left (suc here)) σ t (turn here k))
 
 abbrev pub start : Tally
-start = record { turns = 0; depth = 0; width = 0; walks = 0; reach = 0 }
+start = record { turns = 0; depth = 0; width = 0; walks = 0; reach = 0; too_many = false }
+
+-- the first limit that is passed comes before too many walks
+abbrev pub told : WalkOutcome → WalkOutcome
+told (Shaped r k) = cond k.too_many TooManyWalks (Shaped r k)
+told o = o
 
 -- a whole program over the tables of a signature: the program's node has depth 1
 abbrev pub shape : Signature → Term → WalkOutcome
-shape ts t = walk depth_limit 1 (table_shapes ts) t start
+shape ts t = told (walk depth_limit 1 (table_shapes ts) t start)

@@ -4,7 +4,7 @@
 ghost use Rattle.metric_law.specs.Worked.{span, counted, filtered_and_mapped};
 ghost use Rattle.shape_law.specs.Law.{Planned, PlansAreWithinLimits, ShapedProgramsRun, WalksHaveHeights};
 ghost use Rattle.shape_law.specs.Walk.{TooWide};
-ghost use Rattle.shape_law.specs.Worked.{PassesLimit, Plans, WalksTooMuch, doubled, nested, united};
+ghost use Rattle.shape_law.specs.Worked.{PassesLimit, Plans, WalksTooMuch, doubled, doubled_and_nested, nested, nested_and_doubled, united};
 
 /// Where an accepted program has a shape by a walk of some height, it has a number on each dataset by a derivation no higher.
 pub fn runs_are_planned()
@@ -20,15 +20,20 @@ pub fn walks_are_high_enough()
 {}
 
 /// Plans of worked programs: a count, a filter over a map, a bag doubled six times, and one doubled seven times, which is too wide;
-/// six maps, each of which sums the bag before for each row, and seven, whose walks are too many; and three that sum a union of the
-/// bag before with itself, and four, of which the last union takes too many.
+/// six maps, each of which sums the bag before for each row, and seven, whose walks are too many; three that sum a union of the
+/// bag before with itself, and four, of which the last union takes too many; and seven maps with seven unions, which are too wide,
+/// whichever come first, and with six, whose walks are too many.
 pub fn worked_plans()
     ensures counted { Plans counted 2 2 1 1 2 }
     ensures filtered_and_mapped { Plans filtered_and_mapped 12 5 1 1 4 }
     ensures doubled_six_times { Plans (doubled 6) 26 8 64 1 8 }
     ensures too_wide { PassesLimit (doubled 7) (TooWide (span 0 1) 128) }
     ensures nested_six_times { Plans (nested 6) 38 9 1 64 14 }
-    ensures too_many_walks { WalksTooMuch (nested 7) 0 1 }
+    ensures too_many_walks { WalksTooMuch (nested 7) }
     ensures united_three_times { Plans (united 3) 32 8 2 41 10 }
-    ensures too_many_in_a_union { WalksTooMuch (united 4) 0 2 }
+    ensures too_many_in_a_union { WalksTooMuch (united 4) }
+    ensures wide_behind_walks { PassesLimit (nested_and_doubled 7 7) (TooWide (span 0 1) 128) }
+    ensures wide_before_walks { PassesLimit (doubled_and_nested 7 7) (TooWide (span 0 1) 128) }
+    ensures walks_before_unions { WalksTooMuch (nested_and_doubled 7 6) }
+    ensures walks_behind_unions { WalksTooMuch (doubled_and_nested 6 7) }
 {}

@@ -18,14 +18,15 @@ use Rattle.fz_ast.specs.declared.term.Side.TheVariants.{Inl, Inr}
 use Rattle.fz_ast.specs.declared.term.Unary.{Unary}
 use Rattle.fz_ast.specs.declared.term.Unary.TheVariants.{Fst, Greatest, Least, Size, Snd}
 use Rattle.shape_law.specs.Shapes.{Also, Shape, Shapes, Wide, bang_shape, first_half, in_bang, second_half, side_shape, wider}
-use Rattle.shape_law.specs.Walk.{WalkOutcome, Shaped, Stops, Tally, TooLong, Walk, bag, enters, yields, next, after_part, over, turn, turn_limit, after_parts, walk, walk_rules, walks_at, counted_from}
+use Rattle.shape_law.specs.Walk.{WalkOutcome, Shaped, Stops, Tally, TooLong, TooManyWalks, Walk, bag, enters, yields, next, after_part, over, told, turn, turn_limit, after_parts, walk, walk_rules, walks_at, counted_from}
 use Rattle.shape_run.proofs.CellFacts.{Reads}
 use Rattle.shape_run.specs.Rules.{HasBody, beside, branches, combined, leaf_shape, part_gives, part_in}
-use Rattle.shape_run.specs.Tells.{StopsAt}
+use Rattle.shape_run.specs.Tells.{StopsAt, planned, tally_of}
+use Rattle.shape_run.specs.declared.plan.Count.{Count}
 use Rattle.shape_run.specs.declared.store.Cell.{Cell}
 use Rattle.shape_run.specs.declared.store.Cell.TheVariants.{Bang, Fn, Frame, Fun, Ground, Pair}
 use Rattle.shape_run.specs.declared.plan.ShapeFault.{ShapeFault}
-use Rattle.shape_run.specs.declared.plan.ShapeFault.TheVariants.{NoMemory, TooDeep as Deep, TooLong as Long, TooWide as Broad}
+use Rattle.shape_run.specs.declared.plan.ShapeFault.TheVariants.{NoMemory, TooDeep as Deep, TooLong as Long, TooManyWalks as Walks, TooWide as Broad}
 
 pub to : (P : WalkOutcome → Type 0) (o o' : WalkOutcome) → o ≡ o' → P o' → P o
 to P o o' e x = subst P (sym e) x
@@ -89,6 +90,7 @@ pub stopped : (x : ShapeFault) (o : WalkOutcome) (f : Shape → Tally → WalkOu
 stopped (Deep s) o f h = ap (λ o. next o f) h
 stopped (Long s) o f h = ap (λ o. next o f) h
 stopped (Broad s w) o f h = ap (λ o. next o f) h
+stopped Walks o f h = ap (λ o. next o f) h
 stopped NoMemory o f h = tt
 
 pub second_stops : (d : ℕ) (W : Walk) (σ : Shapes) (s : Span) (o : Binary) (a b t : Term) (k j : Tally) (p : Shape) (x : ShapeFault) → t ≡ at s (binary o a b) → W σ a k ≡ Shaped p j → StopsAt x (W σ b j) → StopsAt x (walk_rules d W σ t k)
@@ -115,7 +117,7 @@ no_function N cs (Frame x s r) W p q k f g h = absurd h
 
 -- one part
 
-unary_path : (d : ℕ) (W : Walk) (σ : Shapes) (s : Span) (o : Unary) (e : ℕ) (a : Term) (k : Tally) → walk_rules d W σ (at s (unary o a)) k ≡ after_part W σ a k (part_gives d s (Op o e))
+unary_path : (d : ℕ) (W : Walk) (σ : Shapes) (s : Span) (o : Unary) (e : ℕ) (a : Term) (k : Tally) → walk_rules d W σ (at s (unary o a)) k ≡ after_part W σ a k (part_gives d (Op o e))
 unary_path d W σ s Fst e a k = refl
 unary_path d W σ s Snd e a k = refl
 unary_path d W σ s Least e a k = refl
@@ -123,10 +125,10 @@ unary_path d W σ s Greatest e a k = refl
 unary_path d W σ s Size e a k = refl
 
 -- a form of one part visits it
-pub part_path : (d : ℕ) (W : Walk) (σ : Shapes) (ty : ℕ → Ty) (part : ℕ → Term) (s : Span) (f : Form) (e : ℕ) (k : Tally) → part_in f ≡ Some e → walk_rules d W σ (term_of ty part s f) k ≡ after_part W σ (part e) k (part_gives d s f)
-part_path d W σ ty part s (Op o e') e k h = let i : e' ≡ e = cc h in unary_path d W σ s o e' (part e') k ∙ ap (λ e. after_part W σ (part e) k (part_gives d s (Op o e'))) i
+pub part_path : (d : ℕ) (W : Walk) (σ : Shapes) (ty : ℕ → Ty) (part : ℕ → Term) (s : Span) (f : Form) (e : ℕ) (k : Tally) → part_in f ≡ Some e → walk_rules d W σ (term_of ty part s f) k ≡ after_part W σ (part e) k (part_gives d f)
+part_path d W σ ty part s (Op o e') e k h = let i : e' ≡ e = cc h in unary_path d W σ s o e' (part e') k ∙ ap (λ e. after_part W σ (part e) k (part_gives d (Op o e'))) i
 part_path d W σ ty part s (Times n e') e k h = let i : e' ≡ e = cc h in ap (λ e. after_part W σ (part e) k (λ p. yields (Wide 0 0 0))) i
-part_path d W σ ty part s (Bounded Sum lo hi e') e k h = let i : e' ≡ e = cc h in ap (λ e. after_part W σ (part e) k (walks_at d s)) i
+part_path d W σ ty part s (Bounded Sum lo hi e') e k h = let i : e' ≡ e = cc h in ap (λ e. after_part W σ (part e) k (walks_at d)) i
 part_path d W σ ty part s (Bounded Clip lo hi e') e k h = let i : e' ≡ e = cc h in ap (λ e. after_part W σ (part e) k (λ p. yields (Wide 0 0 0))) i
 part_path d W σ ty part s (Inject Inl u t e') e k h = let i : e' ≡ e = cc h in ap (λ e. after_part W σ (part e) k (λ p. yields (side_shape p))) i
 part_path d W σ ty part s (Inject Inr u t e') e k h = let i : e' ≡ e = cc h in ap (λ e. after_part W σ (part e) k (λ p. yields (side_shape p))) i
@@ -162,20 +164,20 @@ part_known m i n (Case c x a y b) e h k l = cc
 part_known m i n (Lambda o x u t b) e h k l = cc
 
 pub part_then : (d : ℕ) (W : Walk) (σ : Shapes) (ty : ℕ → Ty) (N : List Term) (t : Term) (s : Span) (f : Form) (e : ℕ) (k j : Tally) (p : Shape) → t ≡ term_of ty (term_at N) s f → part_in f ≡ Some e → W σ (term_at N e) k ≡ Shaped p j
-    → walk_rules d W σ t k ≡ part_gives d s f p j
-part_then d W σ ty N t s f e k j p h i g = ap (λ t. walk_rules d W σ t k) h ∙ part_path d W σ ty (term_at N) s f e k i ∙ next_shaped (W σ (term_at N e) k) (part_gives d s f) p j g
+    → walk_rules d W σ t k ≡ part_gives d f p j
+part_then d W σ ty N t s f e k j p h i g = ap (λ t. walk_rules d W σ t k) h ∙ part_path d W σ ty (term_at N) s f e k i ∙ next_shaped (W σ (term_at N e) k) (part_gives d f) p j g
 
 pub part_stops : (d : ℕ) (W : Walk) (σ : Shapes) (ty : ℕ → Ty) (N : List Term) (t : Term) (s : Span) (f : Form) (e : ℕ) (k : Tally) (x : ShapeFault) → t ≡ term_of ty (term_at N) s f → part_in f ≡ Some e → StopsAt x (W σ (term_at N e) k) → StopsAt x (walk_rules d W σ t k)
 part_stops d W σ ty N t s f e k x h i g =
-    to (StopsAt x) (walk_rules d W σ t k) (after_part W σ (term_at N e) k (part_gives d s f)) (ap (λ t. walk_rules d W σ t k) h ∙ part_path d W σ ty (term_at N) s f e k i) (stopped x (W σ (term_at N e) k) (part_gives d s f) g)
+    to (StopsAt x) (walk_rules d W σ t k) (after_part W σ (term_at N e) k (part_gives d f)) (ap (λ t. walk_rules d W σ t k) h ∙ part_path d W σ ty (term_at N) s f e k i) (stopped x (W σ (term_at N e) k) (part_gives d f) g)
 
 -- a bag primitive
 
-pub over_then : (d : ℕ) (W : Walk) (s : Span) (c q r : Shape) (k j : Tally) → enters W c (Wide 0 0 0) (counted_from d k) ≡ Shaped r j → over d W s c q k ≡ bag d s q k j
-over_then d W s c q r k j h = next_shaped (enters W c (Wide 0 0 0) (counted_from d k)) (λ r. bag d s q k) r j h
+pub over_then : (d : ℕ) (W : Walk) (c q r : Shape) (k j : Tally) → enters W c (Wide 0 0 0) (counted_from d k) ≡ Shaped r j → over d W c q k ≡ bag d q k j
+over_then d W c q r k j h = next_shaped (enters W c (Wide 0 0 0) (counted_from d k)) (λ r. bag d q k) r j h
 
-pub over_stops : (d : ℕ) (W : Walk) (s : Span) (c q : Shape) (k : Tally) (x : ShapeFault) → StopsAt x (enters W c (Wide 0 0 0) (counted_from d k)) → StopsAt x (over d W s c q k)
-over_stops d W s c q k x h = stopped x (enters W c (Wide 0 0 0) (counted_from d k)) (λ r. bag d s q k) h
+pub over_stops : (d : ℕ) (W : Walk) (c q : Shape) (k : Tally) (x : ShapeFault) → StopsAt x (enters W c (Wide 0 0 0) (counted_from d k)) → StopsAt x (over d W c q k)
+over_stops d W c q k x h = stopped x (enters W c (Wide 0 0 0) (counted_from d k)) (λ r. bag d q k) h
 
 -- let !x
 
@@ -290,3 +292,18 @@ leaf_path d W σ ty N s (Case c x a y b) k l = absurd (l.no_case c x a y b refl)
 
 pub leaf_then : (d : ℕ) (W : Walk) (σ : Shapes) (ty : ℕ → Ty) (N : List Term) (t : Term) (s : Span) (f : Form) (k : Tally) → t ≡ term_of ty (term_at N) s f → IsLeft f → walk_rules d W σ t k ≡ yields (leaf_shape N σ f) k
 leaf_then d W σ ty N t s f k h l = ap (λ t. walk_rules d W σ t k) h ∙ leaf_path d W σ ty N s f k l
+
+-- a whole program
+
+pub told_stops : (x : ShapeFault) (o : WalkOutcome) → StopsAt x o → StopsAt x (told o)
+told_stops (Deep s) o h = ap told h
+told_stops (Long s) o h = ap told h
+told_stops (Broad s w) o h = ap told h
+told_stops Walks o h = ap told h
+told_stops NoMemory o h = tt
+
+pub too_many_told : (o : WalkOutcome) (p : Shape) (k : Count) → o ≡ Shaped p (tally_of k) → k.too_many ≡ true → told o ≡ TooManyWalks
+too_many_told o p k h e = ap told h ∙ ap (λ b. told (Shaped p (tally_of (record { plan = k.plan; too_many = b })))) e
+
+pub planned_told : (o : WalkOutcome) (p : Shape) (k : Count) → o ≡ Shaped p (tally_of k) → k.too_many ≡ false → told o ≡ Shaped p (planned k.plan)
+planned_told o p k h e = ap told h ∙ ap (λ b. told (Shaped p (tally_of (record { plan = k.plan; too_many = b })))) e

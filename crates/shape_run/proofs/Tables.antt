@@ -4,7 +4,7 @@ use Rattle.std.proofs.Math.Seq.{drop-length}
 use Rattle.std.specs.Prelude.{Some, [], drop, length, slice_get, suc, zero, ℕ, ◌+◌, ◌∷◌, ◌≡◌}
 use Rattle.fz_ast.specs.Signature.{Signature, TableType}
 use Rattle.fz_ast.specs.Terms.{Term}
-use Rattle.shape_law.specs.Walk.{depth_limit, shape, start, walk}
+use Rattle.shape_law.specs.Walk.{depth_limit, shape, start, told, walk}
 use Rattle.shape_law.specs.Shapes.{Also, Nothing, Wide, table_shapes}
 
 pub no_tables : (ts : Signature) (n : ℕ) → n ≡ length ts → table_shapes (drop n ts) ≡ Nothing
@@ -17,5 +17,5 @@ one_table (u ∷ ts) (suc i) t h =
     let e : suc i + 1 ≡ suc (i + 1) = omega arith in
     rw e (one_table ts i t h)
 
-pub whole : (n : ℕ) (ts : Signature) (t u : Term) → n ≡ depth_limit → u ≡ t → shape ts t ≡ walk n 1 (table_shapes ts) u start
+pub whole : (n : ℕ) (ts : Signature) (t u : Term) → n ≡ depth_limit → u ≡ t → shape ts t ≡ told (walk n 1 (table_shapes ts) u start)
 whole n ts t u e f = rw (e, f) refl

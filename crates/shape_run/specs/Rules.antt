@@ -28,9 +28,9 @@ combined d W s Minus p q = yields (Wide 0 0 0)
 combined d W s AtMost p q = yields (Wide 0 0 0)
 combined d W s Equal p q = yields (Wide 0 0 0)
 combined d W s Union p q = union s p q
-combined d W s Map p q = over d W s p q
-combined d W s Filter p q = over d W s p q
-combined d W s Split p q = over d W s p q
+combined d W s Map p q = over d W p q
+combined d W s Filter p q = over d W p q
+combined d W s Split p q = over d W p q
 
 -- a name as wide as a condition
 abbrev pub beside : List ℕ → Shape → Shapes → Shapes
@@ -90,8 +90,8 @@ part_shape (Inject o u t e) p = side_shape p
 part_shape (Banged r e) p = bang_shape p
 part_shape f p = Wide 0 0 0
 
--- what a form of one part gives at s, its part at depth d: a bag's size and its sum are walks
-abbrev pub part_gives : (d : ℕ) → Span → Form → Shape → Tally → WalkOutcome
-part_gives d s (Op Size e) p k = walks_at d s p k
-part_gives d s (Bounded Sum lo hi e) p k = walks_at d s p k
-part_gives d s f p k = yields (part_shape f p) k
+-- what a form of one part gives, its part at depth d: a bag's size and its sum are walks
+abbrev pub part_gives : (d : ℕ) → Form → Shape → Tally → WalkOutcome
+part_gives d (Op Size e) p k = walks_at d p k
+part_gives d (Bounded Sum lo hi e) p k = walks_at d p k
+part_gives d f p k = yields (part_shape f p) k

@@ -4,12 +4,12 @@ ghost use Rattle.fz_ast.specs.Names.{name_of};
 ghost use Rattle.fz_ast.specs.TermNodes.{term_at};
 ghost use Rattle.fz_ast.specs.Terms.{Term, at};
 ghost use Rattle.shape_law.specs.Shapes.{Shape, Shapes, bang_shape, first_half, pair_shape, second_half, shape_of, side_shape, wider};
-ghost use Rattle.shape_law.specs.Walk.{bag, yields, turn, turn_limit, union, walks_at};
+ghost use Rattle.shape_law.specs.Walk.{bag, yields, turn, turn_limit, union, walks_at, weighed};
 ghost use Rattle.shape_run.specs.Cells.{Grown, HasScope, HasShape, HaveShapes, IsScope, IsShape};
 ghost use Rattle.shape_run.specs.Rules.{HasBody, HasLeaf, function_shape, leaf_shape, part_gives, part_in};
-ghost use Rattle.shape_run.specs.Tells.{Tells, TellsAnywhere, tally_of};
+ghost use Rattle.shape_run.specs.Tells.{Tells, tally_of};
 
-use crate::plan::{Plan, ShapeFault};
+use crate::plan::{Count, ShapeFault};
 use crate::store::Store;
 use fz_ast::{Arrow, Form, Name, Ranged, Span, Unary};
 
@@ -20,19 +20,19 @@ const WALKS: u32 = 64;
 const REACH: u32 = 400;
 
 /// The shape in this cell.
-pub fn give(store: &Store, count: &mut Plan, k: u32) -> Result<u32, ShapeFault>
+pub fn give(store: &Store, count: &mut Count, k: u32) -> Result<u32, ShapeFault>
     requires { HasShape store.now.cells.items k }
     ensures { (N : List Term) (p : Shape) → IsShape N store.now.cells.items k p
         → Tells N store.now.cells.items count.new result (yields p (tally_of count.old)) }
 {
-    count.width = count.width.max(store.width(k) as u32);
+    count.plan.width = count.plan.width.max(store.width(k) as u32);
     Ok(k)
 }
 
 /// The shape of a ground value.
 pub fn give_ground(
     store: &mut Store,
-    count: &mut Plan,
+    count: &mut Count,
     width: u8,
     walks: u8,
     height: u32,
@@ -48,7 +48,7 @@ pub fn give_ground(
 }
 
 /// The shape of a pair.
-pub fn give_pair(store: &mut Store, count: &mut Plan, a: u32, b: u32) -> Result<u32, ShapeFault>
+pub fn give_pair(store: &mut Store, count: &mut Count, a: u32, b: u32) -> Result<u32, ShapeFault>
     requires { HaveShapes store.old.cells.items a b }
     ensures is { (N : List Term) (p q : Shape) → IsShape N store.old.cells.items a p → IsShape N store.old.cells.items b q
         → Tells N store.new.cells.items count.new result (yields (pair_shape p q) (tally_of count.old)) }
@@ -61,7 +61,7 @@ pub fn give_pair(store: &mut Store, count: &mut Plan, a: u32, b: u32) -> Result<
 }
 
 /// The shape of a pair's first half.
-pub fn give_first(store: &mut Store, count: &mut Plan, a: u32) -> Result<u32, ShapeFault>
+pub fn give_first(store: &mut Store, count: &mut Count, a: u32) -> Result<u32, ShapeFault>
     requires { HasShape store.old.cells.items a }
     ensures is { (N : List Term) (p : Shape) → IsShape N store.old.cells.items a p
         → Tells N store.new.cells.items count.new result (yields (first_half p) (tally_of count.old)) }
@@ -74,7 +74,7 @@ pub fn give_first(store: &mut Store, count: &mut Plan, a: u32) -> Result<u32, Sh
 }
 
 /// The shape of a pair's second half.
-pub fn give_second(store: &mut Store, count: &mut Plan, a: u32) -> Result<u32, ShapeFault>
+pub fn give_second(store: &mut Store, count: &mut Count, a: u32) -> Result<u32, ShapeFault>
     requires { HasShape store.old.cells.items a }
     ensures is { (N : List Term) (p : Shape) → IsShape N store.old.cells.items a p
         → Tells N store.new.cells.items count.new result (yields (second_half p) (tally_of count.old)) }
@@ -87,7 +87,7 @@ pub fn give_second(store: &mut Store, count: &mut Plan, a: u32) -> Result<u32, S
 }
 
 /// The shape of a bang.
-pub fn give_bang(store: &mut Store, count: &mut Plan, a: u32) -> Result<u32, ShapeFault>
+pub fn give_bang(store: &mut Store, count: &mut Count, a: u32) -> Result<u32, ShapeFault>
     requires { HasShape store.old.cells.items a }
     ensures is { (N : List Term) (p : Shape) → IsShape N store.old.cells.items a p
         → Tells N store.new.cells.items count.new result (yields (bang_shape p) (tally_of count.old)) }
@@ -100,7 +100,7 @@ pub fn give_bang(store: &mut Store, count: &mut Plan, a: u32) -> Result<u32, Sha
 }
 
 /// The shape of a sum, of the width of its side.
-pub fn give_side(store: &mut Store, count: &mut Plan, a: u32) -> Result<u32, ShapeFault>
+pub fn give_side(store: &mut Store, count: &mut Count, a: u32) -> Result<u32, ShapeFault>
     requires { HasShape store.old.cells.items a }
     ensures is { (N : List Term) (p : Shape) → IsShape N store.old.cells.items a p
         → Tells N store.new.cells.items count.new result (yields (side_shape p) (tally_of count.old)) }
@@ -113,7 +113,7 @@ pub fn give_side(store: &mut Store, count: &mut Plan, a: u32) -> Result<u32, Sha
 }
 
 /// The wider of two ground shapes.
-pub fn give_wider(store: &mut Store, count: &mut Plan, a: u32, b: u32) -> Result<u32, ShapeFault>
+pub fn give_wider(store: &mut Store, count: &mut Count, a: u32, b: u32) -> Result<u32, ShapeFault>
     requires { HaveShapes store.old.cells.items a b }
     ensures is { (N : List Term) (p q : Shape) → IsShape N store.old.cells.items a p → IsShape N store.old.cells.items b q
         → Tells N store.new.cells.items count.new result (yields (wider p q) (tally_of count.old)) }
@@ -128,7 +128,7 @@ pub fn give_wider(store: &mut Store, count: &mut Plan, a: u32, b: u32) -> Result
 /// The shape of a name.
 fn give_name(
     store: &mut Store,
-    count: &mut Plan,
+    count: &mut Count,
     scope: u32,
     name: &Name,
 ) -> Result<u32, ShapeFault>
@@ -146,7 +146,7 @@ fn give_name(
 /// The shape of a function with its names.
 fn give_function(
     store: &mut Store,
-    count: &mut Plan,
+    count: &mut Count,
     scope: u32,
     arrow: Arrow,
     name: Name,
@@ -166,7 +166,7 @@ fn give_function(
 /// The shape of a form that visits nothing.
 pub fn give_leaf(
     store: &mut Store,
-    count: &mut Plan,
+    count: &mut Count,
     scope: u32,
     form: &Form,
 ) -> Result<u32, ShapeFault>
@@ -198,75 +198,84 @@ pub fn part_of(form: &Form) -> Option<u32>
     }
 }
 
-/// A bag's size or sum at depth `here`, which is one walk, with those inside it.
-///
-/// # Errors
-///
-/// `NoMemory` where its functions would be evaluated too deep.
-fn give_walk(store: &mut Store, count: &mut Plan, a: u32, here: u32) -> Result<u32, ShapeFault>
+/// A bag's size or sum at depth `here`, which is one walk, with those inside it. Where its functions would be evaluated too deep, that is noted.
+fn give_walk(store: &mut Store, count: &mut Count, a: u32, here: u32) -> Result<u32, ShapeFault>
     requires { HasShape store.old.cells.items a }
     ensures is { (N : List Term) (p : Shape) → IsShape N store.old.cells.items a p
-        → TellsAnywhere N store.new.cells.items count.new result (λ s. walks_at here s p (tally_of count.old)) }
+        → Tells N store.new.cells.items count.new result (walks_at here p (tally_of count.old)) }
     ensures grown { Grown store.old.cells.items store.new.cells.items }
 {
-    let inside = store.walks(a);
-    let Some(walks) = count.walks.checked_add(inside as u32 + 1) else {
-        return Err(ShapeFault::NoMemory);
-    };
     let reach = here.saturating_add(store.height(a));
     if reach > REACH {
-        return Err(ShapeFault::NoMemory);
+        count.too_many = true;
+        return give_ground(store, count, 0, 0, 0);
     }
-    count.walks = walks;
-    count.reach = count.reach.max(reach);
+    let inside = store.walks(a);
+    let Some(walks) = count.plan.walks.checked_add(inside as u32 + 1) else {
+        return Err(ShapeFault::NoMemory);
+    };
+    count.plan.walks = walks;
+    count.plan.reach = count.plan.reach.max(reach);
     give_ground(store, count, 0, 0, 0)
+}
+
+/// The shape of a bag whose functions take so many walks and are evaluated so deep. Where a walk would take more than 64 with itself, that
+/// is noted, and none count.
+fn give_weighed(
+    store: &mut Store,
+    count: &mut Count,
+    width: u8,
+    walks: u32,
+    height: u32,
+) -> Result<u32, ShapeFault>
+    ensures is { (N : List Term) → Tells N store.new.cells.items count.new result (weighed width walks height (tally_of count.old)) }
+    ensures grown { Grown store.old.cells.items store.new.cells.items }
+{
+    if walks >= WALKS {
+        count.too_many = true;
+        return give_ground(store, count, width, 0, 0);
+    }
+    give_ground(store, count, width, walks as u8, height)
 }
 
 /// What the rows of the bag `b` become, where a function's body was visited at depth `here` and counted what `count` says since `before`:
 /// a walk takes those inside the bag and, for each table, as many as the body, and is evaluated as deep as the deeper of both.
-///
-/// # Errors
-///
-/// `NoMemory` where it would take more than 64 with itself.
 pub fn give_bag(
     store: &mut Store,
-    count: &mut Plan,
+    count: &mut Count,
     b: u32,
-    before: Plan,
+    before: Count,
     here: u32,
 ) -> Result<u32, ShapeFault>
     requires { HasShape store.old.cells.items b }
     ensures is { (N : List Term) (q : Shape) → IsShape N store.old.cells.items b q
-        → TellsAnywhere N store.new.cells.items count.new result (λ s. bag here s q (tally_of before) (tally_of count.old)) }
+        → Tells N store.new.cells.items count.new result (bag here q (tally_of before) (tally_of count.old)) }
     ensures grown { Grown store.old.cells.items store.new.cells.items }
 {
     let width = store.width(b);
-    let Some(body) = count.walks.checked_mul(width as u32) else {
+    let Some(body) = count.plan.walks.checked_mul(width as u32) else {
         return Err(ShapeFault::NoMemory);
     };
     let Some(walks) = body.checked_add(store.walks(b) as u32) else {
         return Err(ShapeFault::NoMemory);
     };
-    if walks >= WALKS {
-        return Err(ShapeFault::NoMemory);
-    }
-    let height = store.height(b).max(count.reach.saturating_sub(here));
-    count.walks = before.walks;
-    count.reach = before.reach;
-    give_ground(store, count, width, walks as u8, height)
+    let height = store.height(b).max(count.plan.reach.saturating_sub(here));
+    count.plan.walks = before.plan.walks;
+    count.plan.reach = before.plan.reach;
+    give_weighed(store, count, width, walks, height)
 }
 
 /// What such a form makes of the shape of its part at depth `here`.
 pub fn give_part(
     store: &mut Store,
-    count: &mut Plan,
+    count: &mut Count,
     form: &Form,
     a: u32,
     here: u32,
 ) -> Result<u32, ShapeFault>
     requires { HasShape store.old.cells.items a }
     ensures is { (N : List Term) (p : Shape) → IsShape N store.old.cells.items a p
-        → TellsAnywhere N store.new.cells.items count.new result (λ s. part_gives here s form.now p (tally_of count.old)) }
+        → Tells N store.new.cells.items count.new result (part_gives here form.now p (tally_of count.old)) }
     ensures grown { Grown store.old.cells.items store.new.cells.items }
 {
     match form {
@@ -283,7 +292,7 @@ pub fn give_part(
 /// The shape of the union at this span.
 pub fn give_union(
     store: &mut Store,
-    count: &mut Plan,
+    count: &mut Count,
     span: Span,
     a: u32,
     b: u32,
@@ -298,19 +307,16 @@ pub fn give_union(
         return Err(ShapeFault::TooWide { span, width });
     }
     let walks = store.walks(a) as u32 + store.walks(b) as u32;
-    if walks >= WALKS {
-        return Err(ShapeFault::NoMemory);
-    }
     let height = store.height(a).max(store.height(b));
-    give_ground(store, count, width as u8, walks as u8, height)
+    give_weighed(store, count, width as u8, walks, height)
 }
 
 /// One turn more.
-pub fn take_turn(count: &mut Plan, here: u32)
-    requires { count.old.turns < turn_limit }
+pub fn take_turn(count: &mut Count, here: u32)
+    requires { count.old.plan.turns < turn_limit }
     ensures { tally_of count.new ≡ turn here (tally_of count.old) }
 {
-    count.turns += 1;
-    count.depth = count.depth.max(here);
-    count.reach = count.reach.max(here);
+    count.plan.turns += 1;
+    count.plan.depth = count.plan.depth.max(here);
+    count.plan.reach = count.plan.reach.max(here);
 }

@@ -13,7 +13,14 @@ pub struct Plan {
     pub reach: u32,
 }
 
-/// Why a program has no plan: the first limit that its run without data passes, and where.
+/// What a run without data counted so far, and whether some bag takes more walks than one may, or is evaluated deeper.
+#[derive(Clone, Copy)]
+pub struct Count {
+    pub plan: Plan,
+    pub too_many: bool,
+}
+
+/// Why a program has no plan: the first limit that its run without data passes, and where; or too many walks, where no limit is passed.
 #[derive(Clone, Copy)]
 pub enum ShapeFault {
     /// A visit is deeper than 128.
@@ -22,6 +29,8 @@ pub enum ShapeFault {
     TooLong { span: Span },
     /// A union is more than 64 tables wide.
     TooWide { span: Span, width: u32 },
-    /// Memory ran out, a walk of a bag takes more than 64 walks with itself, or walks within walks would be evaluated too deep.
+    /// No limit is passed, but a walk of a bag takes more than 64 walks with itself, or is evaluated deeper than 400.
+    TooManyWalks,
+    /// Memory ran out.
     NoMemory,
 }

@@ -14,7 +14,7 @@ ghost use Rattle.shape_law.specs.Walk.{depth_limit};
 ghost use Rattle.shape_run.specs.Cells.{IsScope, IsShape};
 ghost use Rattle.shape_run.specs.Plans.{IsStopOf, IsPlanOf};
 
-use crate::plan::{Plan, ShapeFault};
+use crate::plan::{Count, Plan, ShapeFault};
 use crate::store::Store;
 use crate::walk::visit;
 use fz_ast::{NoMemory, Sig, Term};
@@ -50,8 +50,8 @@ fn bind_tables(store: &mut Store, sig: &Sig, table: u32) -> Result<u32, NoMemory
 ///
 /// # Errors
 ///
-/// The first limit that the run without data passes, with its span; or `NoMemory` where memory ran out, or the functions of a bag
-/// take too many walks.
+/// The first limit that the run without data passes, with its span; `TooManyWalks` where it passes none, but its bags take too many; or
+/// `NoMemory`.
 pub fn shape(alloc: Global, sig: &Sig, term: &Term) -> Result<Plan, ShapeFault>
     ensures planned { IfOk result (IsPlanOf sig.now term.now) }
     ensures stopped { IfErr result (IsStopOf sig.now term.now) }
@@ -67,13 +67,19 @@ pub fn shape(alloc: Global, sig: &Sig, term: &Term) -> Result<Plan, ShapeFault>
     let Ok(scope) = bind_tables(&mut store, sig, table) else {
         return Err(ShapeFault::NoMemory);
     };
-    let mut plan = Plan {
-        depth: 0,
-        turns: 0,
-        width: 0,
-        walks: 0,
-        reach: 0,
+    let mut count = Count {
+        plan: Plan {
+            depth: 0,
+            turns: 0,
+            width: 0,
+            walks: 0,
+            reach: 0,
+        },
+        too_many: false,
     };
-    let _ = visit(nodes, &mut store, &mut plan, scope, root, limit(), 1)?;
-    Ok(plan)
+    let _ = visit(nodes, &mut store, &mut count, scope, root, limit(), 1)?;
+    if count.too_many {
+        return Err(ShapeFault::TooManyWalks);
+    }
+    Ok(count.plan)
 }

@@ -9,13 +9,13 @@ ghost use Rattle.shape_law.specs.Shapes.{Shape, Shapes, first_half, in_bang, sec
 ghost use Rattle.shape_law.specs.Walk.{enters, over, walk, walk_rules};
 ghost use Rattle.shape_run.specs.Cells.{Grown, IsScope, IsShape};
 ghost use Rattle.shape_run.specs.Rules.{Scopes, StandsForShape, beside, combined, branches};
-ghost use Rattle.shape_run.specs.Tells.{Tells, TellsAnywhere, tally_of};
+ghost use Rattle.shape_run.specs.Tells.{Tells, tally_of};
 
 use crate::gives::{
     give_bag, give_ground, give_leaf, give_pair, give_part, give_union, give_wider, part_of,
     take_turn,
 };
-use crate::plan::{Plan, ShapeFault};
+use crate::plan::{Count, ShapeFault};
 use crate::store::{Cell, Store};
 use fz_ast::{Binary, Form, Name, Nodes, Span};
 
@@ -24,7 +24,7 @@ use fz_ast::{Binary, Form, Name, Nodes, Span};
 fn visit_under(
     nodes: &Nodes,
     store: &mut Store,
-    count: &mut Plan,
+    count: &mut Count,
     scope: u32,
     name: Name,
     shape: u32,
@@ -52,7 +52,7 @@ fn visit_under(
 fn visit_held(
     nodes: &Nodes,
     store: &mut Store,
-    count: &mut Plan,
+    count: &mut Count,
     scope: u32,
     name: Name,
     bang: u32,
@@ -80,7 +80,7 @@ fn visit_held(
 fn visit_halves(
     nodes: &Nodes,
     store: &mut Store,
-    count: &mut Plan,
+    count: &mut Count,
     scope: u32,
     names: (Name, Name),
     pair: u32,
@@ -113,7 +113,7 @@ fn visit_halves(
 fn visit_both(
     nodes: &Nodes,
     store: &mut Store,
-    count: &mut Plan,
+    count: &mut Count,
     scope: u32,
     a: u32,
     other: u32,
@@ -141,7 +141,7 @@ fn visit_both(
 fn visit_sides(
     nodes: &Nodes,
     store: &mut Store,
-    count: &mut Plan,
+    count: &mut Count,
     scope: u32,
     side: u32,
     first: (Name, u32),
@@ -176,7 +176,7 @@ fn visit_sides(
 fn enter(
     nodes: &Nodes,
     store: &mut Store,
-    count: &mut Plan,
+    count: &mut Count,
     c: u32,
     u: u32,
     left: u32,
@@ -208,7 +208,7 @@ fn enter(
 fn combine(
     nodes: &Nodes,
     store: &mut Store,
-    count: &mut Plan,
+    count: &mut Count,
     span: Span,
     form: Binary,
     a: u32,
@@ -241,7 +241,7 @@ fn combine(
 fn over(
     nodes: &Nodes,
     store: &mut Store,
-    count: &mut Plan,
+    count: &mut Count,
     c: u32,
     b: u32,
     left: u32,
@@ -251,15 +251,15 @@ fn over(
     requires bag { StandsForShape nodes.now.terms store.old.cells.items b }
     requires room { here + left < 4294967295 }
     ensures is { (p q : Shape) → IsShape nodes.now.terms store.old.cells.items c p → IsShape nodes.now.terms store.old.cells.items b q
-        → TellsAnywhere nodes.now.terms store.new.cells.items count.new result (λ s. over here (walk left here) s p q (tally_of count.old)) }
+        → Tells nodes.now.terms store.new.cells.items count.new result (over here (walk left here) p q (tally_of count.old)) }
     ensures grown { Grown store.old.cells.items store.new.cells.items }
 {
     let Ok(element) = store.ground(0, 0, 0) else {
         return Err(ShapeFault::NoMemory);
     };
     let before = *count;
-    count.walks = 0;
-    count.reach = here;
+    count.plan.walks = 0;
+    count.plan.reach = here;
     let _ = enter(nodes, store, count, c, element, left, here)?;
     give_bag(store, count, b, before, here)
 }
@@ -269,7 +269,7 @@ fn over(
 fn visit_parts(
     nodes: &Nodes,
     store: &mut Store,
-    count: &mut Plan,
+    count: &mut Count,
     scope: u32,
     i: u32,
     left: u32,
@@ -324,7 +324,7 @@ fn visit_parts(
 pub fn visit(
     nodes: &Nodes,
     store: &mut Store,
-    count: &mut Plan,
+    count: &mut Count,
     scope: u32,
     i: u32,
     left: u32,
@@ -341,7 +341,7 @@ pub fn visit(
     if left == 0 {
         return Err(ShapeFault::TooDeep { span });
     }
-    if count.turns >= 20000 {
+    if count.plan.turns >= 20000 {
         return Err(ShapeFault::TooLong { span });
     }
     take_turn(count, here);

@@ -250,19 +250,19 @@ over-enter-requires t c =
     (search rules, ((f.0, shape_kept c.args.nodes.now.terms c.args.store.now.cells.items c.ground.new.self.cells.items c.args.c f.0 c.ground.ensures.grown f.1), ((Wide 0 0 0, c.in-Ok.ensures.is c.args.nodes.now.terms (Wide 0 0 0) refl), c.requires.room)))
 
 pub over-returns-in_err-enter-clause-is : goal.over-returns-in_err-enter-clause-is
-over-returns-in_err-enter-clause-is t c = λ p q h k s.
-    let told : StopsAt c.in_err-enter.field-0.0 (over c.args.here (walk c.args.left c.args.here) s p q (tally_of c.args.count.now)) = over_stops c.args.here (walk c.args.left c.args.here) s p q (tally_of c.args.count.now) c.in_err-enter.field-0.0 (c.in_err-enter.ensures.is p (Wide 0 0 0) (shape_kept c.args.nodes.now.terms c.args.store.now.cells.items c.ground.new.self.cells.items c.args.c p c.ground.ensures.grown h) (c.in-Ok.ensures.is c.args.nodes.now.terms (Wide 0 0 0) refl)) in
+over-returns-in_err-enter-clause-is t c = λ p q h k.
+    let told : StopsAt c.in_err-enter.field-0.0 (over c.args.here (walk c.args.left c.args.here) p q (tally_of c.args.count.now)) = over_stops c.args.here (walk c.args.left c.args.here) p q (tally_of c.args.count.now) c.in_err-enter.field-0.0 (c.in_err-enter.ensures.is p (Wide 0 0 0) (shape_kept c.args.nodes.now.terms c.args.store.now.cells.items c.ground.new.self.cells.items c.args.c p c.ground.ensures.grown h) (c.in-Ok.ensures.is c.args.nodes.now.terms (Wide 0 0 0) refl)) in
     let e = err_from_is_err_and c.from_residual.result c.from_residual.ensures.1 in rw (e.1, e.2) told
 
 pub over-returns-in_err-enter-clause-grown : goal.over-returns-in_err-enter-clause-grown
 over-returns-in_err-enter-clause-grown t c = grown_on c.args.store.now.cells.items c.ground.new.self.cells.items c.enter.new.store.cells.items c.ground.ensures.grown c.enter.ensures.grown
 
 pub over-returns-clause-is : goal.over-returns-clause-is
-over-returns-clause-is t c = λ p q h k s.
+over-returns-clause-is t c = λ p q h k.
     let a = c.in_ok-enter.ensures.is p (Wide 0 0 0) (shape_kept c.args.nodes.now.terms c.args.store.now.cells.items c.ground.new.self.cells.items c.args.c p c.ground.ensures.grown h) (c.in-Ok.ensures.is c.args.nodes.now.terms (Wide 0 0 0) refl) in
     to (Tells c.args.nodes.now.terms c.give_bag.new.store.cells.items c.give_bag.new.count c.give_bag.result) _ _
-    (over_then c.args.here (walk c.args.left c.args.here) s p q a.0 (tally_of c.args.count.now) (tally_of c.enter.new.count) a.2)
-    (c.give_bag.ensures.is c.args.nodes.now.terms q (shape_kept c.args.nodes.now.terms c.args.store.now.cells.items c.enter.new.store.cells.items c.args.b q (grown_on c.args.store.now.cells.items c.ground.new.self.cells.items c.enter.new.store.cells.items c.ground.ensures.grown c.enter.ensures.grown) k) s)
+    (over_then c.args.here (walk c.args.left c.args.here) p q a.0 (tally_of c.args.count.now) (tally_of c.enter.new.count) a.2)
+    (c.give_bag.ensures.is c.args.nodes.now.terms q (shape_kept c.args.nodes.now.terms c.args.store.now.cells.items c.enter.new.store.cells.items c.args.b q (grown_on c.args.store.now.cells.items c.ground.new.self.cells.items c.enter.new.store.cells.items c.ground.ensures.grown c.enter.ensures.grown) k))
 
 pub over-returns-clause-grown : goal.over-returns-clause-grown
 over-returns-clause-grown t c = grown_on c.args.store.now.cells.items c.ground.new.self.cells.items c.give_bag.new.store.cells.items c.ground.ensures.grown (grown_on c.ground.new.self.cells.items c.enter.new.store.cells.items c.give_bag.new.store.cells.items c.enter.ensures.grown c.give_bag.ensures.grown)
@@ -285,7 +285,7 @@ visit_parts-returns-in-Some-clause-is t c = λ σ h.
     let a = c.in_ok-a.ensures.is σ h in
     to (Tells c.args.nodes.now.terms c.give_part.new.store.cells.items c.give_part.new.count c.give_part.result) _ _
     (part_then c.args.here (walk c.args.left c.args.here) σ (type_at c.args.nodes.now.types) c.args.nodes.now.terms (term_at c.args.nodes.now.terms c.args.i) c.node-node.result.now.span c.node-node.result.now.form c.in-Some.e (tally_of c.args.count.now) (tally_of c.visit.new.count) a.0 c.node-node.ensures.form (sym c.part_of.ensures ∙ c.in-Some.is) a.2)
-    (c.give_part.ensures.is c.args.nodes.now.terms a.0 a.1 c.node-node.result.now.span)
+    (c.give_part.ensures.is c.args.nodes.now.terms a.0 a.1)
 
 pub visit_parts-returns-in-Some-clause-grown : goal.visit_parts-returns-in-Some-clause-grown
 visit_parts-returns-in-Some-clause-grown t c = grown_on c.args.store.now.cells.items c.visit.new.store.cells.items c.give_part.new.store.cells.items c.visit.ensures.grown c.give_part.ensures.grown
