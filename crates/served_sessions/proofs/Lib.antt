@@ -1,4 +1,4 @@
 mod Splits
 mod Runs
-mod Services
+pub mod Services
 mod Examples

@@ -1,9 +1,9 @@
 pub mod Fronts
-mod Numbered
-mod Granted
-mod Ran
+pub mod Numbered
+pub mod Granted
+pub mod Ran
 mod Speaking
-mod Sent
+pub mod Sent
 mod OfLines
 pub mod Lives
 pub mod Files
