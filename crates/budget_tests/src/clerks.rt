@@ -73,6 +73,7 @@ pub fn by_many<R: Threads + Wait + Sync>(
     let given = count / 2;
     let kept = count - given;
     let next = clerk + kept;
+    let half = &mut other;
     join_mut(
         rt,
         &mut ||
@@ -81,10 +82,10 @@ pub fn by_many<R: Threads + Wait + Sync>(
             ensures share { (known pass.exit.now).share ≡ (known pass.entry.now).share }
         { by_many(rt, lock, pass, clerk, kept, turns) },
         &mut ||
-            requires { IsSync R.row × IsPassOf lock.now other.now × (given ≤ (known other.now).share) × (next + given < 2 ^ 32) }
-            ensures here { IsSameLock other.entry.now other.exit.now }
-            ensures share { (known other.exit.now).share ≡ (known other.entry.now).share }
-        { by_many(rt, lock, &mut other, next, given, turns) },
+            requires { IsSync R.row × IsPassOf lock.now half.now × (given ≤ (known half.now).share) × (next + given < 2 ^ 32) }
+            ensures here { IsSameLock half.entry.now half.exit.now }
+            ensures share { (known half.exit.now).share ≡ (known half.entry.now).share }
+        { by_many(rt, lock, half, next, given, turns) },
     );
     lock.join(pass, other);
 }

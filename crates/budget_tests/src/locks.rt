@@ -1,5 +1,7 @@
 //! Locks that several threads share.
 
+ghost use Rattle.std.specs.Prelude.{◌<◌, ◌^◌};
+
 use crate::clerks::{NOTES, by_many, note, shut};
 use crate::sheets::{Note, Sheet};
 use owner_lock::{NoMemory, Owned};
