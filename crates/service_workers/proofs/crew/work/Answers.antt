@@ -35,14 +35,14 @@ use Rattle.service_workers.proofs.crew.work.Goals as goal
 guarded : (D : RattleType) (disk : Disk.Ghosts D.Denot) → IsSend D → IsSend (guarded_row D disk)
 guarded D disk sent = search (crosses, sendable) depth 60 fits 20000
 
-pub for_each_mut-requires-send-T : goal.for_each_mut-requires-send-T
-for_each_mut-requires-send-T g c κs within =
+pub work_together-requires-send-T : goal.work_together-requires-send-T
+work_together-requires-send-T g c κs within =
     let D = param 1 g.row.D in
     let passes = ticket_send (guarded_row D g.D.Disk) noted_row (book_row D g.D.Disk) (guarded D g.D.Disk c.type_bounds.send-D) in
     param_send 1 _ (arg_send _ no _ (worker_send (ticket_row (guarded_row D g.D.Disk) noted_row (book_row D g.D.Disk)) (param 3 g.row.O) _ passes c.type_bounds.send-O))
 
-pub for_each_mut-requires-sync-F : goal.for_each_mut-requires-sync-F
-for_each_mut-requires-sync-F g c κs within =
+pub work_together-requires-sync-F : goal.work_together-requires-sync-F
+work_together-requires-sync-F g c κs within =
     let D = param 1 g.row.D in
     let books : IsSend (guarded_row D g.D.Disk) = guarded D g.D.Disk c.type_bounds.send-D in
     let stands = stands_ghosts D g.D.Disk no_stands_dict in
