@@ -2,7 +2,7 @@
 """Runs and services by several workers under a limit of address space, whose lines take what memory there is: each ends with a status of its own.
 
 usage: tests/faults/limited_memory.py [--all]     24 runs and 6 services; with --all 200 and 50 (PROGRAM=FILE tries another build than tools/build's)
-The limits go from 150 MB to 1.45 GB (`ulimit -v`). The lines are functions that are applied twice by one another, ten times over, to a union 64 wide, and
+The limits go from 7 MB to 1.45 GB (`ulimit -v`). The lines are functions that are applied twice by one another, ten times over, to a union 64 wide, and
 programs that hold as much as any that is known.
 - A run by 2 or 4 workers ends with status 0 and a reply to each line, `answer`, `no 51` or `no 90`; or with status 7 and the line `memory`.
 - A service by 4 workers, to each of which two connections come, ends with status 7 and the line `memory` before it listens; or once all were served, with 0,
@@ -29,7 +29,7 @@ sys.path.insert(0, f"{TOP}/bench")
 from dearest_memory import holding, long_chain  # noqa: E402
 
 MB = 10**6
-LEAST, MOST = 150 * MB, 1450 * MB
+LEAST, MOST = 7 * MB, 1450 * MB
 BLOCKS = 8
 WORKERS, EACH = 4, 2
 REPLY = re.compile(rb"(hello ann|bye|answer \d+ -?\d+ \d+|no 51 \d+|no 90)$")
@@ -49,7 +49,8 @@ class House:
 
 
 def limits(count):
-    return [LEAST + n * (MOST - LEAST) // (count - 1) for n in range(count)]
+    """So many, each as many times the one before."""
+    return [int(LEAST * (MOST / LEAST) ** (n / (count - 1))) for n in range(count)]
 
 
 def bound(limit):

@@ -1,5 +1,5 @@
 -- Workers at a gate, worked out.
-use Rattle.std.proofs.Common.{◌≡◌, ℕ, zero, suc, ◌*◌, ◌<◌, ◌≤◌, true, false, [], ◌∷◌, length, refl, arith}
+use Rattle.std.proofs.Common.{◌≡◌, ℕ, zero, suc, ◌*◌, true, false, [], ◌∷◌, refl, arith}
 use Rattle.worker_pool.specs.Gates.{Went, WentFrom}
 
 abbrev doubles : ℕ → ℕ → Type 0

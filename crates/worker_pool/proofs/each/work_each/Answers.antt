@@ -1,4 +1,4 @@
-use Rattle.std.proofs.Common.{rules, ◌<◌, ℕ}
+use Rattle.std.proofs.Common.{rules}
 use Rattle.worker_pool.specs.Each.{HaveWorked}
 use Rattle.worker_pool.proofs.each.work_each.Goals as goal
 

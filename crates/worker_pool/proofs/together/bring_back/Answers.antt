@@ -1,4 +1,4 @@
-use Rattle.std.proofs.Common.{◌≡◌, ◌≤◌, ℕ, length, get_or, take, sym, ap, ◌∙◌, subst, arith, rules, true, false}
+use Rattle.std.proofs.Common.{◌≡◌, ◌≤◌, length, take, ap, ◌∙◌, arith, rules}
 use Rattle.std.proofs.lemmas.List.{length_push, take-append-le}
 use Rattle.worker_pool.specs.Gates.{Errand, errand}
 use Rattle.worker_pool.proofs.Backs.{came_back, next, rest_front, went_next}
