@@ -161,7 +161,7 @@ module _ (house : House) (draws : ℕ → ℕ → ℕ → ℕ) where
         back = back;
         dropped = dropped_next any one end so_far.sittings held.sitting so_far.dropped held.end_is drops;
         untouched = all_push (λ (s : Sitting house draws). s.end ≡ HadNoMemory → (s.new ≡ s.old) × (s.after ≡ s.before)) so_far.sittings held.sitting so_far.untouched
-            (λ wants. (let same = held.untouched (sym held.end_is ∙ wants) in (same.0, same.1 ∙ sym held.passes.0)));
+            (λ wants. held.untouched (sym held.end_is ∙ wants));
         faults = held.faults ∙ so_far.faults;
       }
 

@@ -21,29 +21,29 @@ work-requires-clause-passes g c κs within = λ i d lt.
 
 pub bring_in-requires-clause-all : goal.bring_in-requires-clause-all
 bring_in-requires-clause-all g c = λ i d lt.
-    let within : i < length c.hire_all.new.crew.items = omega (arith, lt, c.in-Ok-Ok.ensures.len) in
-    ap (λ (b : Bundle). b.locks) (c.in-Ok-Ok.ensures.kept i d within) ∙ (c.in-Ok.ensures.hired i d within).0 ∙ c.requires.here
+    let within : i < length c.hire_all.new.crew.items = omega (arith, lt, c.in-Ok-work.ensures.len) in
+    ap (λ (b : Bundle). b.locks) (c.in-Ok-work.ensures.kept i d within) ∙ (c.in-Ok.ensures.hired i d within).0 ∙ c.requires.here
 
 pub bring_in-requires-clause-room : goal.bring_in-requires-clause-room
 bring_in-requires-clause-room g c =
     omega (
       arith,
-      c.in-Ok-Ok.ensures.len,
+      c.in-Ok-work.ensures.len,
       room_for (λ w. w.door) (shown_by g.O.Doors.coming g.O.Doors.served g.O.Doors.faults) _ _ c.hire_all.new.crew.items c.args.doors.now.cap c.in-Ok.ensures.doors
           (omega (arith, c.args.doors.now.ok.0, c.args.doors.now.ok.1)),
       c.in-Ok.ensures.capacity,
     )
 
-pub bring_in-requires-in-Ok-Err-clause-all : goal.bring_in-requires-in-Ok-Err-clause-all
-bring_in-requires-in-Ok-Err-clause-all g c = λ i d lt.
-    let same = c.in-Ok-Err.ensures.refused in
+pub bring_in-requires-in-Err-work-clause-all : goal.bring_in-requires-in-Err-work-clause-all
+bring_in-requires-in-Err-work-clause-all g c = λ i d lt.
+    let same = c.in-Err-work.ensures.refused in
     ap (λ ws. (get_or ws i d).passes.locks) same ∙ (c.in-Ok.ensures.hired i d (omega (arith, lt, ap length same))).0 ∙ c.requires.here
 
-pub bring_in-requires-in-Ok-Err-clause-room : goal.bring_in-requires-in-Ok-Err-clause-room
-bring_in-requires-in-Ok-Err-clause-room g c =
+pub bring_in-requires-in-Err-work-clause-room : goal.bring_in-requires-in-Err-work-clause-room
+bring_in-requires-in-Err-work-clause-room g c =
     omega (
       arith,
-      ap length c.in-Ok-Err.ensures.refused,
+      ap length c.in-Err-work.ensures.refused,
       room_for (λ w. w.door) (shown_by g.O.Doors.coming g.O.Doors.served g.O.Doors.faults) _ _ c.hire_all.new.crew.items c.args.doors.now.cap c.in-Ok.ensures.doors
           (omega (arith, c.args.doors.now.ok.0, c.args.doors.now.ok.1)),
       c.in-Ok.ensures.capacity,
@@ -58,18 +58,18 @@ bring_in-requires-in-Err-clause-room g c =
       c.in-Err.ensures.capacity,
     )
 
-pub returns-in-Ok-Ok-clause-service : goal.returns-in-Ok-Ok-clause-service
-returns-in-Ok-Ok-clause-service g c =
+pub returns-in-Ok-work-clause-service : goal.returns-in-Ok-work-clause-service
+returns-in-Ok-work-clause-service g c =
     let house = house_of c.args.house.now in
     let draws = draws_of c.args.streams.now in
     let count = c.args.workers in
     let each = c.args.posting.now.each in
     let main = c.args.passes.now in
     let first = c.hire_all.new.crew.items in
-    let crew = c.in-Ok-Ok.crew.items in
+    let crew = c.in-Ok-work.crew.items in
     let rest = c.hire_all.new.doors.items in
     let all : length first ≡ count = c.in-Ok.ensures.len in
-    let many : length crew ≡ count = c.in-Ok-Ok.ensures.len ∙ all in
+    let many : length crew ≡ count = c.in-Ok-work.ensures.len ∙ all in
     let d = some_of crew (omega (arith, many, c.requires.workers.0)) in
     let show = shown_by g.O.Doors.coming g.O.Doors.served g.O.Doors.faults in
     let before = c.in-Ok.ensures.doors in
@@ -80,7 +80,7 @@ returns-in-Ok-Ok-clause-service g c =
     (λ i lt.
     let within : i < length first = omega (arith, lt, all) in
     attended_at (λ w. w.passes) (λ w. w.end) (λ w. w.door) show house draws each main.knows c.args.doors.now.items c.bring_in.new.doors.items rest first crew i d before after within (omega (arith, lt, many))
-    (c.in-Ok.ensures.hired i d within).1 (c.in-Ok-Ok.ensures.attended i d within))
+    (c.in-Ok.ensures.hired i d within).1 (c.in-Ok-work.ensures.attended i d within))
     c.bring_in.result c.bring_in.ensures.end (c.bring_in.ensures.len.1 ∙ sym long)
     (omega (arith, all, many, as_many (λ w. w.door) show _ rest crew after, as_many (λ w. w.door) show _ rest first before))
     (others_left (λ w. w.door) show _ rest crew count after many ∙ sym (others_left (λ w. w.door) show _ rest first count before all))
@@ -90,36 +90,36 @@ returns-in-Ok-Ok-clause-service g c =
           (c.bring_in.ensures.taken o (owner_within house main.knows (length c.args.desks.now) o owner c.requires.passes long at)),
     ))
 
-pub returns-in-Ok-Ok-clause-passes : goal.returns-in-Ok-Ok-clause-passes
-returns-in-Ok-Ok-clause-passes g c =
+pub returns-in-Ok-work-clause-passes : goal.returns-in-Ok-work-clause-passes
+returns-in-Ok-work-clause-passes g c =
     passes_back (house_of c.args.house.now) c.args.passes.now.knows c.hire_all.new.passes.knows _ (length c.args.desks.now) c.requires.passes c.in-Ok.ensures.kept.1
     (c.len-owners.ensures.each_has.1 ∙ ap length c.requires.here) c.bring_in.ensures.len.1 (λ o lt. (c.bring_in.ensures.taken o lt).opened)
 
-pub returns-in-Ok-Err-clause-passes : goal.returns-in-Ok-Err-clause-passes
-returns-in-Ok-Err-clause-passes g c =
+pub returns-in-Err-work-clause-passes : goal.returns-in-Err-work-clause-passes
+returns-in-Err-work-clause-passes g c =
     passes_back (house_of c.args.house.now) c.args.passes.now.knows c.hire_all.new.passes.knows _ (length c.args.desks.now) c.requires.passes c.in-Ok.ensures.kept.1
-    (c.len-owners.ensures.each_has.1 ∙ ap length c.requires.here) c.bring_in-in-Ok-Err.ensures.len.1 (λ o lt. (c.bring_in-in-Ok-Err.ensures.taken o lt).opened)
+    (c.len-owners.ensures.each_has.1 ∙ ap length c.requires.here) c.bring_in-in-Err-work.ensures.len.1 (λ o lt. (c.bring_in-in-Err-work.ensures.taken o lt).opened)
 
 pub returns-in-Err-clause-passes : goal.returns-in-Err-clause-passes
 returns-in-Err-clause-passes g c =
     passes_back (house_of c.args.house.now) c.args.passes.now.knows c.hire_all.new.passes.knows _ (length c.args.desks.now) c.requires.passes c.in-Err.ensures.kept.1
     (c.len-owners.ensures.each_has.1 ∙ ap length c.requires.here) c.bring_in-in-Err.ensures.len.1 (λ o lt. (c.bring_in-in-Err.ensures.taken o lt).opened)
 
-pub returns-in-Ok-Ok-clause-back : goal.returns-in-Ok-Ok-clause-back
-returns-in-Ok-Ok-clause-back g c =
+pub returns-in-Ok-work-clause-back : goal.returns-in-Ok-work-clause-back
+returns-in-Ok-work-clause-back g c =
     let first = c.hire_all.new.crew.items in (
       c.bring_in.ensures.locks ∙ c.in-Ok.ensures.kept.0,
       all_back c.args.passes.now.shares c.hire_all.new.passes.shares c.bring_in.new.passes.shares (length c.args.desks.now) _ _ c.requires.shares (c.len-owners.ensures.each_has.0 ∙ ap length c.requires.here)
           c.bring_in.ensures.len.0 c.in-Ok.ensures.shares c.bring_in.ensures.shares
-          (λ o. sum_same (λ w. get_or w.passes.shares o 0) first c.in-Ok-Ok.crew.items c.in-Ok-Ok.ensures.len (λ i d lt. ap (λ (b : Bundle). get_or b.shares o 0) (c.in-Ok-Ok.ensures.kept i d lt))),
+          (λ o. sum_same (λ w. get_or w.passes.shares o 0) first c.in-Ok-work.crew.items c.in-Ok-work.ensures.len (λ i d lt. ap (λ (b : Bundle). get_or b.shares o 0) (c.in-Ok-work.ensures.kept i d lt))),
     )
 
-pub returns-in-Ok-Err-clause-back : goal.returns-in-Ok-Err-clause-back
-returns-in-Ok-Err-clause-back g c = (
-  c.bring_in-in-Ok-Err.ensures.locks ∙ c.in-Ok.ensures.kept.0,
-  all_back c.args.passes.now.shares c.hire_all.new.passes.shares c.bring_in-in-Ok-Err.new.passes.shares (length c.args.desks.now) _ _ c.requires.shares
-      (c.len-owners.ensures.each_has.0 ∙ ap length c.requires.here) c.bring_in-in-Ok-Err.ensures.len.0 c.in-Ok.ensures.shares c.bring_in-in-Ok-Err.ensures.shares
-      (λ o. ap (sum_by (λ w. get_or w.passes.shares o 0)) c.in-Ok-Err.ensures.refused),
+pub returns-in-Err-work-clause-back : goal.returns-in-Err-work-clause-back
+returns-in-Err-work-clause-back g c = (
+  c.bring_in-in-Err-work.ensures.locks ∙ c.in-Ok.ensures.kept.0,
+  all_back c.args.passes.now.shares c.hire_all.new.passes.shares c.bring_in-in-Err-work.new.passes.shares (length c.args.desks.now) _ _ c.requires.shares
+      (c.len-owners.ensures.each_has.0 ∙ ap length c.requires.here) c.bring_in-in-Err-work.ensures.len.0 c.in-Ok.ensures.shares c.bring_in-in-Err-work.ensures.shares
+      (λ o. ap (sum_by (λ w. get_or w.passes.shares o 0)) c.in-Err-work.ensures.refused),
 )
 
 pub returns-in-Err-clause-back : goal.returns-in-Err-clause-back
@@ -144,21 +144,21 @@ returns-in-Err-clause-refused g c = λ o owner at.
 pub returns-in-Err-clause-untouched : goal.returns-in-Err-clause-untouched
 returns-in-Err-clause-untouched g c = c.bring_in-in-Err.ensures.doors ∙ sym c.in-Err.ensures.doors
 
-pub returns-in-Ok-Err-clause-refused : goal.returns-in-Ok-Err-clause-refused
-returns-in-Ok-Err-clause-refused g c = λ o owner at.
+pub returns-in-Err-work-clause-refused : goal.returns-in-Err-work-clause-refused
+returns-in-Err-work-clause-refused g c = λ o owner at.
     let main = c.args.passes.now in
-    let idle = c.in-Ok-Err.idle.crew.items in
-    let same = c.in-Ok-Err.ensures.refused in
+    let idle = c.in-Err-work.idle.crew.items in
+    let same = c.in-Err-work.ensures.refused in
     let kept = c.in-Ok.ensures.kept.1 in
     let fresh = c.requires.fresh o owner at in
     let within = owner_within (house_of c.args.house.now) main.knows (length c.args.desks.now) o owner c.requires.passes (c.len-owners.ensures.each_has.1 ∙ ap length c.requires.here) at in
-    let taken = c.bring_in-in-Ok-Err.ensures.taken o within in
+    let taken = c.bring_in-in-Err-work.ensures.taken o within in
     let seen = ap (λ (ks : List Pass). pass_at ks o) kept in
-    let none = none_brought (λ w. w.passes) idle main.knows o (pass_at c.hire_all.new.passes.knows o) (pass_at c.bring_in-in-Ok-Err.new.passes.knows o)
+    let none = none_brought (λ w. w.passes) idle main.knows o (pass_at c.hire_all.new.passes.knows o) (pass_at c.bring_in-in-Err-work.new.passes.knows o)
     (ap (λ (p : Pass). p.own) (seen ∙ fresh)) (ap (λ (p : Pass). p.faults) (seen ∙ fresh))
     (λ i d lt. ap (λ ws. (get_or ws i d).passes.knows) same ∙ (c.in-Ok.ensures.hired i d (omega (arith, lt, ap length same))).1) taken in
     (taken.opened ∙ ap (λ (p : Pass). p.opened) seen, none.0, none.1)
 
-pub returns-in-Ok-Err-clause-untouched : goal.returns-in-Ok-Err-clause-untouched
-returns-in-Ok-Err-clause-untouched g c =
-    c.bring_in-in-Ok-Err.ensures.doors ∙ ap (λ ws. map (λ w. w.door) ws ++ c.hire_all.new.doors.items) c.in-Ok-Err.ensures.refused ∙ sym c.in-Ok.ensures.doors
+pub returns-in-Err-work-clause-untouched : goal.returns-in-Err-work-clause-untouched
+returns-in-Err-work-clause-untouched g c =
+    c.bring_in-in-Err-work.ensures.doors ∙ ap (λ ws. map (λ w. w.door) ws ++ c.hire_all.new.doors.items) c.in-Err-work.ensures.refused ∙ sym c.in-Ok.ensures.doors

@@ -10,7 +10,7 @@ loop-number-init g c = record { here = c.requires.here; kept = refl; passes = c.
 pub returns-in-Err-clause-attended : goal.returns-in-Err-clause-attended
 returns-in-Err-clause-attended g c =
     let failed = c.in-Err.ensures.failed in
-    attended_failing _ _ _ c.loop-number.number c.loop-number.any _ _ _ _ _ _ c.loop-number.invariant.so_far _ c.end_of-in-Err.ensures (omega (arith, c.loop-number-test.true)) failed.0 failed.1
+    attended_failing _ _ _ c.loop-number.number c.loop-number.any _ _ _ _ _ _ c.loop-number.invariant.so_far _ c.end_of.ensures (omega (arith, c.loop-number-test.true)) failed.0 failed.1
     c.in-Err.ensures.cause.later (c.in-Err.ensures.cause.failed refl) (ap (λ (b : Bundle). b.knows) failed.2)
 
 pub loop-number-preserved : goal.loop-number-preserved
@@ -23,4 +23,4 @@ loop-number-preserved g c = record {
 
 pub returns-clause-attended : goal.returns-clause-attended
 returns-clause-attended g c =
-    attended_all _ _ c.args.each c.loop-number.number c.loop-number.any _ _ _ _ _ c.end_of.ensures (omega (arith, c.loop-number-test.false, c.loop-number.auto.number-end)) c.loop-number.invariant.so_far
+    attended_all _ _ c.args.each c.loop-number.number c.loop-number.any _ _ _ _ _ c.end_of-2.ensures (omega (arith, c.loop-number-test.false, c.loop-number.auto.number-end)) c.loop-number.invariant.so_far
