@@ -152,8 +152,8 @@ module _ (house : House) (draws : ℕ → ℕ → ℕ → ℕ) where
       back = subst (λ cs. HaveGoneBack old.back cs now.back) (sym (map-append (λ (s : Sitting house draws). s.new) so_far.sittings (held.sitting ∷ [])))
           (back_more old.back mid.back now.back (map (λ (s : Sitting house draws). s.new) so_far.sittings) (held.sitting.new ∷ []) so_far.back held.back)
 
-      pub attending_next : IsAttending (n + 1) (any || one) old now before after
-      attending_next = record {
+      pub attending_next : (both : Bool) → both ≡ (any || one) → IsAttending (n + 1) both old now before after
+      attending_next both is = subst (λ (b : Bool). IsAttending (n + 1) b old now before after) (sym is) (record {
         sittings = more;
         long = omega (arith, length_push so_far.sittings held.sitting, so_far.long);
         follow = follow;
@@ -163,7 +163,7 @@ module _ (house : House) (draws : ℕ → ℕ → ℕ → ℕ) where
         untouched = all_push (λ (s : Sitting house draws). s.end ≡ HadNoMemory → (s.new ≡ s.old) × (s.after ≡ s.before)) so_far.sittings held.sitting so_far.untouched
             (λ wants. held.untouched (sym held.end_is ∙ wants));
         faults = held.faults ∙ so_far.faults;
-      }
+      })
 
     pub attended_failing : (end : Service) → end ≡ end_by any true → n < each → now.coming ≡ mid.coming → now.back ≡ mid.back → mid.faults ≤ now.faults → HasRisen mid.faults now.faults → after ≡ seen
         → HasAttended house draws each end old now before after

@@ -1,6 +1,6 @@
 //! One worker, and what it does.
 
-ghost use Rattle.std.specs.Prelude.{◌≡◌, ◌≢◌, ◌+◌, ◌*◌, ◌-◌, ◌^◌, ◌<◌, ◌≤◌, min, IsErr, IfOk, MatchBool, OnErr};
+ghost use Rattle.std.specs.Prelude.{◌≡◌, ◌≢◌, ◌+◌, ◌*◌, ◌-◌, ◌^◌, ◌<◌, ◌≤◌, ◌||◌, min, IsErr, IfOk, MatchBool, OnErr};
 ghost use Rattle.fz_outside.specs.Faults.{HasCause};
 ghost use Rattle.owner_house.specs.House.{house_of};
 ghost use Rattle.held_sessions.specs.SessionCore.Code.{ArePasses};
@@ -83,6 +83,13 @@ fn was_dropped<R: Wait>(rt: &R, end: SessionEnd) -> bool
     dropped
 }
 
+// Whether one was dropped, now or before.
+fn either(before: bool, now: bool) -> bool
+    ensures { result ≡ (before || now) }
+{
+    before || now
+}
+
 // How a worker's work ended.
 fn end_of(dropped: bool, failed: bool) -> Service
     ensures { result ≡ end_by dropped failed }
@@ -116,7 +123,7 @@ fn serve_each<R: Wait, D: Disk, S: Streams, G: Gate, O: Doors>(
             Err(_) => return end_of(any, true),
         };
         let dropped = was_dropped(server.rt, end);
-        any = any || dropped;
+        any = either(any, dropped);
     }
     end_of(any, false)
 }

@@ -18,7 +18,7 @@ loop-number-preserved g c = record {
   here = still_here c.args.server.now.desks.now c.loop-number.passes c.serve_next.new.passes c.loop-number.invariant.here c.in-Ok.ensures.kept;
   kept = bundle_goes c.args.passes.now c.loop-number.passes c.serve_next.new.passes c.loop-number.invariant.kept c.in-Ok.ensures.kept;
   passes = c.in-Ok.ensures.passes;
-  so_far = attending_next _ _ c.args.each c.loop-number.number c.loop-number.any _ _ _ _ _ _ c.loop-number.invariant.so_far c.was_dropped-dropped.result _ c.in-Ok.ensures.held c.was_dropped-dropped.ensures;
+  so_far = attending_next _ _ c.args.each c.loop-number.number c.loop-number.any _ _ _ _ _ _ c.loop-number.invariant.so_far c.was_dropped-dropped.result _ c.in-Ok.ensures.held c.was_dropped-dropped.ensures _ c.either-any.ensures;
 }
 
 pub returns-clause-attended : goal.returns-clause-attended
