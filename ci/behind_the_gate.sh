@@ -26,7 +26,7 @@ if [ "${1:-}" = --services ]; then
         "tests/comparisons/compare_scripts.py 60" "tests/comparisons/compare_orders.py 40")
     SCRIPTS=("tests/services/serving.py --quick" tests/services/keeping.py tests/services/full_disk.py tests/tools/page.py
         "tests/services/snapshots.py 8" "tests/services/two_processes.py 3"
-        tests/services/memory_limit.py tests/comparisons/noise_counts.py
+        tests/services/memory_limit.py tests/faults/refused_threads.py tests/faults/limited_memory.py tests/comparisons/noise_counts.py
         "${OF_REFERENCE[@]}" "tests/services/door.py 20")
 fi
 

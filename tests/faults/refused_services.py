@@ -1,11 +1,11 @@
 #!/usr/bin/env python3
-"""Refuses allocation 1, 2, 3, .. of an `init`, of a service that serves one connection, and of a generated run, alone and with all later ones.
+"""Refuses allocation 1, 2, 3, .. of an `init`, of a service that serves two connections, and of a generated run, alone and with all later ones.
 
 usage: tests/faults/refused_services.py     (PROGRAM=FILE tries another build than the proved one). Needs cc. `tests/faults/refused_memory.sh --services` calls it.
 - init: status 7 and the line `memory`, or all was done. Each journal is none that opens, or one without records, and where all was done they open.
-- serve: its connection asks the whole and a part, asks what is refused, recalls and looks at the balance. The service ends with status 7 and `memory`
-  before anything was read; or with status 0, and each reply is the second server's (tools/reference.py), but that an ask may be told `no 90`, which
-  takes nothing, or `no 51` with its number, which is charged. The journal is opened then, has all that was told, and nothing else; the next run's
+- serve: its connections come one after another. Each asks the whole and a part, asks what is refused, recalls and looks at the balance. The service ends
+  with status 7 and `memory` before it listens, or where a connection was dropped, which was told nothing; else with status 0. Each reply is the second
+  server's (tools/reference.py), but that an ask may be told `no 90`, which takes nothing, or `no 51` with its number, which is charged. The journal is opened then, has all that was told, and nothing else; the next run's
   number is new.
 - gen: status 7 and the line `memory`, or the line that is due.
 It ends with status 1 at another end, and where one of these never came.
@@ -32,6 +32,7 @@ TABLES = (("people", "people.csv", (("town", "text"), ("age", "num"))),)
 HOUSE = catalog(owner(tables=TABLES, partitions=(("area", "people", "town", ("A", "B")),)), owner("labour", TABLES, capacity=70))
 LINES = ["hello ann", "ask census 0.01 size (filter (fn (p : text * num) => let (t, n) = p in n <= 30) people)", "askpart census area A 0.02 size people",
     "ask census 0.01 size (people", "ask census 1000 size people", "recall census 0", "left census", "bye"]  # fmt: skip
+EACH = 2
 SEED, ASKS = 7, 12
 
 
@@ -99,7 +100,7 @@ def making(room, refusals):
 
 
 def replies_of(port, process):
-    """What one connection is told to all lines at once, once the service listens; nothing where it ended before."""
+    """What each connection is told to all lines at once, once the service listens; nothing where it ended before."""
     until = time.monotonic() + 30
     while not is_listened_at(port):
         if process.poll() is not None:
@@ -107,6 +108,10 @@ def replies_of(port, process):
         if time.monotonic() > until:
             raise Wrong("serve doesn't listen")
         time.sleep(0.002)
+    return [told_at(port) for _ in range(EACH)]
+
+
+def told_at(port):
     told = b""
     with socket.create_connection(("127.0.0.1", port), timeout=30) as link:
         try:
@@ -120,17 +125,15 @@ def replies_of(port, process):
 
 def serving(room, refusals):
     room.afresh(room.empty)
-    words = [PROGRAM, "serve", "cat.json", "key", "--port", str(room.port), "--each", "1"]
+    words = [PROGRAM, "serve", "cat.json", "key", "--port", str(room.port), "--each", str(EACH)]
     process = subprocess.Popen(words, stdin=subprocess.DEVNULL, stdout=subprocess.PIPE, stderr=subprocess.PIPE, text=True, env=room.given(refusals))
     told = replies_of(room.port, process)
     said, faults = process.communicate(timeout=60)
-    if (process.returncode, said) in ((7, "memory\n"), (7, "")) and not told:
-        came, server = ["unread" if told == "" else "memory"], None
-    elif (process.returncode, said) == (0, ""):
-        server = Server(room.house, key_words(bytes(32)))
-        came = judged(server, told.splitlines())
-    else:
-        raise Wrong(f"status {process.returncode} and {said!r}, and the connection was told {told!r}")
+    if (process.returncode, said) not in (((0, ""),) if told and all(told) else ((7, "memory\n"), (7, ""))):
+        raise Wrong(f"status {process.returncode} and {said!r}, and the connections were told {told!r}")
+    server, came = Server(room.house, key_words(bytes(32))), [] if told else ["memory"]
+    for one in told or ():
+        came += judged(server, one.splitlines()) if one else ["unread"]
     left(room, server)
     return next((what for what in ("memory", "unread", "no 51", "no 90") if what in came), "right"), faults
 
@@ -150,9 +153,9 @@ def judged(server, replies):
 def left(room, server):
     """The journals have what was told, and a run goes on."""
     census, other = room.books()
-    due = [(who, standing) for who, standing in server.owners[b"census"].reservations] if server else []
+    due = list(server.owners[b"census"].reservations)
     found = [(b"ann", census.settled[one.number].standing() if one.number in census.settled else "lost") for one in census.reserved]
-    if found != due or other.records or census.spent != (server.owners[b"census"].spent if server else 0):
+    if found != due or other.records or census.spent != server.owners[b"census"].spent:
         raise Wrong(f"the journal has {found}, and {due} was told")
     status, said, _ = room.ran("run", script="hello ann\nask census 0.01 size people\n")
     if status != 0 or said.splitlines()[-1].split()[:2] != ["answer", str(len(due))]:

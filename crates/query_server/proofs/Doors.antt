@@ -41,12 +41,13 @@ behind_same n i before after same past =
 
 module _ (house : House) (draws : ℕ → ℕ → ℕ → ℕ) where
   end_stays : (end : Service) (each : ℕ) (sittings : List (Sitting house draws)) (old new : ℕ) → EndsSo house draws end each sittings old new → old ≤ new
-  end_stays Served each sittings old new ends = omega (arith, ends.2)
-  end_stays DoorFault each sittings old new ends = ends.2
-  end_stays NoMemory each sittings old new ends = omega (arith, ends.2)
+  end_stays Served each sittings old new ends = omega (arith, ends.0.1)
+  end_stays DoorFault each sittings old new ends = ends.0.1
+  end_stays NoMemory each sittings old new (inl all, dropped) = omega (arith, all.1)
+  end_stays NoMemory each sittings old new (inr short, dropped) = short.1
 
   end_rose : (end : Service) (each : ℕ) (sittings : List (Sitting house draws)) (old new : ℕ) → end ≡ DoorFault → EndsSo house draws end each sittings old new → HasRisen old new
-  end_rose end each sittings old new is ends = (subst (λ (e : Service). EndsSo house draws e each sittings old new) is ends).3
+  end_rose end each sittings old new is ends = (subst (λ (e : Service). EndsSo house draws e each sittings old new) is ends).0.2
 
   pub service_stays : (count each : ℕ) (end : Service) (before after : List Door) (old new : List Pass) → IsService house draws count each end before after old new → DoorsStay before after
   service_stays count each end before after old new s = (s.each_has, λ i within. here i (cases_lt i count))

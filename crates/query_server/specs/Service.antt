@@ -32,7 +32,7 @@ IsServedEnd outcome.Served end = (lines : Vec ℕ Global) × (end ≡ Ok (end_wi
 IsServedEnd outcome.DoorFault end = end ≡ Err stop.Fault
 IsServedEnd outcome.NoMemory end = end ≡ Err stop.NoMemory
 
--- Doors were served by so many workers over these passes, or memory was wanting before, and nothing was touched.
+-- Doors were served by so many workers over these passes; or memory or a thread was wanting before, and nothing was touched.
 abbrev pub IsServiceEnd : House → (draws : ℕ → ℕ → ℕ → ℕ) → (workers each : ℕ) → (before after : List Door) → (old new : List Pass) → Ended
     → Type 0
 IsServiceEnd house draws workers each before after old new end =

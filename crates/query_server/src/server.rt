@@ -168,8 +168,8 @@ where
 ///   line that refuses the program. Nothing is taken of the source, and no disk.
 /// - `serve CATALOG KEY --port P --each N`, perhaps with `--addr A` and `--workers W`: the owners' journals are opened, and worker i
 ///   listens at port P + i of A by the door at its place, where it serves N connections, one after another. What a line adds is kept before
-///   it is answered. A door's fault, or want of memory for a session, ends its worker, and is answered once all have ended. Nothing goes to
-///   the sink.
+///   it is answered. Where a worker gets no thread, nothing is served. A door's fault ends its worker; a connection for which there is no memory
+///   is dropped, and counts as served. Both are answered once all have ended. Nothing goes to the sink.
 /// - `gen SEED N`, perhaps with WORKERS: in memory, and over no file, one analyst asks one owner N times. What that comes to follows from
 ///   SEED and N, and goes to the sink.
 ///

@@ -9,6 +9,7 @@ use memory_runs::doors::{DOORS, door_with, doors_behind};
 use memory_runs::journals::empty_journals;
 use memory_runs::{KEY, Status, TABLE, census_files, words_of};
 use outside_doors::memory::MemDoors;
+use outside_links::memory::MemLink;
 use std::alloc::{AllocError, Global};
 use std::sync::Wait;
 use std::test::Fail;
@@ -32,9 +33,14 @@ struct Outcome<'a> {
 }
 
 impl Outcome<'_> {
-    // What was written over a connection of a door that was handed back.
+    // A connection that a door was handed back.
+    fn link(&self, door: usize, place: usize) -> Option<&MemLink<'_>> {
+        self.doors.get(door)?.served().get(place)
+    }
+
+    // What was written over it.
     fn written(&self, door: usize, place: usize) -> Option<&[u8]> {
-        Some(self.doors.get(door)?.served().get(place)?.written())
+        Some(self.link(door, place)?.written())
     }
 
     // How many connections a door was handed back.
@@ -199,5 +205,44 @@ fn connections_fail(rt: HostRuntime) -> Result<(), Fail> {
         }
     }
     assert!(rt; 0 < whole && whole < CALLS);
+    Ok(())
+}
+
+/// How many connections come to one door, one after another.
+const COME: usize = 3;
+
+// Whether a connection was dropped, with nothing of it read or written.
+fn is_dropped(link: &MemLink<'_>) -> bool {
+    link.calls() == 0 && link.written().is_empty()
+}
+
+// What a service of some connections comes to, also where memory runs out (a script refuses each allocation in turn): each is handed back, answered
+// or dropped, and one that was dropped is told by the status.
+#[test]
+fn dropped_connections(rt: HostRuntime) -> Result<(), Fail> {
+    let alloc = rt.alloc();
+    let door = door_with(alloc, &greetings(alloc, COME)?, &[], &[])?;
+    let outcome = served(&rt, alloc, "1", "3", vec![in alloc; door]?)?;
+    let mut dropped = 0usize;
+    for place in 0..outcome.handed_back(0) {
+        let Some(link) = outcome.link(0, place) else {
+            panic!(rt; "no connection");
+        };
+        if is_dropped(link) {
+            dropped = dropped.saturating_add(1);
+        } else {
+            assert!(rt; link.written() == b"hello ann\n".as_slice());
+        }
+    }
+    match outcome.status {
+        Status::Done => assert!(rt; outcome.handed_back(0) == COME && dropped == 0),
+        Status::NoMemory => {
+            assert!(rt;
+                outcome.handed_back(0) == 0 || (outcome.handed_back(0) == COME && 0 < dropped)
+            );
+        }
+        _ => panic!(rt; "another end"),
+    }
+    println!(rt; "{dropped} dropped")?;
     Ok(())
 }

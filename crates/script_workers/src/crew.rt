@@ -17,7 +17,8 @@ use session_core::server::Server;
 use session_core::{Desk, House};
 use std::alloc::{AllocError, Global};
 use std::sync::Wait;
-use std::thread::{self, Threads};
+use std::thread::Threads;
+use worker_pool::work_each;
 
 /// The most workers.
 pub(crate) const MOST_WORKERS: usize = 16;
@@ -50,7 +51,7 @@ pub(crate) fn hire_all<D: Disk>(
     Ok(())
 }
 
-/// Each worker answers its blocks, in a thread of its own.
+/// Each worker answers its blocks, in a thread of its own where one can be started.
 pub(crate) fn work<R: Threads + Wait + Sync, D: Disk + Send, S: Streams + Sync, G: Gate + Sync>(
     rt: &R,
     alloc: Global,
@@ -90,7 +91,7 @@ where
         serve(&server, worker, starts, count, index);
         nudge_all(desks);
     };
-    thread::for_each_mut(rt, crew, MOST_WORKERS, &job);
+    work_each(rt, &job, crew);
 }
 
 // A worker that has answered its last block won't ask for an owner again.

@@ -1,7 +1,8 @@
 -- A worker at its door, connection after connection.
-use Rattle.std.proofs.Common.{◌≡◌, ◌≢◌, ℕ, ◌+◌, ◌<◌, ◌≤◌, Bool, true, false, List, [], ◌∷◌, ◌++◌, length, map, Option, None, Some, refl, sym, ap, ◌∙◌, subst, arith, append_assoc, append-nil}
+use Rattle.std.proofs.Common.{◌≡◌, ◌≢◌, ◌||◌, ℕ, ◌+◌, ◌<◌, ◌≤◌, Bool, true, false, List, [], ◌∷◌, ◌++◌, length, map, Option, None, Some, refl, sym, ap, ◌∙◌, subst, arith, append_assoc, append-nil}
 use Rattle.std.specs.Prelude.{MatchBool, option_map}
-use Rattle.std.specs.List.{flat_map}
+use Rattle.std.specs.List.{AllByRecursion, flat_map}
+use mathlib.Core.Logic.{◌⊎◌, inl, inr}
 use Rattle.std.proofs.lemmas.List.{length_push, map-append}
 use Rattle.fz_outside.specs.Faults.{HasRisen}
 use Rattle.wire_lines.proofs.Cuts.{no_lines}
@@ -17,9 +18,9 @@ use Rattle.held_sessions.specs.SessionEndType.{SessionEnd}
 use Rattle.held_sessions.specs.SessionEnds.{NoMemory as HadNoMemory}
 use Rattle.held_sessions.specs.Sittings.{Sitting, FollowOn}
 use Rattle.service_workers.specs.declared.posting.Service.{Service}
-use Rattle.service_workers.specs.declared.posting.Service.TheVariants.{Served, DoorFault, NoMemory}
-use Rattle.service_workers.specs.Services.{Door, HaveCome, HaveGoneBack, HadMemory, door_of}
-use Rattle.service_workers.specs.Code.{HasAttended, HasHeld}
+use Rattle.service_workers.specs.declared.posting.Service.TheVariants.{DoorFault}
+use Rattle.service_workers.specs.Services.{AreAll, AreCutShort, Door, DroppedAreUntouched, EndsSo, HaveCome, HaveGoneBack, HadMemory, OneWasDropped, door_of}
+use Rattle.service_workers.specs.Code.{HasAttended, HasHeld, end_by}
 
 -- ---- connections, one after another
 
@@ -78,14 +79,6 @@ held_one house draws end first last before after coming mid left back kept now f
   untouched = λ is. (link_untouched house draws first last before after (subst (λ (e : SessionEnd). IsSession house draws e first last before after) is session), memory is);
 }
 
-pub was_wanting : (wanted : Bool) (end : SessionEnd) → MatchBool wanted (end ≡ HadNoMemory) (end ≢ HadNoMemory) → wanted ≡ true → end ≡ HadNoMemory
-was_wanting true end h is = h
-was_wanting false end h is = absurd (cc is)
-
-pub was_served : (wanted : Bool) (end : SessionEnd) → MatchBool wanted (end ≡ HadNoMemory) (end ≢ HadNoMemory) → wanted ≡ false → end ≢ HadNoMemory
-was_served true end h is = absurd (cc is)
-was_served false end h is = h
-
 -- ---- the door
 
 module _ (house : House) (draws : ℕ → ℕ → ℕ → ℕ) where
@@ -94,91 +87,105 @@ module _ (house : House) (draws : ℕ → ℕ → ℕ → ℕ) where
   follow_push [] before mid next follow is = (is ∙ follow, refl)
   follow_push (sitting ∷ sittings) before mid next follow is = (follow.0, follow_push sittings sitting.after mid next follow.1 is)
 
-  -- A worker has served so many connections, and memory was wanting to none.
-  pub record IsAttending (n : ℕ) (old now : Door) (before after : List Pass) : Type 0 where
+  all_push : (P : Sitting house draws → Type 0) (sittings : List (Sitting house draws)) (next : Sitting house draws) → AllByRecursion P sittings → P next → AllByRecursion P (sittings ++ next ∷ [])
+  all_push P sittings next all one = all_append P sittings (next ∷ []) all (one, tt)
+
+  one_push : (sittings : List (Sitting house draws)) (next : Sitting house draws) → OneWasDropped house draws sittings → OneWasDropped house draws (sittings ++ next ∷ [])
+  one_push sittings next (earlier, later, dropped, is, end) =
+      (earlier, later ++ next ∷ [], dropped, ap (λ ss. ss ++ next ∷ []) is ∙ append_assoc earlier (dropped ∷ later) (next ∷ []), end)
+
+  -- whether one of these connections was dropped
+  abbrev pub AreDropped : Bool → List (Sitting house draws) → Type 0
+  AreDropped dropped sittings = MatchBool dropped (OneWasDropped house draws sittings) (HadMemory house draws sittings)
+
+  dropped_next : (any one : Bool) (end : SessionEnd) (sittings : List (Sitting house draws)) (next : Sitting house draws) → AreDropped any sittings → next.end ≡ end
+      → MatchBool one (end ≡ HadNoMemory) (end ≢ HadNoMemory) → AreDropped (any || one) (sittings ++ next ∷ [])
+  dropped_next true one end sittings next so_far is h = one_push sittings next so_far
+  dropped_next false true end sittings next so_far is h = (sittings, [], next, refl, is ∙ h)
+  dropped_next false false end sittings next so_far is h = all_push (λ (s : Sitting house draws). s.end ≢ HadNoMemory) sittings next so_far (λ wants. h (sym is ∙ wants))
+
+  -- A worker has served so many connections, some of which it may have dropped.
+  pub record IsAttending (n : ℕ) (any : Bool) (old now : Door) (before after : List Pass) : Type 0 where
     pub sittings : List (Sitting house draws)
     pub long : length sittings ≡ n
     pub follow : FollowOn house draws before sittings after
     pub come : HaveCome old.coming (map (λ (s : Sitting house draws). s.old) sittings) now.coming
     pub back : HaveGoneBack old.back (map (λ (s : Sitting house draws). s.new) sittings) now.back
-    pub had : HadMemory house draws sittings
+    pub dropped : AreDropped any sittings
+    pub untouched : DroppedAreUntouched house draws sittings
     pub faults : now.faults ≡ old.faults
 
-  pub attending_first : (old now : Door) (before : List Pass) → now.coming ≡ old.coming → now.back ≡ old.back → now.faults ≡ old.faults → IsAttending 0 old now before before
+  pub attending_first : (old now : Door) (before : List Pass) → now.coming ≡ old.coming → now.back ≡ old.back → now.faults ≡ old.faults → IsAttending 0 false old now before before
   attending_first old now before come back faults = record {
     sittings = [];
     long = refl;
     follow = refl;
     come = come_none old.coming now.coming come;
     back = back_none old.back now.back back;
-    had = tt;
+    dropped = tt;
+    untouched = tt;
     faults = faults;
   }
 
-  module _ (each n : ℕ) (old mid now : Door) (before seen after : List Pass) (so_far : IsAttending n old mid before seen) where
+  cut_short : {each old new : ℕ} (any : Bool) (sittings : List (Sitting house draws)) → AreDropped any sittings → AreCutShort house draws each sittings old new → EndsSo house draws (end_by any true) each sittings old new
+  cut_short true sittings dropped short = (inr short, dropped)
+  cut_short false sittings had short = (short, had)
+
+  served : {each old new : ℕ} (any : Bool) (sittings : List (Sitting house draws)) → AreDropped any sittings → AreAll house draws each sittings old new → EndsSo house draws (end_by any false) each sittings old new
+  served true sittings dropped all = (inl all, dropped)
+  served false sittings had all = (all, had)
+
+  module _ (each n : ℕ) (any : Bool) (old mid now : Door) (before seen after : List Pass) (so_far : IsAttending n any old mid before seen) where
     -- one connection more
-    module _ (end : SessionEnd) (one : HasHeld house draws end mid now seen after) where
+    module _ (one : Bool) (end : SessionEnd) (held : HasHeld house draws end mid now seen after) (drops : MatchBool one (end ≡ HadNoMemory) (end ≢ HadNoMemory)) where
       abbrev more : List (Sitting house draws)
-      more = so_far.sittings ++ one.sitting ∷ []
+      more = so_far.sittings ++ held.sitting ∷ []
 
       follow : FollowOn house draws before more after
-      follow = subst (FollowOn house draws before more) one.passes.1 (follow_push so_far.sittings before seen one.sitting so_far.follow one.passes.0)
+      follow = subst (FollowOn house draws before more) held.passes.1 (follow_push so_far.sittings before seen held.sitting so_far.follow held.passes.0)
 
       come : HaveCome old.coming (map (λ (s : Sitting house draws). s.old) more) now.coming
-      come = subst (λ cs. HaveCome old.coming cs now.coming) (sym (map-append (λ (s : Sitting house draws). s.old) so_far.sittings (one.sitting ∷ [])))
-          (come_more old.coming mid.coming now.coming (map (λ (s : Sitting house draws). s.old) so_far.sittings) (one.sitting.old ∷ []) so_far.come one.come)
+      come = subst (λ cs. HaveCome old.coming cs now.coming) (sym (map-append (λ (s : Sitting house draws). s.old) so_far.sittings (held.sitting ∷ [])))
+          (come_more old.coming mid.coming now.coming (map (λ (s : Sitting house draws). s.old) so_far.sittings) (held.sitting.old ∷ []) so_far.come held.come)
 
       back : HaveGoneBack old.back (map (λ (s : Sitting house draws). s.new) more) now.back
-      back = subst (λ cs. HaveGoneBack old.back cs now.back) (sym (map-append (λ (s : Sitting house draws). s.new) so_far.sittings (one.sitting ∷ [])))
-          (back_more old.back mid.back now.back (map (λ (s : Sitting house draws). s.new) so_far.sittings) (one.sitting.new ∷ []) so_far.back one.back)
+      back = subst (λ cs. HaveGoneBack old.back cs now.back) (sym (map-append (λ (s : Sitting house draws). s.new) so_far.sittings (held.sitting ∷ [])))
+          (back_more old.back mid.back now.back (map (λ (s : Sitting house draws). s.new) so_far.sittings) (held.sitting.new ∷ []) so_far.back held.back)
 
-      long : length more ≡ n + 1
-      long = omega (arith, length_push so_far.sittings one.sitting, so_far.long)
-
-      pub attending_next : end ≢ HadNoMemory → IsAttending (n + 1) old now before after
-      attending_next had = record {
+      pub attending_next : (both : Bool) → both ≡ (any || one) → IsAttending (n + 1) both old now before after
+      attending_next both is = subst (λ (b : Bool). IsAttending (n + 1) b old now before after) (sym is) (record {
         sittings = more;
-        long = long;
+        long = omega (arith, length_push so_far.sittings held.sitting, so_far.long);
         follow = follow;
         come = come;
         back = back;
-        had = all_append (λ (s : Sitting house draws). s.end ≢ HadNoMemory) so_far.sittings (one.sitting ∷ []) so_far.had (λ is. had (sym one.end_is ∙ is), tt);
-        faults = one.faults ∙ so_far.faults;
-      }
+        dropped = dropped_next any one end so_far.sittings held.sitting so_far.dropped held.end_is drops;
+        untouched = all_push (λ (s : Sitting house draws). s.end ≡ HadNoMemory → (s.new ≡ s.old) × (s.after ≡ s.before)) so_far.sittings held.sitting so_far.untouched
+            (λ wants. held.untouched (sym held.end_is ∙ wants));
+        faults = held.faults ∙ so_far.faults;
+      })
 
-      pub attended_wanting : n < each → end ≡ HadNoMemory → HasAttended house draws each NoMemory old now before after
-      attended_wanting within wants = record {
-        sittings = more;
-        follow = follow;
-        attended = record {
-          come = come;
-          back = back;
-          ends = (
-            omega (arith, long, within),
-            record { earlier = so_far.sittings; last = one.sitting; all = refl; others = so_far.had; end = one.end_is ∙ wants; untouched = one.untouched wants },
-            one.faults ∙ so_far.faults,
-          );
-        };
-      }
-
-    pub attended_failing : n < each → now.coming ≡ mid.coming → now.back ≡ mid.back → mid.faults ≤ now.faults → HasRisen mid.faults now.faults → after ≡ seen
-        → HasAttended house draws each DoorFault old now before after
-    attended_failing within come back later risen same = record {
+    pub attended_failing : (end : Service) → end ≡ end_by any true → n < each → now.coming ≡ mid.coming → now.back ≡ mid.back → mid.faults ≤ now.faults → HasRisen mid.faults now.faults → after ≡ seen
+        → HasAttended house draws each end old now before after
+    attended_failing end end_is within come back later risen same = subst (λ (e : Service). HasAttended house draws each e old now before after) (sym end_is) (record {
       sittings = so_far.sittings;
       follow = subst (FollowOn house draws before so_far.sittings) (sym same) so_far.follow;
       attended = record {
         come = so_far.come ∙ ap (option_map (λ rest. map (λ (s : Sitting house draws). s.old) so_far.sittings ++ rest)) (sym come);
         back = back ∙ so_far.back;
-        ends = (omega (arith, so_far.long, within), so_far.had, omega (arith, later, so_far.faults), subst (λ (n : ℕ). HasRisen n now.faults) so_far.faults risen);
+        dropped = so_far.untouched;
+        ends = cut_short any so_far.sittings so_far.dropped
+            (omega (arith, so_far.long, within), omega (arith, later, so_far.faults), subst (λ (n : ℕ). HasRisen n now.faults) so_far.faults risen);
       };
-    }
+    })
 
-  pub attended_all : (each n : ℕ) (old now : Door) (before after : List Pass) → n ≡ each → IsAttending n old now before after → HasAttended house draws each Served old now before after
-  attended_all each n old now before after is all = record {
+  pub attended_all : (each n : ℕ) (any : Bool) (old now : Door) (before after : List Pass) (end : Service) → end ≡ end_by any false → n ≡ each → IsAttending n any old now before after
+      → HasAttended house draws each end old now before after
+  attended_all each n any old now before after end end_is is all = subst (λ (e : Service). HasAttended house draws each e old now before after) (sym end_is) (record {
     sittings = all.sittings;
     follow = all.follow;
-    attended = record { come = all.come; back = all.back; ends = (all.long ∙ is, all.had, all.faults) };
-  }
+    attended = record { come = all.come; back = all.back; dropped = all.untouched; ends = served any all.sittings all.dropped (all.long ∙ is, all.faults) };
+  })
 
 -- A door at which a worker has begun to listen shows what it did before.
 pub attended_from : (house : House) (draws : ℕ → ℕ → ℕ → ℕ) (each : ℕ) (end : Service) (coming at back kept : Option (List Connection)) (faults same : ℕ) (now : Door) (before after : List Pass)
@@ -191,5 +198,5 @@ attended_from house draws each end coming at back kept faults same now before af
 pub unattended : (house : House) (draws : ℕ → ℕ → ℕ → ℕ) (each : ℕ) (coming at back kept : Option (List Connection)) (faults more : ℕ) (before : List Pass)
     → 0 < each → at ≡ coming → kept ≡ back → faults ≤ more → HasRisen faults more → HasAttended house draws each DoorFault (door_of coming back faults) (door_of at kept more) before before
 unattended house draws each coming at back kept faults more before some at_is kept_is later risen =
-    attended_failing house draws each 0 (door_of coming back faults) (door_of coming back faults) (door_of at kept more) before before before
-    (attending_first house draws (door_of coming back faults) (door_of coming back faults) before refl refl refl) some at_is kept_is later risen refl
+    attended_failing house draws each 0 false (door_of coming back faults) (door_of coming back faults) (door_of at kept more) before before before
+    (attending_first house draws (door_of coming back faults) (door_of coming back faults) before refl refl refl) DoorFault refl some at_is kept_is later risen refl

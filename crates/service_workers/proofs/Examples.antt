@@ -1,11 +1,14 @@
 -- Doors and ends, worked out.
-use Rattle.std.proofs.Common.{◌≡◌, ◌≢◌, ℕ, zero, suc, ◌<◌, List, [], ◌∷◌, length, Option, Some, None, refl, ap, arith}
+use Rattle.std.proofs.Common.{◌≡◌, ◌≢◌, ℕ, zero, suc, ◌<◌, List, [], ◌∷◌, length, true, false, Option, Some, None, refl, ap, arith}
+use mathlib.Core.Logic.{inl, inr}
 use Rattle.outside_links.specs.Links.{Connection, shown}
 use Rattle.owner_house.specs.House.{House}
 use Rattle.service_workers.specs.declared.posting.Service.{Service}
 use Rattle.service_workers.specs.declared.posting.Service.TheVariants.{Served, DoorFault, NoMemory}
-use Rattle.service_workers.specs.Services.{ComesTo, EndsSo, HaveCome, HaveGoneBack, door_at, door_of}
-use Rattle.service_workers.specs.Code.{worst_of}
+use Rattle.held_sessions.specs.SessionEnds.{NoMemory as HadNoMemory}
+use Rattle.held_sessions.specs.Sittings.{Sitting}
+use Rattle.service_workers.specs.Services.{ComesTo, EndsSo, HaveCome, HaveGoneBack, OneWasDropped, door_at, door_of}
+use Rattle.service_workers.specs.Code.{end_by, worst_of}
 
 a : Connection
 a = shown (Some (98 ∷ [])) (Some []) 0
@@ -39,7 +42,7 @@ not_twice is = omega (arith, ap coming_count is)
 gone_back : HaveGoneBack (Some (b ∷ [])) (a ∷ b ∷ []) (Some (b ∷ a ∷ b ∷ []))
 gone_back = refl
 
--- want of memory is told before a door's fault, wherever it was
+-- a connection that was dropped is told before a door's fault, wherever it was
 all_well : worst_of (Served ∷ Served ∷ []) ≡ Served
 all_well = refl
 
@@ -77,13 +80,41 @@ not_wanting (suc i, lt, is) = cc is
 module _ (house : House) (draws : ℕ → ℕ → ℕ → ℕ) where
   -- nobody came: a door that failed at once has fewer than were wanted, and its count has risen
   failed_at_once : EndsSo house draws DoorFault 1 [] 3 4
-  failed_at_once = (omega arith, tt, omega arith, λ more. omega arith)
+  failed_at_once = ((omega arith, omega arith, λ more. omega arith), tt)
 
   no_fault : EndsSo house draws DoorFault 1 [] 3 3 → ⊥
-  no_fault ends = omega (arith, ends.3 (omega arith))
+  no_fault ends = omega (arith, ends.0.2 (omega arith))
 
   not_all : EndsSo house draws Served 1 [] 3 3 → ⊥
-  not_all ends = omega (arith, ends.0)
+  not_all ends = omega (arith, ends.0.0)
+
+  -- one of two connections was dropped: that is told, where all were served and where the door failed after it
+  module _ (dropped sitting : Sitting house draws) (end : dropped.end ≡ HadNoMemory) where
+    all_but_one : EndsSo house draws NoMemory 2 (dropped ∷ sitting ∷ []) 3 3
+    all_but_one = (inl (refl, refl), ([], sitting ∷ [], dropped, refl, end))
+
+    then_failed : EndsSo house draws NoMemory 3 (sitting ∷ dropped ∷ []) 3 4
+    then_failed = (inr (omega arith, omega arith, λ more. omega arith), (sitting ∷ [], [], dropped, refl, end))
+
+    not_served_whole : EndsSo house draws Served 2 (dropped ∷ sitting ∷ []) 3 3 → ⊥
+    not_served_whole ends = ends.1.0 end
+
+  none_dropped : OneWasDropped house draws [] → ⊥
+  none_dropped ([], later, dropped, is, end) = omega (arith, ap length is)
+  none_dropped (x ∷ earlier, later, dropped, is, end) = omega (arith, ap length is)
+
+-- how a worker's work ended
+dropped_is_told : end_by true true ≡ NoMemory
+dropped_is_told = refl
+
+all_but_dropped : end_by true false ≡ NoMemory
+all_but_dropped = refl
+
+failed_alone : end_by false true ≡ DoorFault
+failed_alone = refl
+
+all_served : end_by false false ≡ Served
+all_served = refl
 
 -- a place with no door shows nothing
 no_door : door_at [] 0 ≡ door_of None None 0

@@ -1,5 +1,5 @@
 -- What a worker has done: with one connection, and with its door.
-use Rattle.std.specs.Prelude.{◌≡◌, ℕ, List, [], ◌∷◌}
+use Rattle.std.specs.Prelude.{◌≡◌, ℕ, Bool, true, false, List, [], ◌∷◌}
 use Rattle.owner_desk.specs.Passes.{Pass}
 use Rattle.owner_house.specs.House.{House}
 use Rattle.held_sessions.specs.SessionEndType.{SessionEnd}
@@ -25,6 +25,12 @@ pub record HasAttended (house : House) (draws : ℕ → ℕ → ℕ → ℕ) (ea
   pub sittings : List (Sitting house draws)
   pub follow : FollowOn house draws before sittings after
   pub attended : IsAttended house draws each end sittings old new
+
+-- how a worker's work ended, by whether it dropped a connection and whether its door failed
+abbrev pub end_by : (dropped failed : Bool) → Service
+end_by true failed = WantsMemory
+end_by false true = DoorFault
+end_by false false = Served
 
 -- of two ends the one that is told: want of memory before a door's fault
 abbrev pub worse_of : Service → Service → Service

@@ -1,5 +1,5 @@
 -- What becomes of doors that workers attend, each its own.
-use Rattle.std.specs.Prelude.{◌≡◌, ◌≢◌, ℕ, ◌<◌, ◌≤◌, List, [], ◌∷◌, ◌++◌, length, map, drop, get_or, Option, option_map, None}
+use Rattle.std.specs.Prelude.{◌≡◌, ◌≢◌, ◌⊎◌, ℕ, ◌<◌, ◌≤◌, List, [], ◌∷◌, ◌++◌, length, map, drop, get_or, Option, option_map, None}
 use Rattle.std.specs.List.{AllByRecursion}
 use Rattle.fz_outside.specs.Faults.{HasRisen}
 use Rattle.outside_links.specs.Links.{Connection}
@@ -33,7 +33,7 @@ HaveCome old come new = old ≡ option_map (λ later. come ++ later) new
 abbrev pub HaveGoneBack : (old : Option (List Connection)) → List Connection → (new : Option (List Connection)) → Type 0
 HaveGoneBack old back new = new ≡ option_map (λ earlier. earlier ++ back) old
 
--- What all workers come to: one had no memory, or else a door failed, or else all served as many as were wanted.
+-- What all workers come to: one dropped a connection, or else a door failed, or else all served as many as were wanted.
 abbrev pub ComesTo : (count : ℕ) → (ends : ℕ → Service) → Service → Type 0
 ComesTo count ends Served = (i : ℕ) → i < count → ends i ≡ Served
 ComesTo count ends DoorFault = ((i : ℕ) → i < count → ends i ≢ NoMemory) × (i : ℕ) × (i < count) × (ends i ≡ DoorFault)
@@ -44,25 +44,35 @@ module _ (house : House) (draws : ℕ → ℕ → ℕ → ℕ) where
   abbrev pub HadMemory : List (Sitting house draws) → Type 0
   HadMemory sittings = AllByRecursion (λ sitting. sitting.end ≢ HadNoMemory) sittings
 
-  -- The last of these sessions was in want of memory, and no other: it left its connection and the passes as they were.
-  pub record WantedMemory (sittings : List (Sitting house draws)) : Type 0 where
-    pub earlier : List (Sitting house draws)
-    pub last : Sitting house draws
-    pub all : sittings ≡ earlier ++ last ∷ []
-    pub others : HadMemory earlier
-    pub end : last.end ≡ HadNoMemory
-    pub untouched : (last.new ≡ last.old) × (last.after ≡ last.before)
+  -- One of these sessions was in want of memory: its connection was dropped.
+  abbrev pub OneWasDropped : List (Sitting house draws) → Type 0
+  OneWasDropped sittings =
+      (earlier later : List (Sitting house draws)) × (dropped : Sitting house draws) × (sittings ≡ earlier ++ dropped ∷ later)
+      × (dropped.end ≡ HadNoMemory)
 
-  -- How a worker's sessions end, of whom so many were wanted: at the last of them, at a fault of its door, or where one had no memory.
+  -- Each that was dropped was left as it was, and so were the passes.
+  abbrev pub DroppedAreUntouched : List (Sitting house draws) → Type 0
+  DroppedAreUntouched sittings =
+      AllByRecursion (λ sitting. sitting.end ≡ HadNoMemory → (sitting.new ≡ sitting.old) × (sitting.after ≡ sitting.before)) sittings
+
+  -- So many sessions were held as were wanted; or fewer, since the door failed.
+  abbrev pub AreAll : (each : ℕ) → List (Sitting house draws) → (old new : ℕ) → Type 0
+  AreAll each sittings old new = (length sittings ≡ each) × (new ≡ old)
+
+  abbrev pub AreCutShort : (each : ℕ) → List (Sitting house draws) → (old new : ℕ) → Type 0
+  AreCutShort each sittings old new = (length sittings < each) × (old ≤ new) × HasRisen old new
+
+  -- How a worker's sessions end: where one was dropped that is told, whether its door failed after it or not.
   abbrev pub EndsSo : Service → (each : ℕ) → List (Sitting house draws) → (old new : ℕ) → Type 0
-  EndsSo Served each sittings old new = (length sittings ≡ each) × HadMemory sittings × (new ≡ old)
-  EndsSo DoorFault each sittings old new = (length sittings < each) × HadMemory sittings × (old ≤ new) × HasRisen old new
-  EndsSo NoMemory each sittings old new = (length sittings ≤ each) × WantedMemory sittings × (new ≡ old)
+  EndsSo Served each sittings old new = AreAll each sittings old new × HadMemory sittings
+  EndsSo DoorFault each sittings old new = AreCutShort each sittings old new × HadMemory sittings
+  EndsSo NoMemory each sittings old new = (AreAll each sittings old new ⊎ AreCutShort each sittings old new) × OneWasDropped sittings
 
   -- A worker held these sessions at its door: each connection came by it, in this order, and was handed back as its session left it.
   pub record IsAttended (each : ℕ) (end : Service) (sittings : List (Sitting house draws)) (old new : Door) : Type 0 where
     pub come : HaveCome old.coming (map (λ sitting. sitting.old) sittings) new.coming
     pub back : HaveGoneBack old.back (map (λ sitting. sitting.new) sittings) new.back
+    pub dropped : DroppedAreUntouched sittings
     pub ends : EndsSo end each sittings old.faults new.faults
 
   -- So many workers have attended the first doors, each its own, and no other door. Worker i's sessions follow one another, and all

@@ -19,11 +19,9 @@ use owner_house::house::House;
 use script_workers::{Desk, Passes, Server, Token};
 use std::alloc::{AllocError, Global};
 use std::sync::Wait;
-use std::thread::{self, Threads};
+use std::thread::Threads;
 use word_streams::KeyStreams;
-
-/// The most workers.
-pub(crate) const MOST_WORKERS: usize = 16;
+use worker_pool::{NotStarted, work_together};
 
 // A worker for the first of some doors, with half of the passes' shares. Without memory nothing is given away.
 fn hire<D: Disk, O: Drop>(
@@ -80,8 +78,8 @@ pub(crate) fn hire_all<D: Disk, O: Drop>(
     Ok(())
 }
 
-/// Each worker attends its door, in a thread of its own. The words of noise are of one type: a check that values may go to a thread is
-/// found for one type with a type of its own, and not yet for two.
+/// Each worker attends its door, in a thread of its own, once all have threads. The words of noise are of one type: a check that values may
+/// go to a thread is found for one type with a type of its own, and not yet for two.
 pub(crate) fn work<
     R: Threads + Wait + Sync,
     D: Disk + Send,
@@ -95,23 +93,24 @@ pub(crate) fn work<
     streams: &KeyStreams,
     gate: &G,
     posting: &Posting<'_>,
-    crew: &mut [Worker<Token<D>, O>],
-)
+    crew: Vec<Worker<Token<D>, O>>,
+) -> Result<Vec<Worker<Token<D>, O>>, NotStarted<Worker<Token<D>, O>>>
 where
     O::L: Send,
-    requires some { (0 < length crew.old) × (length crew.old ≤ 16) }
-    requires ports { posting.now.port + length crew.old ≤ 2 ^ 16 }
+    requires some { (0 < length crew.items) × (length crew.items ≤ 16) }
+    requires ports { posting.now.port + length crew.items ≤ 2 ^ 16 }
     requires each { 0 < posting.now.each }
-    requires here { (i : ℕ) (d : _) → i < length crew.old → (slice_index_or crew.old i d).passes.locks ≡ desks.now }
-    requires passes { (i : ℕ) (d : _) → i < length crew.old → ArePasses (house_of house.now) (slice_index_or crew.old i d).passes.knows }
-    ensures len { length crew.new ≡ length crew.old }
-    ensures attended { (i : ℕ) (d : _) → i < length crew.old →
-        HasAttended (house_of house.now) (draws_of streams.now) posting.now.each (slice_index_or crew.new i d).end
-        (door_of (O.coming (slice_index_or crew.old i d).door) (O.served (slice_index_or crew.old i d).door) (O.faults (slice_index_or crew.old i d).door))
-        (door_of (O.coming (slice_index_or crew.new i d).door) (O.served (slice_index_or crew.new i d).door) (O.faults (slice_index_or crew.new i d).door))
-        (slice_index_or crew.old i d).passes.knows (slice_index_or crew.new i d).passes.knows }
-    ensures kept { (i : ℕ) (d : _) → i < length crew.old → (slice_index_or crew.new i d).passes
-        ≡ record (slice_index_or crew.old i d).passes { knows = (slice_index_or crew.new i d).passes.knows } }
+    requires here { (i : ℕ) (d : _) → i < length crew.items → (slice_index_or crew.items i d).passes.locks ≡ desks.now }
+    requires passes { (i : ℕ) (d : _) → i < length crew.items → ArePasses (house_of house.now) (slice_index_or crew.items i d).passes.knows }
+    ensures len { IfOk result (λ after. length after.items ≡ length crew.items) }
+    ensures attended { IfOk result (λ after. (i : ℕ) (d : _) → i < length crew.items →
+        HasAttended (house_of house.now) (draws_of streams.now) posting.now.each (slice_index_or after.items i d).end
+        (door_of (O.coming (slice_index_or crew.items i d).door) (O.served (slice_index_or crew.items i d).door) (O.faults (slice_index_or crew.items i d).door))
+        (door_of (O.coming (slice_index_or after.items i d).door) (O.served (slice_index_or after.items i d).door) (O.faults (slice_index_or after.items i d).door))
+        (slice_index_or crew.items i d).passes.knows (slice_index_or after.items i d).passes.knows) }
+    ensures kept { IfOk result (λ after. (i : ℕ) (d : _) → i < length crew.items → (slice_index_or after.items i d).passes
+        ≡ record (slice_index_or crew.items i d).passes { knows = (slice_index_or after.items i d).passes.knows }) }
+    ensures refused { IfErr result (λ refused. refused.crew.items ≡ crew.items) }
 {
     let count = crew.len();
     let job = |index: usize, worker: &mut Worker<Token<D>, O>|
@@ -133,7 +132,7 @@ where
         };
         attend_own(&server, worker, posting, Place { index, count });
     };
-    thread::for_each_mut(rt, crew, MOST_WORKERS, &job);
+    work_together(rt, alloc, crew, &job)
 }
 
 // Puts a door in front of the others, for which there is room.
@@ -146,7 +145,7 @@ fn put_first<O>(doors: &mut Vec<O>, door: O)
     doors.rotate_right(1);
 }
 
-// What a worker's end makes of that of others: want of memory is told before a door's fault.
+// What a worker's end makes of that of others: a connection that was dropped is told before a door's fault.
 fn worse(one: Service, other: Service) -> Service
     ensures { result ≡ worse_of one other }
 {

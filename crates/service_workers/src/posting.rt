@@ -11,10 +11,10 @@ pub struct Posting<'a> {
 /// How one worker's work ended, or that of all.
 #[derive(Clone, Copy, Debug, PartialEq, Eq)]
 pub enum Service {
-    /// As many connections were served as were wanted, however their sessions ended.
+    /// As many connections were served as were wanted, and none was dropped.
     Served,
     /// A door failed.
     DoorFault,
-    /// Memory was wanting to a session.
+    /// A connection was dropped, since there was no memory for its session.
     NoMemory,
 }

@@ -21,10 +21,10 @@ use std::thread::Threads;
 use word_streams::KeyStreams;
 
 /// So many workers serve connections, each those of the door at its place. All memory but that of the sessions themselves is taken before
-/// they begin.
+/// they begin, and they begin once all have threads: where one can't be started, nothing is served.
 ///
-/// A worker ends behind a fault of its door, and behind a session that had no memory; it goes on behind a connection that failed, or
-/// that gave too many bytes.
+/// A worker ends after a fault of its door. It goes on after a connection that failed, or that gave too many bytes; and after one that
+/// it dropped, since there was no memory for its session, which counts as served.
 pub fn serve_all<R: Threads + Wait + Sync, D: Disk + Send, G: Gate + Sync, O: Doors + Drop + Send>(
     rt: &R,
     alloc: Global,
@@ -61,10 +61,13 @@ where
     prove!(owners == desks.len());
     let mut crew = Vec::with_capacity(alloc, workers)?;
     match hire_all(alloc, desks, passes, doors, workers, &mut crew) {
-        Ok(()) => {
-            work(rt, alloc, house, desks, streams, gate, posting, &mut crew);
-            Ok(bring_in(desks, passes, doors, crew))
-        }
+        Ok(()) => match work(rt, alloc, house, desks, streams, gate, posting, crew) {
+            Ok(crew) => Ok(bring_in(desks, passes, doors, crew)),
+            Err(idle) => {
+                bring_in(desks, passes, doors, idle.crew);
+                Err(AllocError)
+            }
+        },
         Err(refusal) => {
             bring_in(desks, passes, doors, crew);
             Err(refusal)

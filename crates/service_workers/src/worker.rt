@@ -1,12 +1,12 @@
 //! One worker, and what it does.
 
-ghost use Rattle.std.specs.Prelude.{◌≡◌, ◌≢◌, ◌+◌, ◌*◌, ◌-◌, ◌^◌, ◌<◌, ◌≤◌, min, IsErr, IfOk, MatchBool, OnErr};
+ghost use Rattle.std.specs.Prelude.{◌≡◌, ◌≢◌, ◌+◌, ◌*◌, ◌-◌, ◌^◌, ◌<◌, ◌≤◌, ◌||◌, min, IsErr, IfOk, MatchBool, OnErr};
 ghost use Rattle.fz_outside.specs.Faults.{HasCause};
 ghost use Rattle.owner_house.specs.House.{house_of};
 ghost use Rattle.held_sessions.specs.SessionCore.Code.{ArePasses};
 ghost use Rattle.held_sessions.specs.SessionEnds.{NoMemory};
 ghost use Rattle.service_workers.specs.Services.{door_of};
-ghost use Rattle.service_workers.specs.Code.{HasAttended, HasHeld};
+ghost use Rattle.service_workers.specs.Code.{HasAttended, HasHeld, end_by};
 
 use crate::posting::{Posting, Service};
 use fz_outside::Failed;
@@ -18,6 +18,8 @@ use outside_links::gate::Gate;
 use owner_desk::Knows;
 use script_workers::{Bundle, Passes, Server, Token};
 use std::sync::Wait;
+use std::thread::Parker;
+use std::time::Duration;
 
 /// A worker's passes, its door, and how its work ended. It is generic in what its passes hold, so that it may go to a thread of its own.
 #[derive(Drop)]
@@ -67,11 +69,36 @@ fn serve_next<R: Wait, D: Disk, S: Streams, G: Gate, O: Doors>(
     Ok(end)
 }
 
-// Whether a session was in want of memory.
-fn wanted_memory(end: SessionEnd) -> bool
+// How long a worker rests after a connection that it dropped, in milliseconds.
+const REST: u64 = 100;
+
+// Whether a connection was dropped, since its session was in want of memory. The worker rests then: others may give memory back.
+fn was_dropped<R: Wait>(rt: &R, end: SessionEnd) -> bool
     ensures { MatchBool result (end ≡ NoMemory) (end ≢ NoMemory) }
 {
-    matches!(end, SessionEnd::NoMemory)
+    let dropped = matches!(end, SessionEnd::NoMemory);
+    if dropped {
+        Parker::new().park_timeout(rt, Duration::from_millis(REST));
+    }
+    dropped
+}
+
+// Whether one was dropped, now or before.
+fn either(before: bool, now: bool) -> bool
+    ensures { result ≡ (before || now) }
+{
+    before || now
+}
+
+// How a worker's work ended.
+fn end_of(dropped: bool, failed: bool) -> Service
+    ensures { result ≡ end_by dropped failed }
+{
+    match (dropped, failed) {
+        (true, _) => Service::NoMemory,
+        (false, true) => Service::DoorFault,
+        (false, false) => Service::Served,
+    }
 }
 
 // Serves as many connections as are wanted, one after another.
@@ -89,17 +116,16 @@ fn serve_each<R: Wait, D: Disk, S: Streams, G: Gate, O: Doors>(
         passes.old.knows passes.new.knows }
     ensures kept { passes.new ≡ record passes.old { knows = passes.new.knows } }
 {
+    let mut any = false;
     for number in 0..each {
         let end = match serve_next(server, passes, door, place.block(number)) {
             Ok(end) => end,
-            Err(_) => return Service::DoorFault,
+            Err(_) => return end_of(any, true),
         };
-        let wanted = wanted_memory(end);
-        if wanted {
-            return Service::NoMemory;
-        }
+        let dropped = was_dropped(server.rt, end);
+        any = either(any, dropped);
     }
-    Service::Served
+    end_of(any, false)
 }
 
 // Attends a door.

@@ -35,24 +35,24 @@ use Rattle.service_workers.proofs.crew.work.Goals as goal
 guarded : (D : RattleType) (disk : Disk.Ghosts D.Denot) → IsSend D → IsSend (guarded_row D disk)
 guarded D disk sent = search (crosses, sendable) depth 60 fits 20000
 
-pub for_each_mut-requires-send-T : goal.for_each_mut-requires-send-T
-for_each_mut-requires-send-T g c κs within =
+pub work_together-requires-send-T : goal.work_together-requires-send-T
+work_together-requires-send-T g c κs within =
     let D = param 1 g.row.D in
     let passes = ticket_send (guarded_row D g.D.Disk) noted_row (book_row D g.D.Disk) (guarded D g.D.Disk c.type_bounds.send-D) in
     param_send 1 _ (arg_send _ no _ (worker_send (ticket_row (guarded_row D g.D.Disk) noted_row (book_row D g.D.Disk)) (param 3 g.row.O) _ passes c.type_bounds.send-O))
 
-pub for_each_mut-requires-sync-F : goal.for_each_mut-requires-sync-F
-for_each_mut-requires-sync-F g c κs within =
+pub work_together-requires-sync-F : goal.work_together-requires-sync-F
+work_together-requires-sync-F g c κs within =
     let D = param 1 g.row.D in
     let books : IsSend (guarded_row D g.D.Disk) = guarded D g.D.Disk c.type_bounds.send-D in
     let stands = stands_ghosts D g.D.Disk no_stands_dict in
     let locks = locks_ghosts D g.D.Disk no_locks_dict in
     let lock = owned_row (guarded_row D g.D.Disk) noted_row (book_row D g.D.Disk) stands in
-    let name = lts.name-11 g.row.R g.row.D g.row.G g.row.O g.row.O-L g.R.laws g.D.laws g.G.laws g.O.laws g.O.L.laws g.R.Threads g.R.Threads-dict g.R.Wait g.R.Wait-dict g.D.Disk g.D.Disk-dict g.G.Gate g.G.Gate-dict g.O.Doors g.O.Doors-dict g.O.L.Link g.O.L.Link-dict g.O.Destruct-dict g.O.L.Destruct-dict in
-    let fields = lts.of-6 g.row.R g.row.D g.row.G g.row.O g.row.O-L g.R.laws g.D.laws g.G.laws g.O.laws g.O.L.laws g.R.Threads g.R.Threads-dict g.R.Wait g.R.Wait-dict g.D.Disk g.D.Disk-dict g.G.Gate g.G.Gate-dict g.O.Doors g.O.Doors-dict g.O.L.Link g.O.L.Link-dict g.O.Destruct-dict g.O.L.Destruct-dict
-    (record { mir = named 6; lft = κs.1.1.1.1.1.1.0 }) (record { mir = named 7; lft = κs.1.1.1.1.1.1.1.0 }) (record { mir = named 8; lft = κs.1.1.1.1.1.1.1.1.0 }) (record { mir = named 9; lft = κs.1.1.1.1.1.1.1.1.1.0 }) (record { mir = named 10; lft = κs.1.1.1.1.1.1.1.1.1.1.0 }) (record { mir = named 11; lft = κs.1.1.1.1.1.1.1.1.1.1.1.0 }) (record { mir = named 12; lft = κs.1.1.1.1.1.1.1.1.1.1.1.1.0 }) (record { mir = named 13; lft = κs.1.1.1.1.1.1.1.1.1.1.1.1.1.0 }) (record { mir = named 14; lft = κs.1.1.1.1.1.1.1.1.1.1.1.1.1.1.0 }) in
+    let name = lts.name-35 g.row.R g.row.D g.row.G g.row.O g.row.O-L g.R.laws g.D.laws g.G.laws g.O.laws g.O.L.laws g.R.Threads g.R.Threads-dict g.R.Wait g.R.Wait-dict g.D.Disk g.D.Disk-dict g.G.Gate g.G.Gate-dict g.O.Doors g.O.Doors-dict g.O.L.Link g.O.L.Link-dict g.O.Destruct-dict g.O.L.Destruct-dict in
+    let fields = lts.of-18 g.row.R g.row.D g.row.G g.row.O g.row.O-L g.R.laws g.D.laws g.G.laws g.O.laws g.O.L.laws g.R.Threads g.R.Threads-dict g.R.Wait g.R.Wait-dict g.D.Disk g.D.Disk-dict g.G.Gate g.G.Gate-dict g.O.Doors g.O.Doors-dict g.O.L.Link g.O.L.Link-dict g.O.Destruct-dict g.O.L.Destruct-dict
+    (record { mir = named 5; lft = κs.1.1.1.1.1.0 }) (record { mir = named 6; lft = κs.1.1.1.1.1.1.0 }) (record { mir = named 7; lft = κs.1.1.1.1.1.1.1.0 }) (record { mir = named 8; lft = κs.1.1.1.1.1.1.1.1.0 }) (record { mir = named 9; lft = κs.1.1.1.1.1.1.1.1.1.0 }) (record { mir = named 10; lft = κs.1.1.1.1.1.1.1.1.1.1.0 }) (record { mir = named 11; lft = κs.1.1.1.1.1.1.1.1.1.1.1.0 }) (record { mir = named 12; lft = κs.1.1.1.1.1.1.1.1.1.1.1.1.0 }) (record { mir = named 13; lft = κs.1.1.1.1.1.1.1.1.1.1.1.1.1.0 }) in
     let job = type_at name fields in
     param_sync 2 _ (arg_sync _ no (TupleAt name fields)
     (recorded_sync (field_at name fields).row _ _ job.to_one
     (struct_sync (shape job)
-    (shr_sync _ _ (param 0 g.row.R) c.type_bounds.sync-R, (shr_sync _ _ global_row global_sync, (shr_sync _ _ house_row house_sync, (shr_slice_sync _ _ (locked_row lock locks) (locked_sync lock locks (owned_sync (guarded_row D g.D.Disk) noted_row (book_row D g.D.Disk) stands books)), (shr_sync _ _ streams_row streams_sync, (shr_sync _ _ (param 2 g.row.G) c.type_bounds.sync-G, (shr_sync _ _ (posting_row (record { mir = named 13; lft = κs.1.1.1.1.1.1.1.1.1.1.1.1.1.0 })) (posting_sync (record { mir = named 13; lft = κs.1.1.1.1.1.1.1.1.1.1.1.1.1.0 })), (shr_sync _ _ u64-field.row (plain_sync _ _ _ _ _), tt)))))))))))
+    (shr_sync _ _ (param 0 g.row.R) c.type_bounds.sync-R, (shr_sync _ _ global_row global_sync, (shr_sync _ _ house_row house_sync, (shr_slice_sync _ _ (locked_row lock locks) (locked_sync lock locks (owned_sync (guarded_row D g.D.Disk) noted_row (book_row D g.D.Disk) stands books)), (shr_sync _ _ streams_row streams_sync, (shr_sync _ _ (param 2 g.row.G) c.type_bounds.sync-G, (shr_sync _ _ (posting_row (record { mir = named 12; lft = κs.1.1.1.1.1.1.1.1.1.1.1.1.0 })) (posting_sync (record { mir = named 12; lft = κs.1.1.1.1.1.1.1.1.1.1.1.1.0 })), (shr_sync _ _ u64-field.row (plain_sync _ _ _ _ _), tt)))))))))))

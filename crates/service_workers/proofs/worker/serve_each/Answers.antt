@@ -1,7 +1,7 @@
 use Rattle.std.proofs.Common.{refl, ap, arith}
 use Rattle.held_sessions.specs.SessionCore.Bundles.{Bundle}
 use Rattle.held_sessions.proofs.Steps.{bundle_goes, still_here}
-use Rattle.service_workers.proofs.Attending.{attending_first, attending_next, attended_all, attended_failing, attended_wanting, was_served, was_wanting}
+use Rattle.service_workers.proofs.Attending.{attending_first, attending_next, attended_all, attended_failing}
 use Rattle.service_workers.proofs.worker.serve_each.Goals as goal
 
 pub loop-number-init : goal.loop-number-init
@@ -10,22 +10,17 @@ loop-number-init g c = record { here = c.requires.here; kept = refl; passes = c.
 pub returns-in-Err-clause-attended : goal.returns-in-Err-clause-attended
 returns-in-Err-clause-attended g c =
     let failed = c.in-Err.ensures.failed in
-    attended_failing _ _ _ c.loop-number.number _ _ _ _ _ _ c.loop-number.invariant.so_far (omega (arith, c.loop-number-test.true)) failed.0 failed.1
+    attended_failing _ _ _ c.loop-number.number c.loop-number.any _ _ _ _ _ _ c.loop-number.invariant.so_far _ c.end_of.ensures (omega (arith, c.loop-number-test.true)) failed.0 failed.1
     c.in-Err.ensures.cause.later (c.in-Err.ensures.cause.failed refl) (ap (λ (b : Bundle). b.knows) failed.2)
-
-pub returns-then-wanted-clause-attended : goal.returns-then-wanted-clause-attended
-returns-then-wanted-clause-attended g c =
-    attended_wanting _ _ _ c.loop-number.number _ _ _ _ _ _ c.loop-number.invariant.so_far _ c.in-Ok.ensures.held (omega (arith, c.loop-number-test.true))
-    (was_wanting c.wanted_memory-wanted.result c.in-Ok.end c.wanted_memory-wanted.ensures c.if-wanted.true)
 
 pub loop-number-preserved : goal.loop-number-preserved
 loop-number-preserved g c = record {
   here = still_here c.args.server.now.desks.now c.loop-number.passes c.serve_next.new.passes c.loop-number.invariant.here c.in-Ok.ensures.kept;
   kept = bundle_goes c.args.passes.now c.loop-number.passes c.serve_next.new.passes c.loop-number.invariant.kept c.in-Ok.ensures.kept;
   passes = c.in-Ok.ensures.passes;
-  so_far = attending_next _ _ c.args.each c.loop-number.number _ _ _ _ _ _ c.loop-number.invariant.so_far _ c.in-Ok.ensures.held (was_served c.wanted_memory-wanted.result c.in-Ok.end c.wanted_memory-wanted.ensures c.if-wanted.false);
+  so_far = attending_next _ _ c.args.each c.loop-number.number c.loop-number.any _ _ _ _ _ _ c.loop-number.invariant.so_far c.was_dropped-dropped.result _ c.in-Ok.ensures.held c.was_dropped-dropped.ensures _ c.either-any.ensures;
 }
 
 pub returns-clause-attended : goal.returns-clause-attended
 returns-clause-attended g c =
-    attended_all _ _ c.args.each c.loop-number.number _ _ _ _ (omega (arith, c.loop-number-test.false, c.loop-number.auto.number-end)) c.loop-number.invariant.so_far
+    attended_all _ _ c.args.each c.loop-number.number c.loop-number.any _ _ _ _ _ c.end_of-2.ensures (omega (arith, c.loop-number-test.false, c.loop-number.auto.number-end)) c.loop-number.invariant.so_far

@@ -10,7 +10,7 @@ invariant-loop-number g l = record {
   here : l.passes.locks ≡ l.server.desks.now;
   kept : l.passes ≡ record l.fn.passes { knows = l.passes.knows };
   passes : ArePasses (house_of l.server.house.now) l.passes.knows;
-  so_far : IsAttending (house_of l.server.house.now) (g.S.Streams.given l.server.streams.now) l.number
+  so_far : IsAttending (house_of l.server.house.now) (g.S.Streams.given l.server.streams.now) l.number l.any
       (door_of (g.O.Doors.coming l.fn.door) (g.O.Doors.served l.fn.door) (g.O.Doors.faults l.fn.door))
       (door_of (g.O.Doors.coming l.door) (g.O.Doors.served l.door) (g.O.Doors.faults l.door)) l.fn.passes.knows l.passes.knows;
 }

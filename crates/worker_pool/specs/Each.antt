@@ -1,0 +1,9 @@
+-- What becomes of a crew whose threads are joined.
+use Rattle.std.specs.Prelude.{ℕ, List}
+use denote.Ref.{MutBor}
+use denote.Param.Members.{Shared}
+use Rattle.std.specs.Fork.{ChangesEach}
+
+-- Each worker is what its work left.
+pub record HaveWorked {F T : Type 0} (g : Shared F (ℕ × (MutBor T × Unit {0})) ((Unit {0}) × (MutBor T × Unit {0}))) (f : F) (before after : List T) : Type 0 where
+  pub each : ChangesEach g f before after
