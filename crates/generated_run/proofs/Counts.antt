@@ -6,7 +6,7 @@ use mathlib.Core.Logic.{inl, inr}
 use Rattle.journal_records.specs.declared.records.Outcome.TheVariants.{Answered, Exhausted}
 use Rattle.journal_records.specs.declared.records.Record.{Record}
 use Rattle.budget_core.specs.Counts.{outcome_of}
-use Rattle.generated_house.specs.Sizes.{row_count}
+use Rattle.generated_run.specs.Sizes.{row_count}
 use Rattle.generated_run.specs.Settled.{AreSettledBy, IsOutcomeOf, TellsOutcome}
 use Rattle.generated_run.specs.Tally.{answer_with, sum_of_answers, with_noise, without_noise}
 

@@ -1,7 +1,7 @@
 -- Worked examples, computed.
 use Rattle.std.proofs.Common.{◌≡◌, ℕ, zero, suc, Some, None, refl}
 use Rattle.std.specs.Prelude.{Option, ℤ, pos, negsuc}
-use Rattle.generated_house.specs.Sizes.{row_count}
+use Rattle.generated_run.specs.Sizes.{row_count}
 use Rattle.generated_run.specs.Tally.{tally_by}
 
 -- number 0 has the noise 2, number 1 has none, and each number behind them -1

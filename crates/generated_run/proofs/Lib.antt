@@ -1,7 +1,12 @@
+pub mod Scripts
+pub mod Houses
+pub mod Registers
+pub mod Books
 pub mod Closing
 pub mod Settling
 pub mod Counts
 pub mod Recalls
+mod HouseExamples
 mod Examples
 -- passed on to the crates above
 pub mod SessionLaws

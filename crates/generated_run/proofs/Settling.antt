@@ -38,12 +38,12 @@ use Rattle.session_laws.proofs.Added.{IsReservedBy}
 use Rattle.session_laws.proofs.Once.{reserves_at, told_once}
 use Rattle.session_laws.proofs.Places.{settled_at}
 use Rattle.session_laws.proofs.Sources.{Settles, settle_told}
-use Rattle.generated_house.specs.Sizes.{price, row_count}
-use Rattle.generated_house.specs.Key.{key_of_seed}
-use Rattle.generated_house.specs.House.{entry_for, house_for, owner_for, register_for, rows_of_seed, the_owner}
-use Rattle.generated_house.specs.Script.{script_of}
-use Rattle.generated_house.proofs.Houses.{rows_long}
-use Rattle.generated_house.proofs.Scripts.{IsLine, script_lines}
+use Rattle.generated_run.specs.Sizes.{price, row_count}
+use Rattle.generated_run.specs.Key.{key_of_seed}
+use Rattle.generated_run.specs.House.{entry_for, house_for, owner_for, register_for, rows_of_seed, the_owner}
+use Rattle.generated_run.specs.Script.{script_of}
+use Rattle.generated_run.proofs.Houses.{rows_long}
+use Rattle.generated_run.proofs.Scripts.{IsLine, script_lines}
 use Rattle.generated_run.specs.Answered.{IsAnsweredOver}
 use Rattle.generated_run.specs.Settled.{AreSettledBy, IsOutcomeOf}
 use Rattle.generated_run.specs.Tally.{noise_of_seed}

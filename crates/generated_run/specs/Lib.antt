@@ -1,3 +1,7 @@
+pub mod Sizes
+pub mod Key
+pub mod House
+pub mod Script
 pub mod Tally
 pub mod Settled
 pub mod Answered

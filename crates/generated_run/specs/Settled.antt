@@ -4,7 +4,7 @@ use Rattle.journal_records.specs.declared.records.Outcome.{Outcome}
 use Rattle.journal_records.specs.declared.records.Outcome.TheVariants.{Answered, Exhausted, Lost}
 use Rattle.journal_records.specs.declared.records.Record.{Record}
 use Rattle.budget_core.specs.Counts.{outcome_of}
-use Rattle.generated_house.specs.Sizes.{row_count}
+use Rattle.generated_run.specs.Sizes.{row_count}
 
 -- A number without a noise is exhausted, and one with a noise is answered with it, or memory ran out.
 abbrev pub IsOutcomeOf : Option ℤ → Outcome → Type 0

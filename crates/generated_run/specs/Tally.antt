@@ -1,10 +1,10 @@
 -- What a generated run comes to, by its seed and by how many asks it has.
-pub use Rattle.generated_house.specs.Sizes.{most_asks}
+pub use Rattle.generated_run.specs.Sizes.{most_asks}
 use Rattle.std.specs.Prelude.{ℕ, zero, suc, ◌+◌, ◌-◌, if◌then◌else◌, Option, Some, None, is_some, is_none, ℤ, pos, ◌+ℤ◌}
 use Rattle.word_streams.specs.Draws.{draws_of}
 use Rattle.session_laws.specs.AnswerPath.Noise.{noise_at}
-use Rattle.generated_house.specs.Sizes.{budget_for, paid_of, price, row_count}
-use Rattle.generated_house.specs.Key.{key_of_seed}
+use Rattle.generated_run.specs.Sizes.{budget_for, paid_of, price, row_count}
+use Rattle.generated_run.specs.Key.{key_of_seed}
 use Rattle.generated_run.specs.declared.counting.Tally.{Tally}
 
 -- the noise of each of the owner's numbers, at epsilon 1

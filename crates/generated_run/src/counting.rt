@@ -2,13 +2,13 @@
 
 ghost use Rattle.std.specs.Prelude.{◌≡◌, ◌≤◌, ℕ, ℤ, Option, IfOk};
 ghost use Rattle.budget_core.specs.Counts.{outcome_of};
-ghost use Rattle.generated_house.specs.Sizes.{most_asks};
+ghost use Rattle.generated_run.specs.Sizes.{most_asks};
 ghost use Rattle.generated_run.specs.Settled.{AreSettledBy, TellsOutcome};
 ghost use Rattle.generated_run.specs.Tally.{tally_by};
 
+use crate::sizes::{PRICE, paid_of};
 use budget_core::answers::Recall;
 use budget_ledger::book::Book;
-use generated_house::{PRICE, paid_of};
 use outside_disks::disk::Disk;
 use std::alloc::AllocError;
 

@@ -2,8 +2,13 @@
 //! spent and as often again.
 #![tactic(auto)]
 
+mod book;
 mod counting;
+mod house;
+mod key;
 mod run;
+mod script;
+mod sizes;
 
 pub use counting::Tally;
 pub use run::run_generated;

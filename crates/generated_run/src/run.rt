@@ -7,13 +7,19 @@ ghost use Rattle.owner_lock.specs.Known.{whole_share};
 ghost use Rattle.session_laws.specs.SessionCore.Code.{IsClosedWith, pass_at};
 ghost use Rattle.owner_house.specs.House.{house_of};
 ghost use Rattle.owner_house.specs.Owner.{Owner};
+ghost use Rattle.generated_run.specs.House.{register_for};
 ghost use Rattle.generated_run.specs.Answered.{IsAnsweredOver};
-ghost use Rattle.generated_run.specs.Tally.{most_asks, tally_of};
+ghost use Rattle.generated_run.specs.Settled.{AreSettledBy};
+ghost use Rattle.generated_run.specs.Tally.{most_asks, noise_of_seed, tally_of};
 
+use crate::book::generated_book;
 use crate::counting::{Tally, count_up};
+use crate::house::generated_house;
+use crate::key::generated_key;
+use crate::script::generated_script;
 use budget_ledger::book::Book;
-use generated_house::{generated_book, generated_house, generated_key, generated_script};
 use outside_disks::disk::Disk;
+use outside_disks::memory::MemDisk;
 use outside_links::gate::Gate;
 use owner_desk::Desk;
 use owner_house::house::House;
@@ -82,6 +88,27 @@ fn answer<R: Threads + Wait + Sync, D: Disk + Send + Drop, G: Gate + Sync>(
     Ok(close(desks, passes))
 }
 
+// Answers the asks over the house of the seed.
+fn answer_asks<R: Threads + Wait + Sync, G: Gate + Sync>(
+    rt: &R,
+    alloc: Global,
+    gate: &G,
+    house: &House,
+    seed: u32,
+    asks: u32,
+    workers: u32,
+) -> Result<Book<MemDisk<'static>>, AllocError>
+    requires asks { (1 ≤ asks) × (asks ≤ most_asks) }
+    requires workers { (1 ≤ workers) × (workers ≤ 16) }
+    requires house { house.now ≡ register_for seed asks }
+    ensures settled { IfOk result (λ given. AreSettledBy (noise_of_seed seed) given.ledger.records) }
+{
+    let book = generated_book(alloc, asks)?;
+    let script = generated_script(alloc, asks)?;
+    let key = generated_key(seed);
+    answer(rt, alloc, gate, house, key, book, &script, workers)
+}
+
 /// Answers so many asks by so many workers, and says what they came to. That follows from the seed and from how many asks there are
 /// alone, however many workers there are and in whatever order the asks come; or memory ran out.
 pub fn run_generated<R: Threads + Wait + Sync, G: Gate + Sync>(
@@ -97,9 +124,6 @@ pub fn run_generated<R: Threads + Wait + Sync, G: Gate + Sync>(
     ensures tally { IfOk result (λ tally. tally ≡ tally_of seed asks) }
 {
     let house = generated_house(alloc, seed, asks)?;
-    let book = generated_book(alloc, asks)?;
-    let script = generated_script(alloc, asks)?;
-    let key = generated_key(seed);
-    let given = answer(rt, alloc, gate, &house, key, book, &script, workers)?;
+    let given = answer_asks(rt, alloc, gate, &house, seed, asks, workers)?;
     count_up(&given, asks)
 }

@@ -1,9 +1,9 @@
 //! The script.
 
 ghost use Rattle.std.specs.Prelude.{◌≡◌, ◌<◌, IfOk};
-ghost use Rattle.generated_house.specs.Script.{closing_of, opening_of, script_of};
+ghost use Rattle.generated_run.specs.Script.{closing_of, opening_of, script_of};
 
-use crate::BLOCK;
+use crate::sizes::BLOCK;
 use std::alloc::{AllocError, Global};
 
 const ASK: &[u8] = b"ask gen 1 size people\n";
@@ -33,7 +33,7 @@ fn closing(asks: u32, ask: u32) -> &'static [u8]
 
 /// So many asks, in blocks.
 #[tactic(auto, using(crate::proofs::Scripts::text_more))]
-pub fn generated_script(alloc: Global, asks: u32) -> Result<Vec<u8>, AllocError>
+pub(crate) fn generated_script(alloc: Global, asks: u32) -> Result<Vec<u8>, AllocError>
     ensures { IfOk result (λ script. script.items ≡ script_of asks) }
 {
     let mut script = Vec::new(alloc);

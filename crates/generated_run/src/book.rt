@@ -2,10 +2,10 @@
 
 ghost use Rattle.std.specs.Prelude.{◌≡◌, ◌≤◌, [], None, IfOk};
 ghost use Rattle.budget_ledger.specs.Account.{IsBook};
-ghost use Rattle.generated_house.specs.Sizes.{most_asks};
-ghost use Rattle.generated_house.specs.House.{entry_for};
+ghost use Rattle.generated_run.specs.Sizes.{most_asks};
+ghost use Rattle.generated_run.specs.House.{entry_for};
 
-use crate::{PRICE, VERSION, paid_of};
+use crate::sizes::{PRICE, VERSION, paid_of};
 use budget_core::entry::Entry;
 use budget_journal::journal::Journal;
 use budget_ledger::book::Book;
@@ -28,7 +28,7 @@ fn limits_of(capacity: u32) -> Limits
 
 /// The book of so many asks, which has no records yet.
 #[tactic(auto, using(crate::proofs::Books::entry_lawful_with))]
-pub fn generated_book(alloc: Global, asks: u32) -> Result<Book<MemDisk<'static>>, AllocError>
+pub(crate) fn generated_book(alloc: Global, asks: u32) -> Result<Book<MemDisk<'static>>, AllocError>
     requires asks { (1 ≤ asks) × (asks ≤ most_asks) }
     ensures ledger { IfOk result (λ book. book.ledger ≡ record { entry = entry_for asks; found = []; records = [] }) }
     ensures fresh { IfOk result (λ book. book.storage.closed ≡ None) }

@@ -1,6 +1,6 @@
 -- The script of so many asks, in blocks.
 use Rattle.std.specs.Prelude.{ℕ, zero, suc, ◌+◌, ◌%◌, ◌==◌, ◌||◌, if◌then◌else◌, List, [], ◌++◌, codes}
-use Rattle.generated_house.specs.Sizes.{block_length}
+use Rattle.generated_run.specs.Sizes.{block_length}
 
 -- a block begins with a greeting
 abbrev pub opening_of : (ask : ℕ) → List ℕ

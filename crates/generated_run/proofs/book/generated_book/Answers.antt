@@ -3,9 +3,9 @@ use Rattle.outside_disks.specs.Shown.{told}
 use Rattle.journal_records.specs.Encoding.{newest_version}
 use Rattle.budget_core.specs.Entries.{Entry}
 use Rattle.budget_ledger.specs.Account.{Storage}
-use Rattle.generated_house.specs.Sizes.{budget_for, capacity_for, journal_version}
-use Rattle.generated_house.proofs.Books.{entry_is, header_lawful, header_with, opened}
-use Rattle.generated_house.proofs.book.generated_book.Goals as goal
+use Rattle.generated_run.specs.Sizes.{budget_for, capacity_for, journal_version}
+use Rattle.generated_run.proofs.Books.{entry_is, header_lawful, header_with, opened}
+use Rattle.generated_run.proofs.book.generated_book.Goals as goal
 
 pub init-requires-clause-valid : goal.init-requires-clause-valid
 init-requires-clause-valid c =

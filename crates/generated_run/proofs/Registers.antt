@@ -5,9 +5,9 @@ use Rattle.metric_values.specs.Tables.{Dataset, IsDataset}
 use Rattle.owner_catalog.specs.Entries.{Catalog, OwnerEntry, owner_entry_at, owner_signature}
 use Rattle.part_views.specs.Holding.{Holding, IsHolding}
 use Rattle.owner_house.specs.House.{IsHeldBy, IsRegister, Register, house_of, register_with}
-use Rattle.generated_house.specs.Sizes.{journal_version, most_asks}
-use Rattle.generated_house.specs.House.{catalog_for, owner_for, register_for, rows_of_seed}
-use Rattle.generated_house.proofs.Houses.{lawful, rows_typed}
+use Rattle.generated_run.specs.Sizes.{journal_version, most_asks}
+use Rattle.generated_run.specs.House.{catalog_for, owner_for, register_for, rows_of_seed}
+use Rattle.generated_run.proofs.Houses.{lawful, rows_typed}
 
 -- what the first owner of a catalog holds with these rows
 abbrev pub first_holding : Catalog → Dataset → Holding

@@ -3,8 +3,8 @@ use Rattle.std.proofs.Common.{◌≡◌, ℕ, zero, suc, ◌+◌, ◌%◌, ◌==
 use Rattle.std.specs.List.{AllByRecursion}
 use mathlib.Core.Logic.{◌⊎◌, inl, inr}
 use Rattle.wire_lines.specs.Lines.{lines_of}
-use Rattle.generated_house.specs.Sizes.{block_length}
-use Rattle.generated_house.specs.Script.{ask_text, closing_of, opening_of, script_of, text_below}
+use Rattle.generated_run.specs.Sizes.{block_length}
+use Rattle.generated_run.specs.Script.{ask_text, closing_of, opening_of, script_of, text_below}
 
 pub text_more : (asks n : ℕ) → ((text_below asks n ++ opening_of n) ++ ask_text) ++ closing_of asks n ≡ text_below asks (n + 1)
 text_more asks n =

@@ -1,10 +1,10 @@
 //! The key.
 
 ghost use Rattle.std.specs.Prelude.{◌≡◌};
-ghost use Rattle.generated_house.specs.Key.{key_of_seed};
+ghost use Rattle.generated_run.specs.Key.{key_of_seed};
 
 /// The seed's four bytes, the highest first, eight times.
-pub fn generated_key(seed: u32) -> [u8; 32]
+pub(crate) fn generated_key(seed: u32) -> [u8; 32]
     ensures { result ≡ key_of_seed seed }
 {
     let a = (seed >> 24) as u8;

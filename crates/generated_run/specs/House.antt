@@ -9,7 +9,7 @@ use Rattle.owner_catalog.specs.Limits.{owner_limit}
 use Rattle.part_views.specs.Holding.{Holding}
 use Rattle.owner_house.specs.Owner.{Owner}
 use Rattle.owner_house.specs.House.{House, Register, entry_of, house_of, owner_of, register_by}
-use Rattle.generated_house.specs.Sizes.{budget_for, capacity_for, journal_version, row_count}
+use Rattle.generated_run.specs.Sizes.{budget_for, capacity_for, journal_version, row_count}
 
 -- the first rows' numbers
 unfoldable pub numbers_below : (seed n : ℕ) → List ℤ

@@ -16,8 +16,8 @@ use Rattle.budget_core.specs.Entries.{IsEntry}
 use Rattle.owner_catalog.specs.Entries.{Catalog, owner_signature}
 use Rattle.owner_catalog.specs.Forms.{is_catalog_name, is_file_byte, is_file_name, is_reserved, is_table_name}
 use Rattle.owner_catalog.specs.Lawful.{HasName, IsCatalog, IsCatalogName, IsOwner, IsTableEntry}
-use Rattle.generated_house.specs.Sizes.{budget_for, capacity_for, most_asks, paid_of, row_count}
-use Rattle.generated_house.specs.House.{catalog_for, entry_for, numbers_below, owner_for, people, rows_of_seed}
+use Rattle.generated_run.specs.Sizes.{budget_for, capacity_for, most_asks, paid_of, row_count}
+use Rattle.generated_run.specs.House.{catalog_for, entry_for, numbers_below, owner_for, people, rows_of_seed}
 
 one_in : {X : Type 0} → (P : X → Type 0) (x : X) → P x → All P (x ∷ [])
 one_in P x holds zero d less = holds

@@ -1,10 +1,10 @@
 //! The house: one owner, whose table has one column.
 
 ghost use Rattle.std.specs.Prelude.{◌≡◌, ◌≤◌, [], ◌∷◌, IfOk};
-ghost use Rattle.generated_house.specs.Sizes.{most_asks, row_count};
-ghost use Rattle.generated_house.specs.House.{catalog_for, numbers_below, register_for, rows_of_seed};
+ghost use Rattle.generated_run.specs.Sizes.{most_asks, row_count};
+ghost use Rattle.generated_run.specs.House.{catalog_for, numbers_below, register_for, rows_of_seed};
 
-use crate::{PRICE, ROWS, VERSION, paid_of};
+use crate::sizes::{PRICE, ROWS, VERSION, paid_of};
 use metric_values::{Table, Tables};
 use owner_catalog::{Catalog, OneOwner};
 use owner_house::house::House;
@@ -59,7 +59,7 @@ fn catalog(alloc: Global, asks: u32) -> Result<Catalog, AllocError>
 
 /// The house of a seed and of so many asks.
 #[tactic(auto, using(crate::proofs::Registers::typed, crate::proofs::Registers::housed, crate::proofs::Registers::one_owner, crate::proofs::Registers::reads))]
-pub fn generated_house(alloc: Global, seed: u32, asks: u32) -> Result<House, AllocError>
+pub(crate) fn generated_house(alloc: Global, seed: u32, asks: u32) -> Result<House, AllocError>
     requires asks { (1 ≤ asks) × (asks ≤ most_asks) }
     ensures { IfOk result (λ house. house ≡ register_for seed asks) }
 {

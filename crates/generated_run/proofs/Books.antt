@@ -11,9 +11,9 @@ use Rattle.budget_journal.specs.Areas.{version_in}
 use Rattle.budget_journal.specs.Journals.{Found, IsAtRest, Stands, TellsSome}
 use Rattle.budget_journal.proofs.Gates.{head-version}
 use Rattle.budget_journal.proofs.One.{stands-one}
-use Rattle.generated_house.specs.Sizes.{budget_for, capacity_for, journal_version, most_asks}
-use Rattle.generated_house.specs.House.{entry_for}
-use Rattle.generated_house.proofs.Houses.{entry_lawful}
+use Rattle.generated_run.specs.Sizes.{budget_for, capacity_for, journal_version, most_asks}
+use Rattle.generated_run.specs.House.{entry_for}
+use Rattle.generated_run.proofs.Houses.{entry_lawful}
 
 -- What is found under a header that differs at most in its version is of the version that was made, and has no records.
 module _ (header other : Header) (is : other ≡ record header { version = other.version }) (found : List Record) where

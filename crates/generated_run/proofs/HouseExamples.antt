@@ -3,10 +3,10 @@ use Rattle.std.proofs.Common.{◌≡◌, ◌++◌, [], ◌∷◌, slice_get, Som
 use Rattle.std.specs.Prelude.{pos, replicate}
 use Rattle.journal_records.specs.declared.records.Outcome.TheVariants.{Exhausted}
 use Rattle.budget_core.specs.Cost.{comes_back}
-use Rattle.generated_house.specs.Sizes.{budget_for, capacity_for, paid_of}
-use Rattle.generated_house.specs.Key.{key_of_seed, seed_bytes}
-use Rattle.generated_house.specs.House.{entry_for, house_for, numbers_below, the_owner, versions_held}
-use Rattle.generated_house.specs.Script.{ask_text, script_of}
+use Rattle.generated_run.specs.Sizes.{budget_for, capacity_for, paid_of}
+use Rattle.generated_run.specs.Key.{key_of_seed, seed_bytes}
+use Rattle.generated_run.specs.House.{entry_for, house_for, numbers_below, the_owner, versions_held}
+use Rattle.generated_run.specs.Script.{ask_text, script_of}
 
 -- half of the asks are paid for, rounded up
 halves : (paid_of 1 ≡ 1) × (paid_of 2 ≡ 1) × (paid_of 3 ≡ 2) × (paid_of 100000 ≡ 50000)

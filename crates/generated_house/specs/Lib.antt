@@ -1,4 +1,0 @@
-pub mod Sizes
-pub mod Key
-pub mod House
-pub mod Script
