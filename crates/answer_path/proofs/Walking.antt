@@ -61,23 +61,20 @@ module _ (ts : Signature) where
   endless program (read t) e reads is =
       let finite = accepted_finite ts program t Inf reads (subst (λ (u : Term). judgement_of ts (read t) ≡ accepted u Inf) (accepted_is ts t e Inf is).3 is) in cc finite
 
-some_verdict : (entry : Entry) (tables : Signature) (start : ℕ) (records : List Record) (query : Query) → ((verdict : Verdict) × IsVerdict entry tables start records query verdict) ⊎ HasTooManyWalks tables query.program
-unfolding IsVerdict
-some_verdict entry tables start records query = here (every_reading query.program)
-  where
-    Verdicts : Type 0
-    Verdicts = ((verdict : Verdict) × (reading : Reading) × IsReading query.program reading × IsVerdictBy entry start records query (judgement_of tables reading) verdict) ⊎ HasTooManyWalks tables query.program
+module _ (entry : Entry) (tables : Signature) (start : ℕ) (records : List Record) (query : Query) where
+  verdict_by : (reading : Reading) → IsReading query.program reading → (j : Judgement) → judgement_of tables reading ≡ j
+      → ((verdict : Verdict) × IsVerdict entry tables start records query verdict) ⊎ HasTooManyWalks tables query.program
+  unfolding IsVerdict
+  verdict_by reading reads (refused_for refusal) is =
+      inl (program_refused refusal, (reading, reads, subst (λ (j : Judgement). IsVerdictBy entry start records query j (program_refused refusal)) (sym is) refl))
+  verdict_by reading reads walks_too_much is = inr (judged_so tables query.program reading reads is)
+  verdict_by reading reads (accepted e Inf) is = absurd (endless tables query.program reading e reads is)
+  verdict_by reading reads (accepted e (Fin p q)) is =
+      let v = verdict_by_money (ask_for query p q) (money_verdict entry start records (ask_for query p q)) in
+      inl (v, (reading, reads, subst (λ (j : Judgement). IsVerdictBy entry start records query j v) (sym is) refl))
 
-    by : (reading : Reading) → IsReading query.program reading → (j : Judgement) → judgement_of tables reading ≡ j → Verdicts
-    by reading reads (refused_for refusal) is = inl (program_refused refusal, reading, reads, subst (λ (j : Judgement). IsVerdictBy entry start records query j (program_refused refusal)) (sym is) refl)
-    by reading reads walks_too_much is = inr (judged_so tables query.program reading reads is)
-    by reading reads (accepted e Inf) is = absurd (endless tables query.program reading e reads is)
-    by reading reads (accepted e (Fin p q)) is =
-        let v = verdict_by_money (ask_for query p q) (money_verdict entry start records (ask_for query p q)) in
-        inl (v, reading, reads, subst (λ (j : Judgement). IsVerdictBy entry start records query j v) (sym is) refl)
-
-    here : ((reading : Reading) × IsReading query.program reading) → Verdicts
-    here r = by r.0 r.1 (judgement_of tables r.0) refl
+  some_verdict : ((verdict : Verdict) × IsVerdict entry tables start records query verdict) ⊎ HasTooManyWalks tables query.program
+  some_verdict = let r = every_reading query.program in verdict_by r.0 r.1 (judgement_of tables r.0) refl
 
 pub walks_alone : WalksAloneHaveNoVerdict
 walks_alone entry tables start records query = (some_verdict entry tables start records query, no_verdict entry tables start records query)
