@@ -48,11 +48,11 @@ module _ (loading : Loading) (key : List ℕ) (workers : ℕ) (old new : Shelf) 
         let all = together house (draws_of key) workers were.sittings were.lasts were.before were.after were.over.records were.over.closed were.over.fresh were.held were.over.closes o owner at in
         subst (λ (rs : List Record). AreShifts house (draws_of key) o rs workers were.held.crew were.sittings were.held.exchanges (were.over.records o)) (were.over.begun o) all.2
 
-    speaker : (place : ℕ) (x : Exchange) → slice_get were.held.exchanges place ≡ Some x → IsAnalyst house x.turn.who
+    pub speaker : (place : ℕ) (x : Exchange) → slice_get were.held.exchanges place ≡ Some x → IsAnalyst house x.turn.who
     speaker = crew_speaker house (draws_of key) o (found o) workers were.held.crew were.sittings were.held.exchanges (were.over.records o) were.held.crews shifts
 
     module _ (before after : Shown) (was : old o ≡ Some before) (is : new o ≡ Some after) where
-      disk : WentOn owner.entry (header_of loading key o) (found o) (were.over.records o) (were.over.closed o) before after
+      pub disk : WentOn owner.entry (header_of loading key o) (found o) (were.over.records o) (were.over.closed o) before after
       disk = its_disk loading key old new found were.over.records were.over.closed lawful were.over.disks o owner before after at was is
 
       pub services_runs : WhereTold (Passes (IsLeftOfService loading key workers old new found were o owner none_sent)) (noted Synced before.trace) after.trace

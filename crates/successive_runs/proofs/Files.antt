@@ -153,11 +153,11 @@ module _ (loading : Loading) (key : List ℕ) (workers : ℕ) (old new : Shelf) 
   abbrev ScriptLeft : (sent : ℕ → Bool) → (bytes : List ℕ) → Type 0
   ScriptLeft sent bytes = IsLeftOf loading key workers old new found script text done o owner sent bytes
 
-  speaker : (place : ℕ) (x : Exchange) → slice_get done.exchanges place ≡ Some x → IsAnalyst script_house x.turn.who
+  pub speaker : (place : ℕ) (x : Exchange) → slice_get done.exchanges place ≡ Some x → IsAnalyst script_house x.turn.who
   speaker place x there = place_of_all (λ (t : Turn). IsAnalyst script_house t.who) (turns_of script_house script) (turns_known script_house script) place x.turn
       (ap (λ (w : List Turn). slice_get w place) (sym done.gathered.turns) ∙ mapped_at (λ (y : Exchange). y.turn) done.exchanges place x there)
 
-  disk : WentOn owner.entry (header_of loading key o) (found o) (done.records o) (done.closed o) before after
+  pub disk : WentOn owner.entry (header_of loading key o) (found o) (done.records o) (done.closed o) before after
   disk = its_disk loading key old new found done.records done.closed lawful done.disks o owner before after at was is
 
   pub runs_of : WhereTold (Passes (ScriptLeft none_sent)) (noted Synced before.trace) after.trace × IfSome after.trace (Leaves (λ bytes. (sent : ℕ → Bool) → ScriptLeft sent bytes))

@@ -156,7 +156,7 @@ module _ (house : House) (draws : ℕ → ℕ → ℕ → ℕ) (o : ℕ) (owner 
       once = once_all;
     }
 
-  pub kept_by : (runs : List Run) (found : List Record) (earlier : List (List ℕ)) (last : List Record) → IsFound owner (draws o) earlier found → AreRuns house draws o owner found runs last → AreKept found earlier runs last
+  kept_by : (runs : List Run) (found : List Record) (earlier : List (List ℕ)) (last : List Record) → IsFound owner (draws o) earlier found → AreRuns house draws o owner found runs last → AreKept found earlier runs last
   kept_by [] found earlier last f (amounts, granted) =
       kept_since found last earlier [] last (granted_prefix owner.entry found amounts last granted)
       (kept_by_none last earlier (found_granted owner (draws o) earlier found amounts last f granted))
@@ -166,7 +166,7 @@ module _ (house : House) (draws : ℕ → ℕ → ℕ → ℕ) (o : ℕ) (owner 
       kept_since found start earlier (run ∷ runs) last (granted_prefix owner.entry found amounts start granted)
       (kept_by_more start earlier run runs last from_here r g (kept_by runs run.left g.programs last g.explained rest))
 
-  pub promise : (runs : List Run) (found : List Record) (earlier : List (List ℕ)) (last : List Record) → AreKept found earlier runs last → KeepThePromise house draws o owner found earlier runs last
+  promise : (runs : List Run) (found : List Record) (earlier : List (List ℕ)) (last : List Record) → AreKept found earlier runs last → KeepThePromise house draws o owner found earlier runs last
   promise runs found earlier last k = record {
     begins = k.begins;
     programs = k.programs;
