@@ -6,3 +6,4 @@ pub mod RowProgram
 pub mod RowReplies
 pub mod RowEnding
 pub mod RowStatus
+pub mod GrantRow

@@ -26,7 +26,7 @@ use Rattle.worked_row.specs.Row.{script, row, row_without, row_lost, row_failed,
 use Rattle.worked_row.proofs.RowReplies.{answered_is}
 
 -- no records are a history
-no_records : (entry : Entry) → IsHistory entry []
+pub no_records : (entry : Entry) → IsHistory entry []
 no_records entry = record { follows = λ k next is. absurd (cc is) }
 
 -- it isn't refused
@@ -76,7 +76,7 @@ lost_length = refl
 failed_length : length row_failed ≡ 20
 failed_length = refl
 
-memory_length : length memory_text ≡ 7
+pub memory_length : length memory_text ≡ 7
 memory_length = refl
 
 disk_length : length (disk_text (owner_name_at loading 0)) ≡ 12
@@ -88,7 +88,7 @@ row_short text (inr (inl is)) = let e : length text ≡ length row_without = ap 
 row_short text (inr (inr (inl is))) = let e : length text ≡ length row_lost = ap length is in omega (arith, lost_length)
 row_short text (inr (inr (inr is))) = let e : length text ≡ length row_failed = ap length is in omega (arith, failed_length)
 
-prefix_short : (text whole : List ℕ) → IsBeginning text whole → length whole < 64 → length text < 64
+pub prefix_short : (text whole : List ℕ) → IsBeginning text whole → length whole < 64 → length text < 64
 prefix_short text whole (rest, is) short =
     let e : length whole ≡ length (text ++ rest) = ap length is in
     omega (arith, length-append text rest)

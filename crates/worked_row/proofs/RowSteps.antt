@@ -17,7 +17,7 @@ use Rattle.worked_row.proofs.RowTable.{has_rows}
 abbrev pub Gives : {A : Type 0} → FileStep A → Contents → A → Type 0
 Gives step held a = (names : List (List ℕ)) × (step (always held) ≡ record { given = Ok a; names = names; rest = always held })
 
-gives : {A : Type 0} → (held : Contents) (r : Result A (List ℕ)) (a : A) → r ≡ Ok a → Gives (from r) held a
+pub gives : {A : Type 0} → (held : Contents) (r : Result A (List ℕ)) (a : A) → r ≡ Ok a → Gives (from r) held a
 gives {A = A} held r a is = ([], ap (λ (given : Result A (List ℕ)). record { given = given; names = []; rest = always held }) is)
 
 reads : (held : Contents) (name bytes : List ℕ) → held name ≡ Some bytes → readable (Some bytes) ≡ Some bytes → Gives (file_read name) held bytes
@@ -27,7 +27,7 @@ reads held name bytes has short = (
       ∙ ap (λ (found : Option (List ℕ)). record { given = ok_or found name; names = name ∷ []; rest = always held }) short,
 )
 
-goes_on : {A B : Type 0} → (step : FileStep A) (next : A → FileStep B) (held : Contents) (a : A) (b : B) → Gives step held a → Gives (next a) held b → Gives (step >>= next) held b
+pub goes_on : {A B : Type 0} → (step : FileStep A) (next : A → FileStep B) (held : Contents) (a : A) (b : B) → Gives step held a → Gives (next a) held b → Gives (step >>= next) held b
 unfolding ◌>>=◌
 goes_on {A = A} {B = B} step next held a b (names, is) (more, comes) =
     (names ++ more, ap (λ (o : StepOutcome A). continued o.given o.names o.rest next) is ∙ ap (λ (o : StepOutcome B). behind names o) comes)
@@ -45,7 +45,7 @@ one step held x y is =
 abbrev ending : Work
 ending = to_answer 1 loading zeros
 
-catalog_given : (held : Contents) → held (codes "cat.json") ≡ Some catalog_text → Gives (catalog_read (codes "cat.json")) held catalog
+pub catalog_given : (held : Contents) → held (codes "cat.json") ≡ Some catalog_text → Gives (catalog_read (codes "cat.json")) held catalog
 catalog_given held has =
     goes_on (file_read (codes "cat.json")) (λ bytes. from (or_refused (codes "cat.json") (catalog_in_file bytes))) held catalog_text catalog
     (reads held (codes "cat.json") catalog_text has refl)
@@ -59,7 +59,7 @@ table_given held has =
     (gives held (or_refused (codes "people.csv") (table_in_file people.columns table_text)) rows (ap (λ read. or_refused (codes "people.csv") read) has_rows))
     (gives held (Ok loaded_table) loaded_table refl))
 
-owner_given : (held : Contents) → held (codes "people.csv") ≡ Some table_text → Gives (owner_read census) held loaded_owner
+pub owner_given : (held : Contents) → held (codes "people.csv") ≡ Some table_text → Gives (owner_read census) held loaded_owner
 owner_given held has =
     goes_on (one_by_one table_read census.tables) (λ tables. done (owner_with census tables)) held (loaded_table ∷ []) loaded_owner
     (one table_read held people loaded_table (table_given held has))
@@ -71,7 +71,7 @@ loaded_given held has =
     (one owner_read held census loaded_owner (owner_given held has))
     (gives held (Ok loading) loading refl)
 
-key_given : (held : Contents) → held (codes "key") ≡ Some zeros → Gives (key_read (codes "key")) held zeros
+pub key_given : (held : Contents) → held (codes "key") ≡ Some zeros → Gives (key_read (codes "key")) held zeros
 key_given held has =
     goes_on (file_read (codes "key")) (λ key. from (if nat_eq (length key) 32 then Ok key else Err (codes "key"))) held zeros zeros
     (reads held (codes "key") zeros has refl)

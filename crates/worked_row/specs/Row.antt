@@ -31,3 +31,7 @@ row_failed = codes "hello ann\nno 52\nbye\n"
 -- what may be written
 abbrev pub IsRowText : List ℕ → Type 0
 IsRowText text = (text ≡ row) ⊎ (text ≡ row_without) ⊎ (text ≡ row_lost) ⊎ (text ≡ row_failed)
+
+-- what is written where 5 epsilon are granted to that owner: the budget with it, and the grant's record
+abbrev pub granted_row : List ℕ
+granted_row = codes "granted census 15000000 1\n"
