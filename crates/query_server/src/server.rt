@@ -179,6 +179,8 @@ where
 /// (`NoMemory`) may be answered at any time, at faulty words too; in a script that is answered, and in a session, it may be the reply to a
 /// line that asks: 90 before a reservation, and 51 after it. The runtime is for workers: each has a thread, and waits for the owners'
 /// locks. The gate is told of each line when it begins and when it has been answered.
+/// What an owner and its analysts may rely on of `run` and `serve` stands on one page, `PlainPromise` (plain_promise): the clauses `headline` and
+/// `service` imply it.
 pub fn run_server<
     R: Threads + Wait + Sync,
     F: Files,
