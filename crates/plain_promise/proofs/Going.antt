@@ -23,11 +23,11 @@ use Rattle.plain_promise.specs.Plain.{Shows}
 use Rattle.plain_promise.proofs.Made.{IsKept, IsKnownAt, IsMadeOn, IsSent, grows_to, knows_to, left_begins, made_in, wider}
 
 -- what the first run was told, and what the others were
-pub told_first : (First : (place : ℕ) → Demand → Replied → Type 0) (Later : (i place : ℕ) → Demand → Replied → Type 0) → (i place : ℕ) → Demand → Replied → Type 0
+unfoldable pub told_first : (First : (place : ℕ) → Demand → Replied → Type 0) (Later : (i place : ℕ) → Demand → Replied → Type 0) → (i place : ℕ) → Demand → Replied → Type 0
 told_first First Later zero place demand reply = First place demand reply
 told_first First Later (suc i) place demand reply = Later i place demand reply
 
-pub worker_first : (first : ℕ → ℕ) (later : ℕ → ℕ → ℕ) → (i place : ℕ) → ℕ
+unfoldable pub worker_first : (first : ℕ → ℕ) (later : ℕ → ℕ → ℕ) → (i place : ℕ) → ℕ
 worker_first first later zero place = first place
 worker_first first later (suc i) place = later i place
 
@@ -35,10 +35,10 @@ pub starts : List Record → (ℕ → List Record) → ℕ → List Record
 starts first later zero = first
 starts first later (suc i) = later i
 
-pub none_told : (i place : ℕ) → Demand → Replied → Type 0
+unfoldable pub none_told : (i place : ℕ) → Demand → Replied → Type 0
 none_told i place demand reply = ⊥
 
-pub no_worker : (i place : ℕ) → ℕ
+unfoldable pub no_worker : (i place : ℕ) → ℕ
 no_worker i place = 0
 
 module _ (draws : ℕ → ℕ → ℕ) (owner : Owner) where

@@ -16,7 +16,6 @@ use Rattle.owner_house.specs.Owner.{Owner}
 use Rattle.successive_runs.specs.SessionCore.Exchanges.{Exchange, is_of, told_of}
 use Rattle.successive_runs.specs.SessionCore.Gathered.{AreGathered}
 use Rattle.successive_runs.specs.SessionCore.Turns.{meant_at}
-use Rattle.query_server.specs.SessionLaws.ToldOnce.{AreToldOnce}
 use Rattle.query_server.proofs.SessionLaws.Listed.{slice_behind}
 use Rattle.query_server.proofs.SessionLaws.Once.{told_once}
 use Rattle.query_server.proofs.SessionLaws.Places.{prefix_take}
@@ -95,7 +94,7 @@ module _ (records : List Record) where
 pub some_order : (house : House) (draws : ℕ → ℕ → ℕ → ℕ) (count : ℕ) (crew : ℕ → ℕ) (o : ℕ) (owner : Owner) (found : List Record) (xs : List Exchange) (records : List Record) → slice_get house.owners o ≡ Some owner
     → AreGathered house draws count crew o found xs records → IsPermutation (told_of house o xs) (told_behind found records)
 some_order house draws count crew o owner found xs records here all =
-    let once : AreToldOnce house o xs found records = told_once house draws count crew o owner found xs records here all in
+    let once = told_once house draws count crew o owner found xs records here all in
     let first : take (length found) records ≡ found = prefix_take found records all.begins in
     let size : length (take (length found) records) ≡ length found = ap length first in
     let whole : take (length found) records ++ drop (length found) records ≡ records = take-append-drop (length found) records in

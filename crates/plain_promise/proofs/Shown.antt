@@ -84,9 +84,9 @@ outcome_said grant (Answered value) = refl
 outcome_said grant Exhausted = refl
 outcome_said grant Lost = refl
 
-same_number : (R : List Record) (m n k : ℕ) (o p : Outcome) → Some (m, o) ≡ Some (n, p) → IsReservedAt R n k → IsReservedAt R m k
+same_number : (R : List Record) (m n k : ℕ) (o p : Outcome) → ◌≡◌ {A = Option (ℕ × Outcome)} (Some (m, o)) (Some (n, p)) → IsReservedAt R n k → IsReservedAt R m k
 same_number R m n k o p said at =
-    let pair : (m, o) ≡ (n, p) = cc (said) in
+    let pair : ◌≡◌ {A = ℕ × Outcome} (m, o) (n, p) = cc (said) in
     subst (λ (i : ℕ). IsReservedAt R i k) (sym (ap (λ (z : ℕ × Outcome). z.0) pair)) at
 
 -- a reply that tells a number shows where its reservation stands
