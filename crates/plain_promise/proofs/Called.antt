@@ -135,6 +135,8 @@ module _ (draws : ℕ → ℕ → ℕ → ℕ) (o : ℕ) (owner : Owner) (header
       let p = play calls found earlier file last stands begun all in (
         p.R,
         p.stands,
-        many (draws o) owner found earlier p.R (WasTold o owner calls) (worker_of calls) has p.kept,
-        plain (draws o) owner found earlier p.R (WasTold o owner calls) (worker_of calls) has p.kept,
+        (
+          many (draws o) owner found earlier p.R (WasTold o owner calls) (worker_of calls) has p.kept,
+          plain (draws o) owner found earlier p.R (WasTold o owner calls) (worker_of calls) has p.kept,
+        ),
       )
