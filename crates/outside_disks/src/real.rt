@@ -233,10 +233,7 @@ impl<R: rt::Files<File = fs::File>> Disk for FileDisk<'_, R> {
     }
 
     fn is_in_place(&mut self) -> Result<(), Failed> {
-        count(
-            look(self.rt, &self.home, &self.file),
-            &mut self.home.faults,
-        )
+        count(look(self.rt, &self.home, &self.file), &mut self.home.faults)
     }
 
     fn fault_count(&self) -> u64 {
