@@ -90,7 +90,7 @@ fn ended_behind(call: u32) -> (Status, &'static str) {
     if call < 67 {
         return (Status::DiskFault, "disk census\n");
     }
-    let out = match (call - 67) / 8 {
+    let out = match (call - 67) / 9 {
         0 => "hello ann\nno 52\nno 42 1\nno 42 1\n",
         1 => "hello ann\nanswer 0 5 1000000\nno 52\nno 42 1\n",
         2 => "hello ann\nanswer 0 5 1000000\nanswer 1 3 1000000\nno 52\n",
@@ -136,6 +136,12 @@ fn are_found<R: Threads + Wait + Sync>(
     Ok(counted.out.as_slice() == counts.as_bytes() && again.out.as_slice() == replies.as_bytes())
 }
 
+// How many records are found behind a run of asks whose call of this number fails.
+fn records_behind(call: u32) -> usize {
+    let since = call.saturating_sub(67) as usize;
+    since / 9 * 2 + since % 9 / 4
+}
+
 // Whether a run of three asks whose call of this number fails, or stops there, ends as it should and leaves what it should. Where a
 // gate was written the record is found, though the sync behind it has failed.
 fn run_fails<R: Threads + Wait + Sync>(
@@ -147,16 +153,16 @@ fn run_fails<R: Threads + Wait + Sync>(
 ) -> Result<bool, AllocError> {
     let (status, out) = ended_behind(call);
     let asked = ran_failing(rt, alloc, made, call, stop, RUN, THREE_ASKS)?;
-    let records = call.saturating_sub(66) as usize / 4;
-    let found = are_found(rt, alloc, &asked.first, records)?;
+    let found = are_found(rt, alloc, &asked.first, records_behind(call))?;
     Ok(asked.status == status && asked.out.as_slice() == out.as_bytes() && found)
 }
 
-// Opening takes 67 calls, and then each record four: a write and a sync of all but the gate, and a write and a sync of the gate.
+// Opening takes 67 calls, and then each record four: a write and a sync of all but the gate, and a write and a sync of the gate. Before a
+// reservation there is one more, a look whether the disk is still in its place.
 #[test]
 fn failing_runs(rt: HostRuntime) -> Result<(), Fail> {
     let made = ran_again(&rt, rt.alloc(), &[], INIT, b"")?;
-    for call in 0..=91_u32 {
+    for call in 0..=94_u32 {
         let fault = run_fails(&rt, rt.alloc(), &made.first, call, false)?;
         let stop = run_fails(&rt, rt.alloc(), &made.first, call, true)?;
         assert!(rt; fault && stop, "{call}");
@@ -183,16 +189,16 @@ static CASES: [Case<'static>; 8] = [
         left 1000000 1500000 4\nrecall 0 answer 4 4\n",
         b"hello ann\nleft 1000000 1500000 4\nrecall 0 answer 4 4\nleft 2000000 10000000 4\nno 41 4 0 4\n"),
     // the second sync of a disk, the first being that of its opening
-    (&[], &[8], &[], Status::Done,
+    (&[], &[9], &[], Status::Done,
         b"hello ann\nno 52\nanswer 0 5 1000000\nno 42 1\nno 42 1\nanswer 1 3 1000000\nleft 0 1500000 0\nno 60 0 0\n",
         b"hello ann\nleft 0 1500000 0\nno 60 0 0\nleft 2000000 10000000 4\nanswer 0 5 500000\n"),
     // the settlement is refused: the reservation is open, and then lost; a budget is looked at before the disk
-    (&[], &[11], &[], Status::Done,
+    (&[], &[12], &[], Status::Done,
         b"hello ann\nno 52\nanswer 0 5 1000000\nno 42 1\nno 40 1000000 2000000 1500000 1\nanswer 1 3 1000000\n\
         left 1000000 1500000 1\nrecall 0 open 1\n",
         b"hello ann\nleft 1000000 1500000 1\nrecall 0 lost 1\nleft 2000000 10000000 4\nanswer 1 1 500000\n"),
     // the other owner's disk fails
-    (&[71], &[], &[], Status::Done,
+    (&[72], &[], &[], Status::Done,
         b"hello ann\nanswer 0 4 1000000\nno 52\nanswer 1 -1 0\nno 40 1000000 2000000 1500000 4\nno 42 1\n\
         left 1000000 1500000 4\nrecall 0 answer 4 4\n",
         b"hello ann\nleft 1000000 1500000 4\nrecall 0 answer 4 4\nleft 1000000 10000000 1\nno 41 4 0 4\n"),
@@ -259,14 +265,14 @@ fn failing_owners(rt: HostRuntime) -> Result<(), Fail> {
     Ok(())
 }
 
-// Which call of a disk with room for three records fails, and what a run writes: opening takes six calls, and then each record four.
+// Which call of a disk with room for three records fails, and what a run writes: opening takes six calls, the reservation five.
 #[rattlefmt::skip]
 static THREE_RECORDS: [(u64, &[u8]); 3] = [
     (NEVER, b"hello ann\nanswer 0 5 1000000\nno 41 2 0 3\nno 40 1000000 12000000 10000000 2\n"),
     // the reservation isn't kept: there is room, and the book is closed
     (6, b"hello ann\nno 52\nno 42 1\nno 40 0 11000000 10000000 0\n"),
     // the settlement isn't: budget and room are looked at before the book that is closed
-    (10, b"hello ann\nno 52\nno 41 1 1 3\nno 40 1000000 12000000 10000000 1\n"),
+    (11, b"hello ann\nno 52\nno 41 1 1 3\nno 40 1000000 12000000 10000000 1\n"),
 ];
 
 const NEVER: u64 = u64::MAX;

@@ -162,12 +162,12 @@ fn grant_fails<R: Threads + Wait + Sync>(
     let made = ran_again(rt, alloc, &[], INIT, b"")?;
     let granted = granted_failing(rt, alloc, &made.first, call, stop)?;
     let audit = ran_again(rt, alloc, &granted.first, AUDIT, b"")?;
-    let (status, line) = if call < 71 {
+    let (status, line) = if call < 72 {
         (Status::DiskFault, "disk census\n")
     } else {
         (Status::Done, "granted census 10500000 1\n")
     };
-    let due = counted(70 <= call);
+    let due = counted(71 <= call);
     Ok(
         granted.status == status
             && granted.out.as_slice() == line.as_bytes()
@@ -175,11 +175,11 @@ fn grant_fails<R: Threads + Wait + Sync>(
     )
 }
 
-// Opening takes 67 calls of the disk, and the append four: what stands behind the gate, a sync, the gate, a sync. Where the gate was
+// Opening takes 67 calls of the disk, and the append five: a look, what stands behind the gate, a sync, the gate, a sync. Where the gate was
 // written and isn't known to be stable, the record may be there.
 #[test]
 fn failing_grants(rt: HostRuntime) -> Result<(), Fail> {
-    for call in 64..=71_u32 {
+    for call in 64..=72_u32 {
         let fault = grant_fails(&rt, rt.alloc(), call, false)?;
         let stop = grant_fails(&rt, rt.alloc(), call, true)?;
         assert!(rt; fault && stop, "{call}");
