@@ -1,6 +1,6 @@
 -- what one analyst has spent
-use Rattle.std.proofs.Common.{◌≡◌, ℕ, zero, suc, ◌+◌, ◌≤◌, ◌<◌, ◌==◌, ◌||◌, ◌&&◌, Bool, true, false, not, cond, List, [], ◌∷◌, ◌++◌, length, take, map, sum_by, slice_get, Option, Some, None, refl, sym, ◌∙◌, ap, subst, arith, option_map}
-use Rattle.std.specs.Prelude.{⊤}
+use Rattle.std.proofs.Common.{◌≡◌, ℕ, zero, suc, ◌+◌, ◌≤◌, ◌<◌, ◌==◌, ◌||◌, ◌&&◌, Bool, true, false, not, cond, List, [], ◌∷◌, ◌++◌, length, take, map, sum_by, slice_get, Option, Some, None, refl, sym, ◌∙◌, ap, subst, arith, option_map, append-nil}
+use Rattle.std.specs.Prelude.{⊤, IfSome}
 use Rattle.std.specs.Option.{option_or}
 use Rattle.std.specs.List.{filter}
 use Rattle.std.proofs.lemmas.Bool.{eqb-true, eq-eqb}
@@ -22,10 +22,10 @@ use Rattle.journal_records.specs.Records.{reservation_in, settlement_in, settlin
 use Rattle.budget_core.specs.declared.entry.Ask.{Ask}
 use Rattle.budget_core.specs.Cost.{charge_by, comes_back, counts_in, charges_in, cost_of}
 use Rattle.budget_core.specs.Counts.{reservations_of, reservation_of, outcome_by, outcome_of, asker_of}
-use Rattle.budget_core.specs.Entries.{Entry}
-use Rattle.budget_core.specs.Ledger.{reservation_for, reservation_numbered, next_number}
+use Rattle.budget_core.specs.Entries.{Entry, limit_of}
+use Rattle.budget_core.specs.Ledger.{reservation_for, reservation_numbered, next_number, spent_with}
 use Rattle.budget_core.specs.Legal.{MayFollow, IsHistory}
-use Rattle.budget_core.specs.Mine.{is_by, has_asked, is_asked_by, asked_by, charges_by, spent_by, spent_with, KeepsLimits}
+use Rattle.budget_core.specs.Mine.{is_by, has_asked, is_asked_by, asked_by, charges_by, spent_by, spent_after}
 use Rattle.budget_core.proofs.Costs.{nothing-back, counts-unsettled, sum-filtered, cost_of-charges}
 use Rattle.budget_core.proofs.Histories.{history-induction, slice_get-append-lt, slice_get-append-seam}
 use Rattle.budget_core.proofs.Numbers.{sum_by-le, reservations-with, reservations-settled, reservations-granted, reservation_of-append-old, reservation_of-next, outcome_of-append-Reserve, outcome_of-append-Settle, outcome_of-append-Grant, outcome_past}
@@ -235,18 +235,19 @@ charges-mine entry records reservation counts =
     ∙ ap (λ (b : Bool). charges_by entry records reservation.analyst ++ map charge_by (cond b (reservation ∷ []) [])) counts
 
 -- another analyst's
-pub spent-others : (entry : Entry) (records : List Record) (analyst : ℕ) (reservation : Reservation) → (reservation.analyst == analyst) ≡ false
+pub charges-others : (entry : Entry) (records : List Record) (analyst : ℕ) (reservation : Reservation) → (reservation.analyst == analyst) ≡ false
+    → charges_by entry (records ++ Reserve reservation ∷ []) analyst ≡ charges_by entry records analyst
+charges-others entry records analyst reservation others =
+    charges-reserved entry records analyst reservation
+    ∙ ap (λ (b : Bool). charges_by entry records analyst ++ map charge_by (filter (counts_in entry records) (cond b (reservation ∷ []) []))) others
+    ∙ append-nil (charges_by entry records analyst)
+
+spent-others : (entry : Entry) (records : List Record) (analyst : ℕ) (reservation : Reservation) → (reservation.analyst == analyst) ≡ false
     → spent_by entry (records ++ Reserve reservation ∷ []) analyst ≡ spent_by entry records analyst
 spent-others entry records analyst reservation others =
     spent_by-charges entry (records ++ Reserve reservation ∷ []) analyst
-    ∙ ap cost_of_charges (charges-reserved entry records analyst reservation
-    ∙ ap (λ (b : Bool). charges_by entry records analyst ++ map charge_by (filter (counts_in entry records) (cond b (reservation ∷ []) []))) others
-    ∙ append-nil' (charges_by entry records analyst))
+    ∙ ap cost_of_charges (charges-others entry records analyst reservation others)
     ∙ sym (spent_by-charges entry records analyst)
-  where
-    append-nil' : {X : Type 0} → (xs : List X) → xs ++ [] ≡ xs
-    append-nil' [] = refl
-    append-nil' (x ∷ xs) = ap (λ ys. x ∷ ys) (append-nil' xs)
 
 -- ---- by its own records alone
 
@@ -270,31 +271,48 @@ nothing-spent : (entry : Entry) (analyst : ℕ) → spent_by entry [] analyst �
 unfolding spent_by
 nothing-spent entry analyst = cost-nil
 
-pub stays_within_limits : (entry : Entry) (limits : List (Option ℕ)) (records : List Record) (analyst limit : ℕ) → IsHistory entry records
-    → KeepsLimits entry limits records → slice_get limits analyst ≡ Some (Some limit) → spent_by entry records analyst ≤ limit
-stays_within_limits entry limits records analyst limit h keeps limited = all records h keeps
+-- In a history every analyst is within its limit.
+pub stays_within_limits : (entry : Entry) (records : List Record) (analyst limit : ℕ) → IsHistory entry records → limit_of entry analyst ≡ Some limit → spent_by entry records analyst ≤ limit
+stays_within_limits entry records analyst limit h limited =
+    history-induction entry (λ xs. spent_by entry xs analyst ≤ limit) (omega (arith, nothing-spent entry analyst)) step records h
   where
-    front : (xs : List Record) (x : Record) → KeepsLimits entry limits (xs ++ x ∷ []) → KeepsLimits entry limits xs
-    front xs x keeps k l r at has =
-        let inside : k < length xs = slice_get_within xs k (Reserve r) at in
-        let same : take k (xs ++ x ∷ []) ≡ take k xs = take-append-le k xs (x ∷ []) (omega arith) in
-        subst (λ (before : List Record). spent_by entry (before ++ Reserve r ∷ []) r.analyst ≤ l) same (keeps k l r (slice_get-append-lt xs (x ∷ []) k inside ∙ at) has)
-
-    step : (xs : List Record) (x : Record) → IsHistory entry xs → MayFollow entry xs x → (KeepsLimits entry limits xs → spent_by entry xs analyst ≤ limit)
-        → KeepsLimits entry limits (xs ++ x ∷ []) → spent_by entry (xs ++ x ∷ []) analyst ≤ limit
-    step xs (Reserve r) g may before keeps = by (r.analyst == analyst) refl
+    step : (xs : List Record) (x : Record) → IsHistory entry xs → MayFollow entry xs x → spent_by entry xs analyst ≤ limit → spent_by entry (xs ++ x ∷ []) analyst ≤ limit
+    step xs (Reserve r) g may before = by (r.analyst == analyst) refl
       where
         by : (b : Bool) → (r.analyst == analyst) ≡ b → spent_by entry (xs ++ Reserve r ∷ []) analyst ≤ limit
-        by false others = omega (arith, spent-others entry xs analyst r others, before (front xs (Reserve r) keeps))
+        by false others = omega (arith, spent-others entry xs analyst r others, before)
         by true ours =
             let same : r.analyst ≡ analyst = eqb-true r.analyst analyst ours in
-            let seam : take (length xs) (xs ++ Reserve r ∷ []) ≡ xs = take-append_seam xs (Reserve r ∷ []) in
             subst (λ (a : ℕ). spent_by entry (xs ++ Reserve r ∷ []) a ≤ limit) same
-            (subst (λ (front : List Record). spent_by entry (front ++ Reserve r ∷ []) r.analyst ≤ limit) seam
-            (keeps (length xs) limit r (slice_get-append-seam xs (Reserve r) []) (ap (slice_get limits) same ∙ limited)))
-    step xs (Settle s) g may before keeps = omega (arith, spent-settled entry xs analyst s, before (front xs (Settle s) keeps))
-    step xs (Grant gr) g may before keeps =
-        omega (arith, spent_by-charges entry (xs ++ Grant gr ∷ []) analyst, spent_by-charges entry xs analyst, ap cost_of_charges (charges-granted entry xs analyst gr), before (front xs (Grant gr) keeps))
+            (subst (λ (o : Option ℕ). IfSome o (λ most. spent_by entry (xs ++ Reserve r ∷ []) r.analyst ≤ most)) (ap (limit_of entry) same ∙ limited) may.limited)
+    step xs (Settle s) g may before = omega (arith, spent-settled entry xs analyst s, before)
+    step xs (Grant gr) g may before =
+        omega (arith, spent_by-charges entry (xs ++ Grant gr ∷ []) analyst, spent_by-charges entry xs analyst, ap cost_of_charges (charges-granted entry xs analyst gr), before)
 
-    all : (xs : List Record) → IsHistory entry xs → KeepsLimits entry limits xs → spent_by entry xs analyst ≤ limit
-    all = history-induction entry (λ xs. KeepsLimits entry limits xs → spent_by entry xs analyst ≤ limit) (λ keeps. omega (arith, nothing-spent entry analyst)) step
+-- ---- with a reservation more
+
+-- By how much it says that the cost rose doesn't change what its analyst has spent with it.
+pub spent-taken : (entry : Entry) (records : List Record) (analyst : ℕ) (reservation : Reservation) (other : ℕ)
+    → spent_by entry (records ++ Reserve reservation ∷ []) analyst ≡ spent_by entry (records ++ Reserve (record reservation { taken = other }) ∷ []) analyst
+spent-taken entry records analyst reservation other =
+    spent_by-charges entry (records ++ Reserve reservation ∷ []) analyst
+    ∙ ap cost_of_charges (charges-reserved entry records analyst reservation ∙ ap (λ (cs : List Charge). charges_by entry records analyst ++ cs) (by (is_by analyst reservation))
+    ∙ sym (charges-reserved entry records analyst (record reservation { taken = other })))
+    ∙ sym (spent_by-charges entry (records ++ Reserve (record reservation { taken = other }) ∷ []) analyst)
+  where
+    counted : (c : Bool) → map charge_by (cond c (reservation ∷ []) []) ≡ map charge_by (cond c (record reservation { taken = other } ∷ []) [])
+    counted true = refl
+    counted false = refl
+
+    by : (b : Bool) → map charge_by (filter (counts_in entry records) (cond b (reservation ∷ []) []))
+        ≡ map charge_by (filter (counts_in entry records) (cond b (record reservation { taken = other } ∷ []) []))
+    by true = counted (counts_in entry records reservation)
+    by false = refl
+
+-- what a reservation's analyst has spent with it
+pub spent-mine : (entry : Entry) (records : List Record) (reservation : Reservation) (charge : ℕ) → counts_in entry records reservation ≡ true → charge ≡ (charge_by reservation).amount
+    → spent_by entry (records ++ Reserve reservation ∷ []) reservation.analyst ≡ spent_after entry records reservation.analyst (record { view = reservation.view; amount = charge })
+spent-mine entry records reservation charge counts is =
+    spent_by-charges entry (records ++ Reserve reservation ∷ []) reservation.analyst
+    ∙ ap cost_of_charges (charges-mine entry records reservation counts)
+    ∙ ap (λ (n : ℕ). spent_after entry records reservation.analyst (record { view = reservation.view; amount = n })) (sym is)

@@ -1,5 +1,5 @@
 -- What all analysts have spent covers what all records cost.
-use Rattle.std.proofs.Common.{◌≡◌, ℕ, zero, suc, ◌+◌, ◌≤◌, ◌<◌, ◌==◌, Bool, true, false, cond, List, [], ◌∷◌, ◌++◌, sum_by, refl, sym, ◌∙◌, ap, subst, arith}
+use Rattle.std.proofs.Common.{◌≡◌, ℕ, zero, suc, ◌+◌, ◌≤◌, ◌<◌, ◌==◌, Bool, true, false, cond, List, [], ◌∷◌, ◌++◌, map, sum_by, refl, sym, ◌∙◌, ap, subst, arith}
 use Rattle.std.specs.List.{filter}
 use Rattle.std.proofs.lemmas.Bool.{cases_eq, eq-eqb, ne_eqb}
 use Rattle.std.proofs.lemmas.List.Sums.{sum_by-cons}
@@ -8,7 +8,7 @@ use Rattle.partition_charge.specs.declared.view.View.{View}
 use Rattle.partition_charge.specs.declared.view.View.TheVariants.{Whole, Part}
 use Rattle.partition_charge.specs.Views.{partition_range}
 use Rattle.partition_charge.specs.Cost.{Charge, charged_to, charges_of, total_below, partition_cost, cost_of_charges}
-use Rattle.partition_charge.proofs.Charges.{dearest-at, dearest-le}
+use Rattle.partition_charge.proofs.Charges.{cost-nil, dearest-at, dearest-le}
 use Rattle.journal_records.specs.declared.records.Reservation.{Reservation}
 use Rattle.journal_records.specs.declared.records.Record.{Record}
 use Rattle.journal_records.specs.declared.records.Record.TheVariants.{Reserve, Settle, Grant}
@@ -128,3 +128,15 @@ shares-cover entry records share h each = omega (
   cost-covered entry records h,
   total-le entry.analysts (λ a. cost_of_charges (charges_by entry records a)) share (λ a. subst (λ (c : ℕ). c ≤ share a) (spent_by-charges entry records a) (each a)),
 )
+
+-- Who isn't an analyst of the entry has spent nothing.
+none-past : (n a : ℕ) (rs : List Reservation) → n ≤ a → Each (λ (r : Reservation). r.analyst < n) rs → filter (is_by a) rs ≡ []
+none-past n a [] past all = refl
+none-past n a (r ∷ rs) past all =
+    ap (λ (b : Bool). cond b (r ∷ filter (is_by a) rs) (filter (is_by a) rs)) (ne_eqb r.analyst a (λ same. omega (arith, same, all.0, past))) ∙ none-past n a rs past all.1
+
+pub spent-past : (entry : Entry) (records : List Record) (a : ℕ) → IsHistory entry records → entry.analysts ≤ a → spent_by entry records a ≡ 0
+spent-past entry records a h past =
+    spent_by-charges entry records a
+    ∙ ap (λ (rs : List Reservation). cost_of_charges (map charge_by (filter (counts_in entry records) rs))) (none-past entry.analysts a (reservations_of records) past (each-known entry records h))
+    ∙ cost-nil

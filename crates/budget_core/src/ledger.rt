@@ -86,18 +86,17 @@ impl Ledger {
         requires { IsAskOf self.now.entry ask.now }
         ensures { result ≡ if is_over_share self.now.entry self.now.records ask.now then Some (over_share self.now.entry self.now.records ask.now) else None }
     {
-        let limit = self.history.entry().limit(ask.analyst)?;
         let charge = charge_for(ask.e, ask.p, ask.q);
         let after = self.history.spent_after(ask.analyst, ask.view, charge);
-        if after <= limit {
-            return None;
+        match self.history.entry().limit(ask.analyst) {
+            Some(limit) if limit < after => Some(ReserveFault::OverShare {
+                spent: self.history.spent_by(ask.analyst),
+                after,
+                limit,
+                seen: self.history.len(),
+            }),
+            _ => None,
         }
-        Some(ReserveFault::OverShare {
-            spent: self.history.spent_by(ask.analyst),
-            after,
-            limit,
-            seen: self.history.len(),
-        })
     }
 
     /// Whether an ask is granted: over budget comes first, then full, then over its analyst's share.
@@ -128,15 +127,14 @@ impl Ledger {
                 capacity,
             });
         }
-        if let Some(fault) = self.over_share(ask) {
-            return Err(fault);
+        match self.over_share(ask) {
+            Some(fault) => Err(fault),
+            None => Ok(Grant {
+                number: self.history.reservations(),
+                taken: after - spent,
+                seen: seen + 1,
+            }),
         }
-        let number = self.history.reservations();
-        Ok(Grant {
-            number,
-            taken: after - spent,
-            seen: seen + 1,
-        })
     }
 
     /// The reservation of a granted ask.

@@ -11,7 +11,7 @@ ghost use Rattle.budget_core.specs.Events.{is_answer};
 ghost use Rattle.budget_core.specs.Cost.{charge_of, comes_back};
 ghost use Rattle.budget_core.specs.Ledger.{returned_by};
 ghost use Rattle.partition_charge.specs.Cost.{Charge as Charged};
-ghost use Rattle.partition_charge.specs.Totals.{AreTotalsOf, HasCharged, HasRoomBelow, IsRest};
+ghost use Rattle.partition_charge.specs.Totals.{AreTotalsOf, HasCharged, HasPlaces, HasRoomBelow, IsRest};
 ghost use Rattle.partition_charge.specs.Views.{IsView};
 ghost use Rattle.budget_core.specs.Entries.{Entry as Terms, HasView, limit_of};
 ghost use Rattle.budget_core.specs.Kept.{HasShares, IsTotalOf, IsTotal, IsOpenIn, MayCount, HasCounted};
@@ -86,6 +86,7 @@ fn take_back(costs: &mut Costs, entry: &Entry, row: Row, outcome: Outcome)
     ensures given { (charges rest : List Charged) → AreTotalsOf costs.old charges → comes_back entry.now (Some outcome) ≡ true
         → IsRest charges row.view row.charge rest → AreTotalsOf costs.new rest }
     ensures kept { (charges : List Charged) → AreTotalsOf costs.old charges → comes_back entry.now (Some outcome) ≡ false → AreTotalsOf costs.new charges }
+    ensures places { (n : ℕ) → HasPlaces costs.old n → HasPlaces costs.new n }
     ensures room { (n : ℕ) → HasRoomBelow costs.old n → HasRoomBelow costs.new n }
 {
     if comes_back(entry, outcome) {
@@ -137,10 +138,10 @@ impl Totals {
     pub fn spent_by(&self, analyst: u16) -> u64
         ensures { (entry : Terms) (records : List Entered) → IsTotalOf entry records self.now → result ≡ spent_by entry records analyst }
     {
-        match self.shares.get(analyst as usize) {
-            Some(costs) => costs.spent(),
-            None => 0,
+        if analyst as usize >= self.shares.len() {
+            return 0;
         }
+        self.shares[analyst as usize].spent()
     }
 
     /// What an analyst would have spent with one charge more.
@@ -253,34 +254,6 @@ impl Totals {
         }
     }
 
-    // Counts a reservation's charge for its analyst.
-    fn count_share(&mut self, entry: &Entry, reservation: &Reservation, charge: u64)
-        requires follows { MayCount entry.now self.old (Reserve reservation.now) }
-        requires charge { charge ≡ charge_of reservation.now.e reservation.now.p reservation.now.q }
-        requires bounded { charge ≤ 2 ^ 62 }
-        ensures shares { (records : List Entered) → IsTotalOf entry.now records self.old → MayFollow entry.now records (Reserve reservation.now)
-            → length records < entry.now.capacity → HasShares entry.now (records ++ Reserve reservation.now ∷ []) self.new.shares.items }
-        ensures others { self.new ≡ record self.old { shares = self.new.shares } }
-    {
-        self.shares[reservation.analyst as usize].add(reservation.view, charge);
-    }
-
-    // Gives back to its analyst what a number was charged, where it comes back.
-    fn settle_share(&mut self, entry: &Entry, settlement: &Settlement)
-        requires follows { MayCount entry.now self.old (Settle settlement.now) }
-        ensures shares { (records : List Entered) → IsTotalOf entry.now records self.old → MayFollow entry.now records (Settle settlement.now)
-            → length records < entry.now.capacity → HasShares entry.now (records ++ Settle settlement.now ∷ []) self.new.shares.items }
-        ensures others { self.new ≡ record self.old { shares = self.new.shares } }
-    {
-        let row = self.rows[settlement.number as usize];
-        take_back(
-            &mut self.shares[row.analyst as usize],
-            entry,
-            row,
-            settlement.outcome,
-        );
-    }
-
     // Counts a reservation.
     fn count_reservation(&mut self, entry: &Entry, reservation: &Reservation)
         requires follows { MayCount entry.now self.old (Reserve reservation.now) }
@@ -288,8 +261,8 @@ impl Totals {
         ensures { HasCounted entry.now self.old (Reserve reservation.now) self.new }
     {
         let charge = charge_for(reservation.e, reservation.p, reservation.q);
-        self.count_share(entry, reservation, charge);
         self.costs.add(reservation.view, charge);
+        self.shares[reservation.analyst as usize].add(reservation.view, charge);
         self.rows.push_reserved(Row {
             analyst: reservation.analyst,
             view: reservation.view,
@@ -304,8 +277,13 @@ impl Totals {
         ensures { HasCounted entry.now self.old (Settle settlement.now) self.new }
     {
         let row = self.rows[settlement.number as usize];
-        self.settle_share(entry, settlement);
         take_back(&mut self.costs, entry, row, settlement.outcome);
+        take_back(
+            &mut self.shares[row.analyst as usize],
+            entry,
+            row,
+            settlement.outcome,
+        );
         settle_row(&mut self.rows, settlement.number, settlement.outcome);
         self.answered += u32::from(is_answer(settlement.outcome));
         self.exhausted += u32::from(is_exhaustion(settlement.outcome));

@@ -16,7 +16,7 @@ pub returns-clause-own : goal.returns-clause-own
 returns-clause-own c = λ entry records other ask h k same. spent_goes_by_own entry records other ask h k same
 
 pub returns-clause-limited : goal.returns-clause-limited
-returns-clause-limited c = λ entry limits records analyst limit h keeps limited. stays_within_limits entry limits records analyst limit h keeps limited
+returns-clause-limited c = λ entry records analyst limit h limited. stays_within_limits entry records analyst limit h limited
 
 pub returns-clause-back : goal.returns-clause-back
 returns-clause-back c = λ entry records number returned outcome asked back h open_before is. mine-rest entry records number returned outcome asked back h open_before is
