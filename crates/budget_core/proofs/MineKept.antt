@@ -1,5 +1,5 @@
 -- Running totals of what each analyst is charged.
-use Rattle.std.proofs.Common.{◌≡◌, ℕ, ◌+◌, ◌-◌, ◌≤◌, ◌<◌, ◌==◌, ◌^◌, Bool, true, false, not, min, set, get_or, List, [], ◌∷◌, ◌++◌, length, length-append, length-set, map, All, slice_get, Option, Some, None, option_map, refl, sym, ◌∙◌, ap, subst, arith, ⊎_elim, inl, inr, ◌⊎◌}
+use Rattle.std.proofs.Common.{◌≡◌, ℕ, zero, suc, ◌+◌, ◌-◌, ◌≤◌, ◌<◌, ◌==◌, ◌^◌, Bool, true, false, not, min, set, get_or, List, [], ◌∷◌, ◌++◌, length, length-append, length-set, map, All, slice_get, Option, Some, None, option_map, refl, sym, ◌∙◌, ap, subst, arith, ⊎_elim, inl, inr, ◌⊎◌}
 use Rattle.std.specs.List.{filter}
 use Rattle.std.proofs.lemmas.Bool.{cases_eq, cases_lt, ne_eqb}
 use Rattle.std.proofs.lemmas.List.{get_or-set_same, get_or-set_other}
@@ -217,6 +217,13 @@ shares-Grant entry records shares grant all = record {
   count = all.count;
   each = λ k costs at. share-later entry records (Grant grant) k costs (charges-granted entry records k grant) (all.each k costs at);
 }
+
+-- one more that has P
+pub all-push : (P : Costs → Type 0) (xs : List Costs) (x : Costs) → All P xs → P x → All P (xs ++ x ∷ [])
+all-push P [] x all one zero d within = one
+all-push P [] x all one (suc k) d within = absurd (omega (arith, within))
+all-push P (y ∷ xs) x all one zero d within = all 0 d (omega arith)
+all-push P (y ∷ xs) x all one (suc k) d within = all-push P xs x (λ j e low. all (suc j) e (omega (arith, low))) one k d (omega (arith, within))
 
 pub shares-new : (entry : Entry) (shares : List Costs) → length shares ≡ entry.analysts → All (IsShareOf entry [] 0) shares → HasShares entry [] shares
 shares-new entry shares count all = record {

@@ -86,17 +86,18 @@ impl Ledger {
         requires { IsAskOf self.now.entry ask.now }
         ensures { result ≡ if is_over_share self.now.entry self.now.records ask.now then Some (over_share self.now.entry self.now.records ask.now) else None }
     {
+        let limit = self.history.entry().limit(ask.analyst)?;
         let charge = charge_for(ask.e, ask.p, ask.q);
         let after = self.history.spent_after(ask.analyst, ask.view, charge);
-        match self.history.entry().limit(ask.analyst) {
-            Some(limit) if limit < after => Some(ReserveFault::OverShare {
-                spent: self.history.spent_by(ask.analyst),
-                after,
-                limit,
-                seen: self.history.len(),
-            }),
-            _ => None,
+        if after <= limit {
+            return None;
         }
+        Some(ReserveFault::OverShare {
+            spent: self.history.spent_by(ask.analyst),
+            after,
+            limit,
+            seen: self.history.len(),
+        })
     }
 
     /// Whether an ask is granted: over budget comes first, then full, then over its analyst's share.
