@@ -25,7 +25,7 @@ use Rattle.budget_core.proofs.Histories.{history-induction}
 use Rattle.budget_core.proofs.Numbers.{sum_by-parts, option_or-None, eqb_turned, reservations-with, reservations-settled, reservations-granted, reservation_of-append, reserved_below, outcome_of-append-Settle}
 
 -- Of a number's reservations a history has just the one that is found.
-only-one : (entry : Entry) (a : Reservation → ℕ) (records : List Record) → IsHistory entry records → (n : ℕ)
+pub only-one : (entry : Entry) (a : Reservation → ℕ) (records : List Record) → IsHistory entry records → (n : ℕ)
     → sum_by (λ (r : Reservation). cond (n == r.number) (a r) 0) (reservations_of records) ≡ number_or_zero a (reservation_of records n)
 only-one entry a = history-induction entry (λ records. (n : ℕ) → sum_by (λ (r : Reservation). cond (n == r.number) (a r) 0) (reservations_of records) ≡ number_or_zero a (reservation_of records n)) (λ n. refl) step
   where
@@ -74,7 +74,7 @@ module _ (entry : Entry) (records : List Record) (number returned : ℕ) (outcom
       let all : cond (not (comes_back entry (option_or old None))) a 0 ≡ cond (not (comes_back entry old)) a 0 = ap (λ (b : Bool). cond (not b) a 0) same in
       omega (arith, all)
 
-  at : (view : View) (r : Reservation) → cond (counts_in entry settled r) (charged_to view (charge_by r)) 0 + cond (number == r.number) (charged_to view (charge_by r)) 0
+  pub at : (view : View) (r : Reservation) → cond (counts_in entry settled r) (charged_to view (charge_by r)) 0 + cond (number == r.number) (charged_to view (charge_by r)) 0
       ≡ cond (counts_in entry records r) (charged_to view (charge_by r)) 0
   at view r =
       (λ i. cond (not (comes_back entry (outcome_of-append-Settle records number outcome returned r.number i))) (charged_to view (charge_by r)) 0

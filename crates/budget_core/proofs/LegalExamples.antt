@@ -18,7 +18,7 @@ use Rattle.budget_core.proofs.LegalLemmas.{legal-nil, legal-append}
 
 -- An entry at the least and at the greatest of its numbers, and just past each of them.
 abbrev entry_of : ℕ → ℕ → ℕ → List ℕ → Entry
-entry_of budget capacity analysts keys = record { budget = budget; capacity = capacity; analysts = analysts; keys = keys; version = 2 }
+entry_of budget capacity analysts keys = record { budget = budget; capacity = capacity; analysts = analysts; keys = keys; version = 2; limits = [] }
 
 abbrev IsKeyCount : ℕ → Type 0
 IsKeyCount n = (1 ≤ n) × (n ≤ 4000)

@@ -12,6 +12,9 @@ pub mod RunLemmas
 pub mod Asks
 pub mod Grants
 pub mod EventLemmas
+pub mod MineLemmas
+pub mod MineTotals
+pub mod MineShares
 mod Examples
 mod LegalExamples
 mod EventExamples

@@ -1,6 +1,6 @@
 //! What is known of records without going over them: what they cost, and a row for each number.
 
-ghost use Rattle.std.specs.Prelude.{◌≡◌, ℕ, ◌<◌, ◌≤◌, ◌∷◌, ◌++◌, [], ◌↔◌, ◌^◌, List, length, slice_get, Some, true, false, IsTrue, IfOk, IfErr};
+ghost use Rattle.std.specs.Prelude.{◌≡◌, ℕ, ◌<◌, ◌≤◌, ◌∷◌, ◌++◌, [], ◌↔◌, ◌^◌, List, length, slice_get, Some, true, false, IsTrue, IfSome, IfOk, IfErr};
 ghost use Rattle.std.specs.List.{All};
 ghost use Rattle.journal_records.specs.Encoding.{AreChargeTerms, IsReservation, IsGrant, IsValid};
 ghost use Rattle.journal_records.specs.declared.records.Record.{Record as Entered};
@@ -13,8 +13,9 @@ ghost use Rattle.budget_core.specs.Ledger.{returned_by};
 ghost use Rattle.partition_charge.specs.Cost.{Charge as Charged};
 ghost use Rattle.partition_charge.specs.Totals.{AreTotalsOf, HasCharged, HasRoomBelow, IsRest};
 ghost use Rattle.partition_charge.specs.Views.{IsView};
-ghost use Rattle.budget_core.specs.Entries.{Entry as Terms};
-ghost use Rattle.budget_core.specs.Kept.{IsTotalOf, IsTotal, IsOpenIn, MayCount, HasCounted};
+ghost use Rattle.budget_core.specs.Entries.{Entry as Terms, HasView, limit_of};
+ghost use Rattle.budget_core.specs.Kept.{HasShares, IsTotalOf, IsTotal, IsOpenIn, MayCount, HasCounted};
+ghost use Rattle.budget_core.specs.Mine.{spent_by, spent_after};
 ghost use Rattle.budget_core.specs.Legal.{MayFollow, HasTerms, IsReservationAfter, IsOpen, IsSettlementAfter, IsGrantAfter, IsFirstAstray};
 
 use crate::entry::{BUDGET_LIMIT, Entry};
@@ -37,6 +38,8 @@ pub(crate) struct Row {
 #[derive(Drop)]
 pub(crate) struct Totals {
     pub(crate) costs: Costs,
+    /// What each analyst is charged.
+    pub(crate) shares: Vec<Costs>,
     pub(crate) rows: Vec<Row>,
     pub(crate) answered: u32,
     pub(crate) exhausted: u32,
@@ -99,6 +102,18 @@ fn settle_row(rows: &mut [Row], number: u32, outcome: Outcome)
     rows[number as usize].outcome = Some(outcome);
 }
 
+// The totals of no charges of each analyst, with room for as many parts as there are keys, or as records may come.
+fn new_shares(alloc: Global, entry: &Entry) -> Result<Vec<Costs>, AllocError>
+    ensures { IfOk result (λ shares. HasShares entry.now [] shares.items) }
+{
+    let room = entry.capacity().min(u32::from(entry.most_keys()));
+    let mut shares = Vec::with_capacity(alloc, entry.analysts() as usize)?;
+    for _analyst in 0..entry.analysts() {
+        shares.push_reserved(Costs::new(alloc, room)?);
+    }
+    Ok(shares)
+}
+
 impl Totals {
     /// The totals of no records, with room for a row for each record and for a charge of each of the entry's parts.
     pub fn new(alloc: Global, entry: &Entry) -> Result<Totals, AllocError>
@@ -106,14 +121,55 @@ impl Totals {
     {
         let rows = Vec::with_capacity(alloc, entry.capacity() as usize)?;
         let costs = Costs::new(alloc, u32::from(entry.most_keys()))?;
+        let shares = new_shares(alloc, entry)?;
         Ok(Totals {
             costs,
+            shares,
             rows,
             answered: 0,
             exhausted: 0,
             grants: 0,
             budget: entry.budget(),
         })
+    }
+
+    /// What an analyst has spent.
+    pub fn spent_by(&self, analyst: u16) -> u64
+        ensures { (entry : Terms) (records : List Entered) → IsTotalOf entry records self.now → result ≡ spent_by entry records analyst }
+    {
+        match self.shares.get(analyst as usize) {
+            Some(costs) => costs.spent(),
+            None => 0,
+        }
+    }
+
+    /// What an analyst would have spent with one charge more.
+    pub fn spent_after(&self, entry: &Entry, analyst: u16, view: View, charge: u64) -> u64
+        requires total { IsTotal entry.now self.now }
+        requires analyst { analyst < entry.now.analysts }
+        requires view { HasView entry.now view }
+        requires bounded { charge ≤ 2 ^ 62 }
+        ensures { (records : List Entered) → IsTotalOf entry.now records self.now
+            → result ≡ spent_after entry.now records analyst (record { view = view; amount = charge }) }
+    {
+        // The look at the entry tells the proof what it keeps.
+        let _capacity = entry.capacity();
+        self.shares[analyst as usize].after(view, charge)
+    }
+
+    // Whether an analyst keeps to its limit, where it has one, with one charge more.
+    fn keeps_limit(&self, entry: &Entry, analyst: u16, view: View, charge: u64) -> bool
+        requires total { IsTotal entry.now self.now }
+        requires analyst { analyst < entry.now.analysts }
+        requires view { HasView entry.now view }
+        requires bounded { charge ≤ 2 ^ 62 }
+        ensures { (records : List Entered) → IsTotalOf entry.now records self.now → (IsTrue result ↔ IfSome (limit_of entry.now analyst)
+            (λ limit. spent_after entry.now records analyst (record { view = view; amount = charge }) ≤ limit)) }
+    {
+        match entry.limit(analyst) {
+            Some(limit) => self.spent_after(entry, analyst, view, charge) <= limit,
+            None => true,
+        }
     }
 
     // Whether this reservation may follow.
@@ -130,6 +186,9 @@ impl Totals {
             return false;
         }
         let charge = charge_for(reservation.e, reservation.p, reservation.q);
+        if !self.keeps_limit(entry, reservation.analyst, reservation.view, charge) {
+            return false;
+        }
         let spent = self.costs.spent();
         let after = self.costs.after(reservation.view, charge);
         after <= self.budget && after - spent == reservation.taken
@@ -194,6 +253,34 @@ impl Totals {
         }
     }
 
+    // Counts a reservation's charge for its analyst.
+    fn count_share(&mut self, entry: &Entry, reservation: &Reservation, charge: u64)
+        requires follows { MayCount entry.now self.old (Reserve reservation.now) }
+        requires charge { charge ≡ charge_of reservation.now.e reservation.now.p reservation.now.q }
+        requires bounded { charge ≤ 2 ^ 62 }
+        ensures shares { (records : List Entered) → IsTotalOf entry.now records self.old → MayFollow entry.now records (Reserve reservation.now)
+            → length records < entry.now.capacity → HasShares entry.now (records ++ Reserve reservation.now ∷ []) self.new.shares.items }
+        ensures others { self.new ≡ record self.old { shares = self.new.shares } }
+    {
+        self.shares[reservation.analyst as usize].add(reservation.view, charge);
+    }
+
+    // Gives back to its analyst what a number was charged, where it comes back.
+    fn settle_share(&mut self, entry: &Entry, settlement: &Settlement)
+        requires follows { MayCount entry.now self.old (Settle settlement.now) }
+        ensures shares { (records : List Entered) → IsTotalOf entry.now records self.old → MayFollow entry.now records (Settle settlement.now)
+            → length records < entry.now.capacity → HasShares entry.now (records ++ Settle settlement.now ∷ []) self.new.shares.items }
+        ensures others { self.new ≡ record self.old { shares = self.new.shares } }
+    {
+        let row = self.rows[settlement.number as usize];
+        take_back(
+            &mut self.shares[row.analyst as usize],
+            entry,
+            row,
+            settlement.outcome,
+        );
+    }
+
     // Counts a reservation.
     fn count_reservation(&mut self, entry: &Entry, reservation: &Reservation)
         requires follows { MayCount entry.now self.old (Reserve reservation.now) }
@@ -201,6 +288,7 @@ impl Totals {
         ensures { HasCounted entry.now self.old (Reserve reservation.now) self.new }
     {
         let charge = charge_for(reservation.e, reservation.p, reservation.q);
+        self.count_share(entry, reservation, charge);
         self.costs.add(reservation.view, charge);
         self.rows.push_reserved(Row {
             analyst: reservation.analyst,
@@ -216,6 +304,7 @@ impl Totals {
         ensures { HasCounted entry.now self.old (Settle settlement.now) self.new }
     {
         let row = self.rows[settlement.number as usize];
+        self.settle_share(entry, settlement);
         take_back(&mut self.costs, entry, row, settlement.outcome);
         settle_row(&mut self.rows, settlement.number, settlement.outcome);
         self.answered += u32::from(is_answer(settlement.outcome));

@@ -57,7 +57,7 @@ header_lawful budget capacity version budget_fits capacity_fits known = record {
 
 -- the entry in some version, by whatever names its parts have
 abbrev pub entry_with : (budget capacity : ℕ) (keys : List ℕ) (version : ℕ) → Entry
-entry_with budget capacity keys version = record { budget = budget; capacity = capacity; analysts = 1; keys = keys; version = version }
+entry_with budget capacity keys version = record { budget = budget; capacity = capacity; analysts = 1; keys = keys; version = version; limits = [] }
 
 pub entry_is : (asks budget capacity : ℕ) (keys : List ℕ) (version : ℕ) → budget ≡ budget_for asks → capacity ≡ capacity_for asks → keys ≡ []
     → entry_with budget capacity keys version ≡ record (entry_for asks) { version = version }

@@ -39,6 +39,7 @@ pub fn generated_book(alloc: Global, asks: u32) -> Result<Book<MemDisk<'static>>
         2 * asks,
         1,
         Vec::new(alloc),
+        Vec::new(alloc),
     )
     .with_version(VERSION);
     let header = Header {

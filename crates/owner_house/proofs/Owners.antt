@@ -78,7 +78,7 @@ entry_said register o owner d at =
     (λ i. record (entry_of register.catalog (listed i)) { version = version i }) ∙ ap (λ (w : Owner). w.entry) s.is
 
 pub entry_made : (catalog : Catalog) (o budget capacity analysts : ℕ) (keys : List ℕ) → budget ≡ (listed_at catalog o).budget → capacity ≡ (listed_at catalog o).capacity → analysts ≡ length catalog.analysts
-    → keys ≡ keys_of (listed_at catalog o) → record { budget = budget; capacity = capacity; analysts = analysts; keys = keys; version = newest_version } ≡ entry_of catalog (listed_at catalog o)
+    → keys ≡ keys_of (listed_at catalog o) → record { budget = budget; capacity = capacity; analysts = analysts; keys = keys; version = newest_version; limits = [] } ≡ entry_of catalog (listed_at catalog o)
 entry_made catalog o budget capacity analysts keys b c a k = cc (b, c, a, k)
 
 -- each partition of a catalog has some keys, and not too many

@@ -70,7 +70,7 @@ keys_of owner = map (λ partition. length partition.keys) owner.partitions
 -- what is kept of an owner's budget, for a new journal
 abbrev pub entry_of : Catalog → OwnerEntry → Entry
 entry_of catalog owner =
-    record { budget = owner.budget; capacity = owner.capacity; analysts = length catalog.analysts; keys = keys_of owner; version = newest_version }
+    record { budget = owner.budget; capacity = owner.capacity; analysts = length catalog.analysts; keys = keys_of owner; version = newest_version; limits = [] }
 
 -- an owner of the catalog, what it holds, and the version of its journal
 abbrev pub owner_of : Catalog → (OwnerEntry × Holding) × ℕ → Owner
@@ -105,7 +105,7 @@ pub record IsRegister (register : Register) : Type 0 where
       → slice_get register.holdings o ≡ Some holding → IsHeldBy owner holding
 
 abbrev pub no_entry : Entry
-no_entry = record { budget = 0; capacity = 0; analysts = 0; keys = []; version = 0 }
+no_entry = record { budget = 0; capacity = 0; analysts = 0; keys = []; version = 0; limits = [] }
 
 abbrev pub no_owner : Owner
 no_owner = record { name = []; entry = no_entry; tables = []; rows = []; partitions = [] }

@@ -35,5 +35,6 @@ pub fn new_entry(alloc: Global, catalog: &Catalog, owner: u32) -> Result<Entry, 
         catalog.capacity(owner),
         analysts,
         keys,
+        Vec::new(alloc),
     ))
 }

@@ -63,7 +63,7 @@ abbrev owner : OwnerEntry
 owner = record { name = census; budget = 10000000; capacity = 100; tables = []; partitions = []; text = census }
 
 abbrev kept : Entry
-kept = record { budget = 10000000; capacity = 100; analysts = 1; keys = []; version = 3 }
+kept = record { budget = 10000000; capacity = 100; analysts = 1; keys = []; version = 3; limits = [] }
 
 abbrev granted : (number amount : ℕ) → Record
 granted number amount = Grant (record { number = number; amount = amount })
