@@ -60,7 +60,7 @@ statuses = refl
 
 -- An audit's budget has what was granted.
 abbrev owner : OwnerEntry
-owner = record { name = census; budget = 10000000; capacity = 100; tables = []; partitions = []; text = census }
+owner = record { name = census; budget = 10000000; capacity = 100; tables = []; partitions = []; limits = []; text = census }
 
 abbrev kept : Entry
 kept = record { budget = 10000000; capacity = 100; analysts = 1; keys = []; version = 3; limits = [] }
