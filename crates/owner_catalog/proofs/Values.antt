@@ -52,12 +52,12 @@ plain_array d vs is h = plain_as_array d _ is (plain_items vs h)
 -- nothing is missing, so each is there that an object may not lack
 pub all_there : (expected : List Member) (d : Data) → None ≡ first_missing expected d → AllByRecursion (λ m. has_or_may_lack d m ≡ true) expected
 all_there [] d none = tt
-all_there (m ∷ ms) d none = by (has_or_may_lack d m) refl none
+all_there (m ∷ ms) d none = by (has_or_may_lack d m) refl (all_there ms d) none
   where
-    by : (b : Bool) → has_or_may_lack d m ≡ b → None ≡ cond (not b) (Some m) (first_missing ms d)
-        → AllByRecursion (λ m. has_or_may_lack d m ≡ true) (m ∷ ms)
-    by true e none = (e, all_there ms d none)
-    by false e none = absurd cc
+    by : (b : Bool) → has_or_may_lack d m ≡ b → (None ≡ first_missing ms d → AllByRecursion (λ m. has_or_may_lack d m ≡ true) ms)
+        → None ≡ cond (not b) (Some m) (first_missing ms d) → AllByRecursion (λ m. has_or_may_lack d m ≡ true) (m ∷ ms)
+    by true e rest none = (e, rest none)
+    by false e rest none = absurd cc
 
 one_more : (b : Bool) (k : String Global) (names : Option (List ℕ)) (keys : Option (String Global)) → names ≡ option_map string_bytes keys
     → cond b (Some (string_bytes k)) names ≡ option_map string_bytes (cond b (Some k) keys)
