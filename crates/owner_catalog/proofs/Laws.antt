@@ -231,7 +231,9 @@ limits_ok : (o : ℕ) (analysts : List (List ℕ)) (there : Option Data) (xs : L
 limits_ok o analysts None xs is =
     subst (λ ys. (length ys ≤ 64) × All (IsLimitFor analysts) ys × IsDistinct bytes_eq (map limit_analyst ys)) (same_ok [] xs is)
     (omega arith, All-nil (IsLimitFor analysts), distinct_none _)
-limits_ok o analysts (Some d) xs is = (list_ok limit_analyst _ _ (IsLimitFor analysts) (limit_ok o analysts) _ _ _ _ xs is).1
+limits_ok o analysts (Some d) xs is =
+    let all = list_ok limit_analyst _ _ (IsLimitFor analysts) (limit_ok o analysts) _ _ _ _ xs is in
+    (all.1, all.2, all.3)
 
 owner_ok : (analysts : List (List ℕ)) (o : ℕ) (d : Data) (x : OwnerEntry) → owner_in analysts o d ≡ Ok x → IsOwner x × HasLimitsFor analysts x
 unfolding owner_in
