@@ -59,7 +59,7 @@ class Orders(Case):
 
     def judged(self, kept, books, script, said, now, workers):
         """Whether this was said and left in some order of the script's lines."""
-        analysts = len(self.house.catalog["analysts"])
+        analysts = self.house.catalog["analysts"]
         after = [book_of(data, head, entry, analysts) for data, head, entry in zip(now, self.heads, self.entries)]
         for before, data, book, new in zip(kept, now, books, after):
             if data != appended(before, book.entry["capacity"], new.records[len(book.records) :]):
@@ -101,7 +101,7 @@ class Plants:
 
     def records(self, order):
         kept = self.now[order]
-        book = book_of(kept, self.case.heads[order], self.case.entries[order], len(self.case.house.catalog["analysts"]))
+        book = book_of(kept, self.case.heads[order], self.case.entries[order], self.case.house.catalog["analysts"])
         return book.records
 
     def with_records(self, order, records):

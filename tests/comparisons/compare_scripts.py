@@ -119,7 +119,7 @@ class Case:
                 raise Differs(f"journals/{order}.bud isn't wanted{order}.bud")
 
     def books(self):
-        analysts = len(self.house.catalog["analysts"])
+        analysts = self.house.catalog["analysts"]
         return [book_of(kept, head, entry, analysts) for kept, head, entry in zip(self.kept, self.heads, self.entries)]
 
     def made(self, books):
@@ -214,7 +214,7 @@ class Case:
                 self.leave(order, made(in_version(self.heads[order], version), capacity))
                 self.came[f"journals of version {version}"] += 1
             if self.rng.random() < (0.6 if capacity > 64 else 0.25):
-                book = Book(entry, len(self.house.catalog["analysts"]), version)
+                book = Book(entry, self.house.catalog["analysts"], version)
                 lay_records(self.rng, book)
                 self.leave(order, self.with_records(order, book.records))
                 self.came["journals with records that were laid"] += 1
