@@ -178,9 +178,9 @@ class Plants:
     def stale(self):
         """A worker is told what was left before its own earlier answer."""
         for at, reply in enumerate(self.replies):
-            if reply.startswith("left ") and any(self.order_of(before) == self.order_of(at) for before in self.own_before(at)):
-                book = self.books[self.order_of(at)]
-                self.refused("a balance behind too few records", self.changed(at, f"left {book.spent} {book.budget} {len(book.records)}"))
+            if reply.startswith(("left ", "mine ")) and any(self.order_of(before) == self.order_of(at) for before in self.own_before(at)):
+                book, words = self.books[self.order_of(at)], reply.split(" ")
+                self.refused("a balance behind too few records", self.changed(at, f"{words[0]} 0 {words[2]} {len(book.records)}"))
 
     def own_before(self, at):
         """The answers that the worker of a line had before it."""
