@@ -7,7 +7,8 @@
 // RECORD=FILE  what each write put and each sync, in their order: `W`, place and size of 8 bytes each and the bytes, and `S`
 // FAIL_WHILE=FILE  while there is such a file each write and each sync fails with ENOSPC, as on a full disk; no call is counted for that
 // ONLY=WORD  the calls are those on files alone whose path has the word, such as /2.bud
-// The calls are reads and writes at a place, syncs, asking for a length, locking, and opening or making such a file or folder.
+// The calls are reads and writes at a place, syncs, asking for a length or for which file it is, locking, and opening or making such a file
+// or folder.
 #define _GNU_SOURCE
 #include <dlfcn.h>
 #include <errno.h>
@@ -190,7 +191,7 @@ int mkdir(const char *path, mode_t mode) {
 typedef int (*statx_call)(int, const char *, int, unsigned, struct statx *);
 
 int statx(int file, const char *restrict path, int flags, unsigned mask, struct statx *restrict told) {
-    if (path && !*path && file_counts(file) && fails(numbered()))
+    if (path && (*path ? counts(path) : file_counts(file)) && fails(numbered()))
         return -1;
     return ((statx_call)dlsym(RTLD_NEXT, "statx"))(file, path, flags, mask, told);
 }

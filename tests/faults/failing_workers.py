@@ -1,7 +1,7 @@
 #!/usr/bin/env python3
 """Two workers over three owners, of whose journals one fails or stops at each of its calls in turn.
 
-usage: tests/faults/failing_workers.py [--quick]    (PROGRAM=FILE tries another build than tools/build's). Needs cc. --quick tries every eighth call of a run,
+usage: tests/faults/failing_workers.py [--quick]    (PROGRAM=FILE tries another build than tools/build's). Needs cc. --quick tries every seventh call of a run,
 and every twelfth of an audit and of a service.
 The owners' journals are of versions 1, 2 and 3, and each is so full that the lines that are tried open its next area, where the version has areas. The
 calls of each owner's file are counted in turn (tests/faults/fail_disk.c), and the same lines are answered again with one call that fails, with all from
@@ -276,7 +276,7 @@ def main():
         room = Room(folder, library)
         try:
             # Of every eighth one is the write of an area's gate.
-            counts = runs(room, 8 if quick else 1)
+            counts = runs(room, 7 if quick else 1)
             opened = audits(room, 12 if quick else 1)
             services(room, 12 if quick else 1, counts)
         except Wrong as fault:

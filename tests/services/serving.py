@@ -5,6 +5,7 @@ usage: tests/services/serving.py cut [N]                    100 connections to 1
        tests/services/serving.py silent [PEERS [WORKERS]]   2 silent peers and 2 ports: each peer takes up to 30 s
        tests/services/serving.py hostile [N]                5,000 hostile lines
        tests/services/serving.py kills [N]                  20 kills of the service among connections
+       tests/services/serving.py address                    one service at 127.0.0.2
        tests/services/serving.py soak [SECONDS [BUDGET [RECORDS]]]   20 s of all kinds of connections; with a budget of so many millionths, which ends soon, of
                                                    all owners, and room for so many records of each, which is full soon
        tests/services/serving.py [--quick]                  all of these, so short, or shorter, in less than a minute
@@ -17,6 +18,8 @@ usage: tests/services/serving.py cut [N]                    100 connections to 1
 - hostile: each line has a reply that is a named one, and where the line is refused for itself by the second reader (tools/lib/lines.py), that very one.
   Peers that reset, half-close, send over 2^24 bytes or stop in the middle of a line take nothing from those behind them. (Whole: 1,000,000.)
 - kills: the journals are journals, begin with what was there before, have each answer that came, and `audit` counts them. (Whole: 1,000.)
+- address: a service at one address of this machine is answered there, at each worker's port, and refuses who comes by another address, or by the port
+  behind the last worker's.
 - soak: the greatest memory at the end is at most 1.1 times that after a tenth of the time, or after 4 s, less 128 bytes for each record that came
   meanwhile, whose room is asked for at the start and used as they come: none where the budget has ended. It is judged from
   60 s on, since a service that is new grows for a while. (Whole: 600.)
@@ -28,6 +31,7 @@ import hashlib
 import os
 import random
 import shutil
+import socket
 import sys
 import tempfile
 import threading
@@ -36,7 +40,7 @@ from collections import Counter
 
 sys.path.insert(0, f"{os.path.dirname(os.path.abspath(__file__))}/../lib")
 import places  # noqa: E402,F401
-from served import AMPLE, ANALYSTS, Caller, Room, Service, Wrong, need_program, place
+from served import AMPLE, ANALYSTS, Caller, Room, Service, Wrong, free_ports, need_program, place
 from journal import Refused
 from lines import LINE_LIMIT, Line
 from meanings import meaning
@@ -415,8 +419,40 @@ def soak(rng, seconds, budget, capacity):
 
 
 # Each with its usual numbers, and those of the quick form.
+# Where a service listens.
+
+
+def listens_at(addr, port):
+    """Whether somebody listens there, by the system."""
+    try:
+        socket.create_connection((addr, port), timeout=10).close()
+        return True
+    except ConnectionRefusedError:
+        return False
+
+
+def address(rng):
+    with tempfile.TemporaryDirectory(dir=place()) as folder:
+        room, workers = Room(folder), 3
+        port = free_ports(workers + 1)
+        with Service(room, workers, port=port, addr="127.0.0.2"):
+            for worker in range(workers + 1):
+                if listens_at("127.0.0.1", port + worker):
+                    raise Wrong(f"a service at 127.0.0.2 listens at 127.0.0.1, port {worker} of it")
+                if listens_at("127.0.0.2", port + worker) != (worker < workers):
+                    raise Wrong(f"port {worker} of a service of {workers} workers at 127.0.0.2")
+            for worker in range(workers):
+                with socket.create_connection(("127.0.0.2", port + worker), timeout=60) as link:
+                    link.sendall(b"hello ann\nbye\n")
+                    said = b"".join(iter(lambda: link.recv(4096), b""))
+                if said != b"hello ann\nbye\n":
+                    raise Wrong(f"a service at 127.0.0.2 told {said!r}")
+    print(f"address: {workers} workers at 127.0.0.2, each at its own port, and nobody at 127.0.0.1")
+
+
 KINDS = {
     "cut": (cuts, [100], [40]), "silent": (silent, [2, 2], [1, 1]), "hostile": (hostile, [5000], [3000]), "kills": (kills, [20], [4]),
+    "address": (address, [], []),
     "soak": (soak, [20, AMPLE, 2**18], [8, AMPLE, 2**18]),
 }  # fmt: skip
 

@@ -9,6 +9,8 @@ A journal is one process's at a time. Whatever the other one does:
 - no number is told twice, each answer that was told is settled with its value (by a second reader, tools/journal.py), and what is spent is
   the sum of what the answers say that they took; each grant of 1 that was told made a budget of its own, and the budget is the greatest of them;
 - beside a `serve` that listens every other one ends with 6, the connection's asks are answered, and at its end, or behind a kill, the folder is free;
+- where a copy is moved over a `serve`'s journal, or its folder is moved away and an `init` makes another, the service's next ask is told 52 and the one
+  behind 42, and nothing is written to the file that it holds: of a service and a `run` over the copy, the `run` alone gives the next number;
 - `audit` then counts what is there, in the very words: a process that has ended, or was killed, has left no lock.
 
 The files are for their owner alone to read and write, and the folder for nobody else to look into. It ends with status 1 at the first
@@ -161,6 +163,52 @@ class Trial:
             check((service.returncode, said) == ((-9, "") if turn % 2 else (0, "")), f"the service ended with {service.returncode} and {said}")
             self.look()
 
+    def hear(self, link, lines, many):
+        """So many replies to these lines over a connection."""
+        link.sendall(lines)
+        told = b""
+        while told.count(b"\n") < many:
+            piece = link.recv(65_536)
+            check(piece, f"the connection ended behind {told[-50:]}")
+            told += piece
+        return told.decode().splitlines()
+
+    def another_file_in_its_place(self, away):
+        """A copy of the journal is moved over it beside a service that holds it, or its folder is moved away."""
+        self.afresh()
+        check(self.ended("init", self.begin("init")) == "done", "init wasn't done")
+        service = self.begin("serve")
+        port = int(service.args[service.args.index("--port") + 1])
+        while not is_listened_at(port):
+            check(service.poll() is None, "a service ended")
+            time.sleep(0.005)
+        ask = b"ask census 1 size people\n"
+        with socket.create_connection(("127.0.0.1", port), timeout=60) as link:
+            told = self.hear(link, b"hello ann\n" + ask, 2)
+            check(told[1].startswith("answer 0 "), f"a service told {told}")
+            if away:
+                os.rename("journals", "away")
+                held = "away/0.bud"
+                check(self.ended("init", self.begin("init")) == "done", "init wasn't done where no folder is")
+            else:
+                shutil.copyfile("journals/0.bud", "copy")
+                held = "held"
+                os.link("journals/0.bud", held)
+                os.rename("copy", "journals/0.bud")
+            before = contents(held)
+            run = self.begin("run").communicate()[0].splitlines()
+            numbers = [line.split()[1] for line in run if line.startswith("answer ")]
+            check(numbers[:1] == ["0" if away else "1"] and len(numbers) == ASKS, f"a run told {run[:3]}")
+            told = self.hear(link, ask + ask + b"left census\nbye\n", 4)
+            check(told[:2] == ["no 52", "no 42 1"] and told[2].endswith(" 2"), f"a service whose journal was replaced told {told}")
+            check(contents(held) == before, "a service wrote to a journal that isn't in its place")
+        said = service.communicate(timeout=60)[0]
+        check((service.returncode, said) == (0, ""), f"the service ended with {service.returncode} and {said}")
+        shutil.rmtree("away", ignore_errors=True)
+        if not away:
+            os.remove(held)
+        self.came["serve", "the folder was moved away" if away else "a copy was moved over the journal"] += 1
+
     def kills(self, count):
         """A killed process leaves no lock."""
         for _ in range(count):
@@ -184,6 +232,9 @@ def main():
             trial.kills(count)
             trial.afresh()
             trial.beside_a_service(count)
+            for _ in range(count):
+                trial.another_file_in_its_place(False)
+                trial.another_file_in_its_place(True)
         except (Wrong, Refused) as fault:
             sys.exit(f"seed {seed}: {fault}")
         finally:

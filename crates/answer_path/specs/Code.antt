@@ -2,6 +2,7 @@
 use Rattle.std.specs.Prelude.{◌≡◌, ◌<◌, ◌≤◌, ℕ, ℤ, List, length, ⊤}
 use Rattle.partition_charge.specs.declared.view.View.{View}
 use Rattle.budget_core.specs.Entries.{Entry, HasView, IsEpsilon}
+use Rattle.sha2.specs.Sha256.{sha256}
 use Rattle.fz_frac.specs.Sens.{distance_of}
 use Rattle.fz_ast.specs.Signature.{Signature}
 use Rattle.fz_ast.specs.Terms.{Term}
@@ -31,6 +32,7 @@ use Rattle.answer_path.specs.Query.{Query}
 use Rattle.answer_path.specs.Demand.{Demand, asks, recalls, balances}
 use Rattle.answer_path.specs.declared.program.Accepted.{Accepted}
 use Rattle.answer_path.specs.declared.program.Judged.{Judged}
+use Rattle.answer_path.specs.declared.deciding.Decided.{Decided}
 use Rattle.answer_path.specs.declared.query.Query.{Query as QueryAt}
 use Rattle.answer_path.specs.declared.demand.Demand.{Demand as DemandAt}
 use Rattle.answer_path.specs.declared.demand.Demand.TheVariants.{Asks, Recalls, Balances}
@@ -56,6 +58,12 @@ pub record IsJudged (ts : Signature) (e : Term) (judged : Judged) : Type 0 where
   pub checked : IsChecked ts e judged.checked
   pub planned : IsPlanOf ts e judged.plan
   pub accepts : judgement_of ts (read e) ≡ accepted e (distance_of judged.checked.sens)
+
+-- The program is the term that was judged over these tables, and this is the SHA-256 of its bytes.
+pub record IsDecided (ts : Signature) (program : List ℕ) (decided : Decided) : Type 0 where
+  pub reads : IsReading program (read decided.judged.checked.term.now)
+  pub judged : IsJudged ts decided.judged.checked.term.now decided.judged
+  pub digest : decided.digest ≡ sha256 program
 
 -- the term was judged over the tables of a view of this holding
 abbrev pub IsJudgedIn : Holding → View → Judged → Type 0

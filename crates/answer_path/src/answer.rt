@@ -25,8 +25,9 @@ ghost use Rattle.answer_path.specs.Turn.{IsTurn, book_refusal, disk_refusal, set
 ghost use Rattle.answer_path.specs.Code.{AsksTooManyWalks, IsJudgedIn, IsQueryOf, IsWorth, query_of};
 ghost use Rattle.answer_path.specs.Demand.{asks};
 
+use crate::deciding::decide;
 use crate::last_program::LastProgram;
-use crate::program::{Judged, judge};
+use crate::program::Judged;
 use crate::query::Query;
 use budget_core::entry::{Ask, Grant, ReserveFault};
 use budget_ledger::book::{AppendFault, BookFault};
@@ -223,7 +224,7 @@ fn settle<'a, R: Wait, D: Disk>(
 }
 
 /// Answers a query whose program, of this SHA-256, is judged: the budget is asked, the noise is drawn, the program is run, and the
-/// reservation is settled.
+/// reservation is settled. It has the rows, and says nothing that is said before the budget is asked.
 fn answer_judged<'a, R: Wait, D: Disk, S: Streams>(
     rt: &R,
     alloc: Global,
@@ -258,9 +259,9 @@ fn answer_judged<'a, R: Wait, D: Disk, S: Streams>(
     }
 }
 
-/// Answers a query of the owner of this number: the program is read, unless it is the last one, and judged over the tables of the
-/// query's view, the budget is asked, the noise is drawn, the program is run on the view's rows, and the reservation is settled.
-/// Want of memory is said before a reservation, and an answer is lost after it.
+/// Answers a query of the owner of this number: its program is judged without rows, and what that says is told; or else the budget
+/// is asked, the noise is drawn, the program is run on the view's rows, and the reservation is settled.
+/// Out of memory is said before a reservation, and an answer is lost after it.
 pub fn ask<'d, R: Wait, D: Disk, S: Streams>(
     rt: &R,
     alloc: Global,
@@ -299,18 +300,14 @@ pub fn ask<'d, R: Wait, D: Disk, S: Streams>(
     // An answer is within 2^50 + 2^33 in absolute value.
     ensures fits { HasSmallAnswer (replied result) }
 {
-    let program = match last.recall_or_read(alloc, query.program) {
-        Ok(program) => program,
-        Err(refusal) => return Reply::Refused(refusal),
-    };
-    match judge(alloc, dataset.sig(query.view), program.term()) {
-        Ok(judged) => answer_judged(
+    match decide(alloc, last, dataset.sig(query.view), query.program) {
+        Ok(decided) => answer_judged(
             rt,
             alloc,
             desk,
             pass,
-            &judged,
-            program.digest(),
+            &decided.judged,
+            decided.digest,
             dataset,
             streams,
             owner,

@@ -2,6 +2,7 @@
 #![tactic(auto)]
 
 mod answer;
+mod deciding;
 pub mod demand;
 pub mod last_program;
 mod laws;

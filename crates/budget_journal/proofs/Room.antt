@@ -148,3 +148,8 @@ pub told-no-room : (mark : Mark) (next : Record) (old new : Option Trace) → Wh
 told-no-room mark next = told-weaker (RoomNotMade mark) (AppendFailed mark next)
     (λ t u none header records rest marked lt. passes-weaker (Stands header records) (IsBeforeOrAfter header records next) t u
     (λ c stands. inl stands) (none header records rest marked lt))
+
+pub told-nothing : (mark : Mark) (next : Record) (told : Option Trace) → WhereTold (AppendFailed mark next) told told
+told-nothing mark next = told-none (AppendFailed mark next)
+    (λ t header records rest marked lt. passes-weaker (Stands header records) (IsBeforeOrAfter header records next) t t (λ c stands. inl stands)
+    (rest-passes header records t rest))

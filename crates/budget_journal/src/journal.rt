@@ -56,6 +56,19 @@ fn fill_slot<D: Disk>(disk: &mut D, place: u64, record_in: &Record) -> Result<()
     put_stable(disk, place, &[GATE])
 }
 
+// Whether a record may be written: one that takes money or grants some only where the disk's bytes are still those that whoever opens it
+// now would find. A settlement belongs to a reservation that was written so.
+fn look<D: Disk>(disk: &mut D, record_in: &Record) -> Result<(), Failed>
+    ensures same { D.trace disk.new ≡ D.trace disk.old }
+    ensures cause { HasCause (D.faults disk.old) (D.faults disk.new) (IsErr result) }
+    ensures passed { OnOk result (D.faults disk.new ≡ D.faults disk.old) }
+{
+    match record_in {
+        Record::Reserve(_) | Record::Grant(_) => disk.is_in_place(),
+        Record::Settle(_) => Ok(()),
+    }
+}
+
 // Adds a record behind so many, in this live area or in the next one. Gives the live area.
 fn add_record<D: Disk>(
     disk: &mut D,
@@ -74,6 +87,7 @@ fn add_record<D: Disk>(
     ensures cause { HasCause (D.faults disk.old) (D.faults disk.new) (IsErr result) }
     ensures passed { OnOk result (D.faults disk.new ≡ D.faults disk.old) }
 {
+    look(disk, record_in)?;
     let area = make_room(disk, live, used)?;
     fill_slot(disk, area.place(used), record_in)?;
     Ok(area)

@@ -223,7 +223,7 @@ fn is_closed_and_empty<D: Disk>(book: &Book<D>) -> bool {
 fn the_second_sync_fails(rt: HostRuntime) {
     let alloc = rt.alloc();
     let disk = made(alloc, 100).expect(&rt, "a journal");
-    let mut book = opened(alloc, BlipDisk::new(disk, 68), 100)
+    let mut book = opened(alloc, BlipDisk::new(disk, 69), 100)
         .ok()
         .expect(&rt, "a book");
     for fault in &SYNC_FAULTS {
@@ -233,15 +233,16 @@ fn the_second_sync_fails(rt: HostRuntime) {
 }
 
 // A call, and what an analyst is told of the reservation after a fault or a stop there.
-const STANDINGS: [(u64, Recall); 8] = [
+const STANDINGS: [(u64, Recall); 9] = [
     (67, Recall::Unknown { seen: 0 }),
     (68, Recall::Unknown { seen: 0 }),
     (69, Recall::Unknown { seen: 0 }),
-    (70, Recall::Lost { seen: 1 }),
+    (70, Recall::Unknown { seen: 0 }),
     (71, Recall::Lost { seen: 1 }),
     (72, Recall::Lost { seen: 1 }),
     (73, Recall::Lost { seen: 1 }),
-    (74, Recall::Answer { value: 5, seen: 2 }),
+    (74, Recall::Lost { seen: 1 }),
+    (75, Recall::Answer { value: 5, seen: 2 }),
 ];
 
 /// The disk that a fault at this call leaves, where a stop there leaves the same bytes.
@@ -322,7 +323,7 @@ const FULL: GrantRefusal = GrantRefusal::Full {
 fn grants_that_fail(rt: HostRuntime) {
     let alloc = rt.alloc();
     let disk = made(alloc, 100).expect(&rt, "a journal");
-    let mut book = opened(alloc, BlipDisk::new(disk, 68), 100)
+    let mut book = opened(alloc, BlipDisk::new(disk, 67), 100)
         .ok()
         .expect(&rt, "a book");
     let failed = book.grant(5);

@@ -1,16 +1,17 @@
 //! Clerks who note on one sheet, each in a thread of its own.
 
-ghost use Rattle.std.specs.Prelude.{◌≡◌, ◌++◌, ◌∷◌, ◌+◌, ◌<◌, ◌^◌, [], true, IfNone, IfSome};
+ghost use Rattle.std.specs.Prelude.{◌≡◌, ◌++◌, ◌∷◌, ◌+◌, ◌<◌, ◌≤◌, ◌^◌, [], true, IfNone, IfSome};
 ghost use Rattle.std.specs.Thread.{IsSync};
 ghost use Rattle.owner_lock.specs.Passes.{IsPassOf, IsSameLock, known};
 
 use crate::sheets::{Note, Sheet};
 use owner_lock::{Owned, Pass};
+use std::hint;
 use std::sync::Wait;
 use std::thread::{Threads, join_mut};
 
 /// How often each clerk notes.
-pub const NOTES: u32 = 500;
+pub const NOTES: u32 = 200;
 
 /// Notes once, and keeps the sheet for some turns. The note is the pass's own, at the place that is told.
 pub fn note<W: Wait>(
@@ -40,6 +41,13 @@ pub fn shut<W: Wait>(rt: &W, lock: &Owned<Sheet>, pass: &mut Pass<Sheet>)
     lock.with(rt, pass, |sheet: &mut Sheet| sheet.close())
 }
 
+// Does something else for some turns.
+fn rest(turns: u32) {
+    for _ in 0..turns {
+        hint::spin_loop();
+    }
+}
+
 fn note_all<W: Wait>(rt: &W, lock: &Owned<Sheet>, pass: &mut Pass<Sheet>, clerk: u32, turns: u32)
     requires here { IsPassOf lock.now pass.old }
     ensures here { IsSameLock pass.old pass.new }
@@ -47,67 +55,46 @@ fn note_all<W: Wait>(rt: &W, lock: &Owned<Sheet>, pass: &mut Pass<Sheet>, clerk:
 {
     for number in 0..NOTES {
         note(rt, lock, pass, Note { clerk, number }, turns);
+        rest(turns);
     }
 }
 
-// Two clerks, in two threads.
-fn by_two<R: Threads + Wait + Sync>(
+/// So many clerks, each in a thread of its own, of whom the first has this number. The pass is given out in halves, and taken in again.
+pub fn by_many<R: Threads + Wait + Sync>(
     rt: &R,
     lock: &Owned<Sheet>,
-    one: &mut Pass<Sheet>,
-    other: &mut Pass<Sheet>,
+    pass: &mut Pass<Sheet>,
     clerk: u32,
+    count: u32,
     turns: u32,
 )
-    requires here { IsPassOf lock.now one.old × IsPassOf lock.now other.old }
-    requires clerks { clerk + 1 < 2 ^ 32 }
-    ensures here { IsSameLock one.old one.new × IsSameLock other.old other.new }
-    ensures share { ((known one.new).share ≡ (known one.old).share) × ((known other.new).share ≡ (known other.old).share) }
+    requires here { IsPassOf lock.now pass.old }
+    requires share { count ≤ (known pass.old).share }
+    requires clerks { clerk + count < 2 ^ 32 }
+    ensures here { IsSameLock pass.old pass.new }
+    ensures share { (known pass.new).share ≡ (known pass.old).share }
 {
-    let next = clerk + 1;
+    if count < 2 {
+        note_all(rt, lock, pass, clerk, turns);
+        return;
+    }
+    let mut other = lock.split(pass);
+    let given = count / 2;
+    let kept = count - given;
+    let next = clerk + kept;
+    let half = &mut other;
     join_mut(
         rt,
         &mut ||
-            requires { IsSync R.row × IsPassOf lock.now one.now }
-            ensures here { IsSameLock one.entry.now one.exit.now }
-            ensures share { (known one.exit.now).share ≡ (known one.entry.now).share }
-        { note_all(rt, lock, one, clerk, turns) },
+            requires { IsSync R.row × IsPassOf lock.now pass.now × (kept ≤ (known pass.now).share) × (clerk + kept < 2 ^ 32) }
+            ensures here { IsSameLock pass.entry.now pass.exit.now }
+            ensures share { (known pass.exit.now).share ≡ (known pass.entry.now).share }
+        { by_many(rt, lock, pass, clerk, kept, turns) },
         &mut ||
-            requires { IsSync R.row × IsPassOf lock.now other.now }
-            ensures here { IsSameLock other.entry.now other.exit.now }
-            ensures share { (known other.exit.now).share ≡ (known other.entry.now).share }
-        { note_all(rt, lock, other, next, turns) },
+            requires { IsSync R.row × IsPassOf lock.now half.now × (given ≤ (known half.now).share) × (next + given < 2 ^ 32) }
+            ensures here { IsSameLock half.entry.now half.exit.now }
+            ensures share { (known half.exit.now).share ≡ (known half.entry.now).share }
+        { by_many(rt, lock, half, next, given, turns) },
     );
-}
-
-/// Four clerks, in four threads.
-pub fn by_four<R: Threads + Wait + Sync>(
-    rt: &R,
-    lock: &Owned<Sheet>,
-    first: &mut Pass<Sheet>,
-    second: &mut Pass<Sheet>,
-    third: &mut Pass<Sheet>,
-    fourth: &mut Pass<Sheet>,
-    turns: u32,
-)
-    requires left { IsPassOf lock.now first.old × IsPassOf lock.now second.old }
-    requires right { IsPassOf lock.now third.old × IsPassOf lock.now fourth.old }
-    ensures left { IsSameLock first.old first.new × IsSameLock second.old second.new }
-    ensures right { IsSameLock third.old third.new × IsSameLock fourth.old fourth.new }
-    ensures left_share { ((known first.new).share ≡ (known first.old).share) × ((known second.new).share ≡ (known second.old).share) }
-    ensures right_share { ((known third.new).share ≡ (known third.old).share) × ((known fourth.new).share ≡ (known fourth.old).share) }
-{
-    join_mut(
-        rt,
-        &mut ||
-            requires { IsSync R.row × IsPassOf lock.now first.now × IsPassOf lock.now second.now }
-            ensures here { IsSameLock first.entry.now first.exit.now × IsSameLock second.entry.now second.exit.now }
-            ensures share { ((known first.exit.now).share ≡ (known first.entry.now).share) × ((known second.exit.now).share ≡ (known second.entry.now).share) }
-        { by_two(rt, lock, first, second, 0, turns) },
-        &mut ||
-            requires { IsSync R.row × IsPassOf lock.now third.now × IsPassOf lock.now fourth.now }
-            ensures here { IsSameLock third.entry.now third.exit.now × IsSameLock fourth.entry.now fourth.exit.now }
-            ensures share { ((known third.exit.now).share ≡ (known third.entry.now).share) × ((known fourth.exit.now).share ≡ (known fourth.entry.now).share) }
-        { by_two(rt, lock, third, fourth, 2, turns) },
-    );
+    lock.join(pass, other);
 }

@@ -195,7 +195,7 @@ fn a_budget_is_one_for_all(rt: HostRuntime) -> Result<(), Fail> {
     Ok(())
 }
 
-// One append of somebody's fails, at call 500, each record taking four: the book is shut for all from then on, and nothing is added behind it.
+// One append of somebody's fails, at call 500, each record taking four or five: the book is shut for all from then on, and nothing is added behind it.
 #[test]
 fn a_fault_shuts_the_book_for_all(rt: HostRuntime) -> Result<(), Fail> {
     let disk = made(rt.alloc()).ok_or("a journal")?;

@@ -1,12 +1,17 @@
 //! Locks that several threads share.
 
-use crate::clerks::{NOTES, by_four, note, shut};
+ghost use Rattle.std.specs.Prelude.{◌<◌, ◌^◌};
+
+use crate::clerks::{NOTES, by_many, note, shut};
 use crate::sheets::{Note, Sheet};
 use owner_lock::{NoMemory, Owned};
 use std::alloc::Global;
 use std::sync::Wait;
 use std::test::*;
 use std::thread::Threads;
+
+// How often sixteen clerks fill a sheet.
+const ROUNDS: u32 = 20;
 
 fn sheet(alloc: Global, room: u64) -> Sheet {
     Sheet {
@@ -16,30 +21,19 @@ fn sheet(alloc: Global, room: u64) -> Sheet {
     }
 }
 
-// Four clerks in four threads fill a sheet, whose passes are then joined.
-fn filled_by_four<R: Threads + Wait + Sync>(
+// Clerks in threads of their own fill a sheet.
+fn filled<R: Threads + Wait + Sync>(
     rt: &R,
     alloc: Global,
     room: u64,
+    clerks: u32,
     turns: u32,
-) -> Result<Sheet, NoMemory<Sheet>> {
-    let (lock, mut first) = Owned::new(alloc, sheet(alloc, room))?;
-    let mut third = lock.split(&mut first);
-    let mut second = lock.split(&mut first);
-    let mut fourth = lock.split(&mut third);
-    by_four(
-        rt,
-        &lock,
-        &mut first,
-        &mut second,
-        &mut third,
-        &mut fourth,
-        turns,
-    );
-    lock.join(&mut first, second);
-    lock.join(&mut third, fourth);
-    lock.join(&mut first, third);
-    Ok(lock.close(first))
+) -> Result<Sheet, NoMemory<Sheet>>
+    requires { clerks < 2 ^ 16 }
+{
+    let (lock, mut pass) = Owned::new(alloc, sheet(alloc, room))?;
+    by_many(rt, &lock, &mut pass, 0, clerks, turns);
+    Ok(lock.close(pass))
 }
 
 // Each clerk's notes stand in the order in which they were made, and there are so many.
@@ -57,24 +51,27 @@ fn ordered(sheet: &Sheet, clerk: u32) -> u32 {
 }
 
 #[test]
-fn four_clerks_fill_a_sheet(rt: HostRuntime) -> Result<(), Fail> {
-    let Ok(sheet) = filled_by_four(&rt, rt.alloc(), 10_000, 0) else {
+fn sixteen_clerks_fill_a_sheet(rt: HostRuntime) -> Result<(), Fail> {
+    let Ok(sheet) = filled(&rt, rt.alloc(), 10_000, 16, 0) else {
         panic!(rt; "memory")
     };
-    assert_eq!(rt; sheet.notes.len(), 2000);
-    for clerk in 0..4u32 {
+    assert_eq!(rt; sheet.notes.len(), 3200);
+    for clerk in 0..16u32 {
         assert_eq!(rt; ordered(&sheet, clerk), NOTES);
     }
     Ok(())
 }
 
-// Each keeps the sheet so long that the others stop trying, and sleep until they are woken.
+// Each keeps the sheet so long that the others stop trying, and sleep until they are woken: none sleeps for ever. Only where two begin to wait
+// at the same moment may one of them not be counted, so that this is done many times.
 #[test]
 fn a_full_sheet_takes_no_more(rt: HostRuntime) -> Result<(), Fail> {
-    let Ok(sheet) = filled_by_four(&rt, rt.alloc(), 777, 5_000) else {
-        panic!(rt; "memory")
-    };
-    assert_eq!(rt; sheet.notes.len(), 777);
+    for _ in 0..ROUNDS {
+        let Ok(sheet) = filled(&rt, rt.alloc(), 777, 16, 1_000) else {
+            panic!(rt; "memory")
+        };
+        assert_eq!(rt; sheet.notes.len(), 777);
+    }
     Ok(())
 }
 

@@ -15,7 +15,7 @@ use std::alloc::{AllocError, Global};
 
 // More than it takes to make a journal of such a capacity, to read it and to fill it. Its areas have less than three times as many slots
 // together: the last one no more, and those before it less than twice as many, since each is half of the next. A slot is written once,
-// read at most once where it is copied, and filled by four calls.
+// read at most once where it is copied, and filled by five calls at most.
 fn limits_of(capacity: u32) -> Limits
     requires { capacity ≤ 200000 }
 {

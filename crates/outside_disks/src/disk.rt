@@ -52,6 +52,13 @@ pub trait Disk {
         ensures cause { HasCause (faults self.old) (faults self.new) (IsErr result) }
         ensures passed { OnOk result (faults self.new ≡ faults self.old) };
 
+    /// Answers Ok where the bytes are still those that whoever opens the disk now would find, and not others in their place.
+    fn is_in_place(&mut self) -> Result<(), Failed>
+        ensures same { trace self.new ≡ trace self.old }
+
+        ensures cause { HasCause (faults self.old) (faults self.new) (IsErr result) }
+        ensures passed { OnOk result (faults self.new ≡ faults self.old) };
+
     /// How many calls have failed.
     fn fault_count(&self) -> u64
         ensures { result ≡ faults self.now };

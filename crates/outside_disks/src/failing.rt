@@ -120,6 +120,21 @@ impl<D: Disk> Disk for FuseDisk<D> {
         self.inner.sync()
     }
 
+    fn is_in_place(&mut self) -> Result<(), Failed>
+        ensures spent { IsSpent self.old self.new }
+        ensures blown { calls_left self.old ≡ 0 → IsErr result × (inner_of self.new ≡ inner_of self.old) }
+
+        // As of any disk.
+        ensures same { D.trace (inner_of self.new) ≡ D.trace (inner_of self.old) }
+        ensures cause { HasCause (both_counts (D.faults (inner_of self.old)) (fuse_refused self.old))
+            (both_counts (D.faults (inner_of self.new)) (fuse_refused self.new)) (IsErr result) }
+        ensures passed { OnOk result (both_counts (D.faults (inner_of self.new)) (fuse_refused self.new)
+            ≡ both_counts (D.faults (inner_of self.old)) (fuse_refused self.old)) }
+    {
+        spend(&mut self.left, &mut self.refused)?;
+        self.inner.is_in_place()
+    }
+
     fn fault_count(&self) -> u64 {
         self.inner.fault_count().saturating_add(self.refused)
     }
@@ -237,6 +252,21 @@ impl<D: Disk> Disk for BlipDisk<D> {
     {
         pass(self.failing, &mut self.calls, &mut self.refused)?;
         self.inner.sync()
+    }
+
+    fn is_in_place(&mut self) -> Result<(), Failed>
+        ensures begun { IsPassed self.old self.new }
+        ensures blip { blip_calls self.old ≡ blip_at self.old → IsErr result × (blip_inner self.new ≡ blip_inner self.old) }
+
+        // As of any disk.
+        ensures same { D.trace (blip_inner self.new) ≡ D.trace (blip_inner self.old) }
+        ensures cause { HasCause (both_counts (D.faults (blip_inner self.old)) (blip_refused self.old))
+            (both_counts (D.faults (blip_inner self.new)) (blip_refused self.new)) (IsErr result) }
+        ensures passed { OnOk result (both_counts (D.faults (blip_inner self.new)) (blip_refused self.new)
+            ≡ both_counts (D.faults (blip_inner self.old)) (blip_refused self.old)) }
+    {
+        pass(self.failing, &mut self.calls, &mut self.refused)?;
+        self.inner.is_in_place()
     }
 
     fn fault_count(&self) -> u64 {

@@ -397,6 +397,18 @@ impl Disk for MemDisk<'_> {
         }
     }
 
+    fn is_in_place(&mut self) -> Result<(), Failed>
+        ensures begun { IsBegun self.old self.new }
+        ensures refused { is_err result ≡ is_refused self.old }
+
+        // As of any disk.
+        ensures same { told self.new ≡ told self.old }
+        ensures cause { HasCause (faults_of self.old) (faults_of self.new) (IsErr result) }
+        ensures passed { OnOk result (faults_of self.new ≡ faults_of self.old) }
+    {
+        begin(&mut self.schedule, self.limits.calls)
+    }
+
     fn fault_count(&self) -> u64 {
         self.schedule.faults
     }

@@ -8,7 +8,7 @@ use crate::fault;
 use fz_outside::Failed;
 use std::alloc::{AllocError, Global};
 use std::io::ErrorKind;
-use std::os::unix::fs::{DirBuilderExt, FileExt, OpenOptionsExt};
+use std::os::unix::fs::{DirBuilderExt, FileExt, MetadataExt, OpenOptionsExt};
 use std::{fs, io, rt};
 
 /// Where a file belongs, and how often it has failed as a disk.
@@ -178,6 +178,28 @@ fn sync_whole(file: &Option<fs::File>) -> io::Result<()> {
     }
 }
 
+// Whether the place's path leads to this very file.
+fn is_at<R: rt::Files<File = fs::File>>(
+    rt: &R,
+    home: &FilePlace,
+    file: &fs::File,
+) -> io::Result<bool> {
+    let (held, found) = (file.metadata()?, fs::metadata(rt, home.path.as_str())?);
+    Ok(held.dev() == found.dev() && held.ino() == found.ino())
+}
+
+// An error where the path leads to another file or to none. No memory is taken.
+fn look<R: rt::Files<File = fs::File>>(
+    rt: &R,
+    home: &FilePlace,
+    file: &Option<fs::File>,
+) -> io::Result<()> {
+    match file {
+        Some(file) if is_at(rt, home, file)? => Ok(()),
+        _ => Err(ErrorKind::NotFound.into()),
+    }
+}
+
 fn count<T>(answer: io::Result<T>, faults: &mut u64) -> Result<T, Failed>
     ensures cause { HasCause faults.old faults.new (IsErr result) }
     ensures passed { OnOk result (faults.new ≡ faults.old) }
@@ -208,6 +230,10 @@ impl<R: rt::Files<File = fs::File>> Disk for FileDisk<'_, R> {
 
     fn sync(&mut self) -> Result<(), Failed> {
         count(sync_whole(&self.file), &mut self.home.faults)
+    }
+
+    fn is_in_place(&mut self) -> Result<(), Failed> {
+        count(look(self.rt, &self.home, &self.file), &mut self.home.faults)
     }
 
     fn fault_count(&self) -> u64 {

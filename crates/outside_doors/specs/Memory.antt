@@ -1,5 +1,5 @@
 -- What a door in memory shows of its connections, and when its next connection comes.
-use Rattle.std.specs.Prelude.{ℕ, List, Option, None, Some, Bool, true, false, ◌||◌, length, ◌==◌}
+use Rattle.std.specs.Prelude.{ℕ, List, take, Option, None, Some, Bool, true, false, ◌||◌, length, ◌==◌}
 use Rattle.fz_outside.specs.declared.flaky.Schedule.{Schedule}
 use Rattle.fz_outside.specs.Schedule.{is_listed}
 use Rattle.outside_links.specs.Links.{Connection, shown}
@@ -17,6 +17,10 @@ schedule_of doors = doors.schedule
 -- the port at which it listens
 abbrev pub port_of : MemDoors → Option ℕ
 port_of doors = doors.port
+
+-- the address at which it listens, or nothing
+abbrev pub address_of : MemDoors → List ℕ
+address_of doors = take doors.size doors.addr
 
 -- its connections that are still to come
 abbrev pub coming_to : MemDoors → List MemLink

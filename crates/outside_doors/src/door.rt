@@ -21,11 +21,15 @@ pub trait Doors {
     // Some connection that came wasn't handed back yet.
     ghost is_out: { Self → Type 0 };
 
+    // It listens at this port of this address, where that is told.
+    ghost listens: { Self → List ℕ → ℕ → Type 0 };
+
     // How many calls have failed.
     ghost faults: { Self → ℕ };
 
     /// From now on connections come by this port of this address.
     fn listen(&mut self, addr: &str, port: u16) -> Result<(), Failed>
+        ensures there { OnOk result (listens self.new addr.now port) }
         ensures coming { coming self.new ≡ coming self.old }
         ensures served { served self.new ≡ served self.old }
         ensures out { is_out self.old → is_out self.new }
@@ -41,6 +45,7 @@ pub trait Doors {
         ensures err { OnErr result (coming self.new ≡ coming self.old) }
         ensures served { served self.new ≡ served self.old }
         ensures out { is_out self.old → is_out self.new }
+        ensures there { (addr : List ℕ) (port : ℕ) → listens self.old addr port → listens self.new addr port }
 
         ensures cause { HasCause (faults self.old) (faults self.new) (IsErr result) }
         ensures passed { OnOk result (faults self.new ≡ faults self.old) };
@@ -51,5 +56,6 @@ pub trait Doors {
 
         ensures served { HasServed (served self.old) (shown (Self.L.left link) (Self.L.written link) (Self.L.faults link)) (served self.new) }
         ensures coming { coming self.new ≡ coming self.old }
+        ensures there { (addr : List ℕ) (port : ℕ) → listens self.old addr port → listens self.new addr port }
         ensures passed { faults self.new ≡ faults self.old };
 }

@@ -222,6 +222,8 @@ impl<'a, R: Net<Listener = TcpListener, Stream = TcpStream> + Clock> Doors for R
 
     ghost is_out = { λ _. ⊤ };
 
+    ghost listens = { λ _ _ _. ⊤ };
+
     ghost faults = { λ doors. doors.faults };
 
     fn listen(&mut self, addr: &str, port: u16) -> Result<(), Failed> {

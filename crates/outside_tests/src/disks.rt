@@ -95,7 +95,8 @@ fn has<D: Disk>(disk: &mut D, length: u64, bytes: &[u8; 6]) -> bool {
         && buf == *bytes
 }
 
-// A file as a disk: nothing is made before the first write, and zeros stand past the end. It is found again.
+// A file as a disk: nothing is made before the first write, and zeros stand past the end. It is found again, and it is in its place while
+// the path leads to it, and not to a copy or nowhere.
 #[test]
 fn a_file_of_the_system(rt: HostRuntime) -> Result<(), Fail> {
     let home = FilePlace::new(rt.alloc(), "outside_disks_test", "file")?;
@@ -111,6 +112,13 @@ fn a_file_of_the_system(rt: HostRuntime) -> Result<(), Fail> {
     let mut found = FileDisk::new(&rt, home, file);
     assert!(rt; has(&mut found, 4, b"\0\0\0x\0\0"));
     assert!(rt; found.fault_count() == 0);
+    assert!(rt; found.is_in_place() == Ok(()));
+    fs::rename(&rt, "outside_disks_test/file", "outside_disks_test/moved")?;
+    assert!(rt; found.is_in_place() == Err(Failed));
+    let _ = fs::copy(&rt, "outside_disks_test/moved", "outside_disks_test/file")?;
+    assert!(rt; found.is_in_place() == Err(Failed));
+    fs::rename(&rt, "outside_disks_test/moved", "outside_disks_test/file")?;
+    assert!(rt; found.is_in_place() == Ok(()) && found.fault_count() == 2);
     fs::remove_dir_all(&rt, "outside_disks_test")?;
     Ok(())
 }

@@ -18,9 +18,9 @@ fn each_call_once(rt: HostRuntime) -> Result<(), Fail> {
     let mut doors = MemDoors::new(rt.alloc(), coming, &[0])?;
     assert!(rt; doors.listen("here", 7) == Err(Failed));
     assert!(rt; doors.next().is_err());
-    assert!(rt; doors.port().is_none());
+    assert!(rt; doors.port().is_none() && doors.addr().is_empty());
     assert!(rt; doors.listen("here", 8) == Ok(()));
-    assert!(rt; doors.port() == Some(8));
+    assert!(rt; doors.port() == Some(8) && doors.addr() == b"here".as_slice());
     let first = doors.next()?;
     doors.done(first);
     let mut second = doors.next()?;

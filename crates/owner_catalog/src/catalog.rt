@@ -2,11 +2,11 @@
 ghost use Rattle.std.specs.Prelude.{◌≡◌, ◌<◌, ◌≤◌, [], length, map, get_or, position, bytes_eq, IfOk, true};
 ghost use Rattle.std.specs.List.{All, IsDistinct};
 ghost use Rattle.fz_ast.specs.Types.{WellFormed, formed, is_flat};
-ghost use Rattle.table_store.specs.Schema.{row_of_schema};
+ghost use Rattle.table_store.specs.Schema.{most_columns, row_of_schema};
 ghost use Rattle.partition_charge.specs.Views.{part_limit, partition_limit};
 ghost use Rattle.owner_catalog.specs.Limits.{table_limit};
 ghost use Rattle.owner_catalog.specs.Entries.{owner_entry_at, table_entry_at, partition_entry_at, owner_signature, table_name, table_type_of};
-ghost use Rattle.owner_catalog.specs.Lawful.{IsCatalog, IsTableEntry};
+ghost use Rattle.owner_catalog.specs.Lawful.{IsCatalog, IsOwner, IsPartition, IsTableEntry};
 
 use crate::list::Listed;
 use crate::named::{Label, Named, find};
@@ -129,6 +129,36 @@ impl Model for Catalog {
 }
 
 impl Catalog {
+    // The owner of this number.
+    fn owner_at(&self, o: u32) -> &Owner
+        requires { o < length self.now.owners }
+        ensures owner { result.now ≡ owner_entry_at self.now o }
+        ensures lawful { IsOwner result.now }
+    {
+        &self.owners[o as usize]
+    }
+
+    // The owner's table of this number.
+    fn table_at(&self, o: u32, t: u8) -> &Table
+        requires owner { o < length self.now.owners }
+        requires table { t < length (owner_entry_at self.now o).tables }
+        ensures { result.now ≡ table_entry_at self.now o t }
+    {
+        &self.owner_at(o).tables[t as usize]
+    }
+
+    // The owner's partition of this number.
+    fn partition_at(&self, o: u32, p: u8) -> &Partition
+        requires owner { o < length self.now.owners }
+        requires partition { p < length (owner_entry_at self.now o).partitions }
+        ensures partition { result.now ≡ partition_entry_at self.now o p }
+        ensures lawful { IsPartition (owner_entry_at self.now o).tables result.now }
+        ensures table { result.now.table < table_limit }
+        ensures column { result.now.column < most_columns }
+    {
+        &self.owner_at(o).partitions[p as usize]
+    }
+
     /// How many analysts there are.
     pub fn analysts(&self) -> usize
         ensures { result ≡ length self.now.analysts }
@@ -149,7 +179,7 @@ impl Catalog {
         requires { o < length self.now.owners }
         ensures { result.now ≡ (owner_entry_at self.now o).name }
     {
-        self.owners[o as usize].name.as_str()
+        self.owner_at(o).name.as_str()
     }
 
     /// The budget of an owner, in millionths.
@@ -157,7 +187,7 @@ impl Catalog {
         requires { o < length self.now.owners }
         ensures { result ≡ (owner_entry_at self.now o).budget }
     {
-        self.owners[o as usize].budget
+        self.owner_at(o).budget
     }
 
     /// How many records an owner has room for.
@@ -165,7 +195,7 @@ impl Catalog {
         requires { o < length self.now.owners }
         ensures { result ≡ (owner_entry_at self.now o).capacity }
     {
-        self.owners[o as usize].capacity
+        self.owner_at(o).capacity
     }
 
     /// The compact JSON text of the list of analysts.
@@ -180,7 +210,7 @@ impl Catalog {
         requires { o < length self.now.owners }
         ensures { result.now ≡ (owner_entry_at self.now o).text }
     {
-        self.owners[o as usize].text.as_str()
+        self.owner_at(o).text.as_str()
     }
 
     /// How many tables an owner has.
@@ -189,7 +219,7 @@ impl Catalog {
         ensures tables { result ≡ length (owner_entry_at self.now o).tables }
         ensures few { result ≤ table_limit }
     {
-        self.owners[o as usize].tables.len()
+        self.owner_at(o).tables.len()
     }
 
     /// How many partitions an owner has.
@@ -198,7 +228,7 @@ impl Catalog {
         ensures partitions { result ≡ length (owner_entry_at self.now o).partitions }
         ensures few { result ≤ partition_limit }
     {
-        self.owners[o as usize].partitions.len()
+        self.owner_at(o).partitions.len()
     }
 
     /// How many keys a partition has.
@@ -209,8 +239,7 @@ impl Catalog {
         ensures some { 1 ≤ result }
         ensures few { result ≤ part_limit }
     {
-        let partition = &self.owners[o as usize].partitions[p as usize];
-        partition.keys.items.len()
+        self.partition_at(o, p).keys.items.len()
     }
 
     /// The name of a partition.
@@ -219,7 +248,7 @@ impl Catalog {
         requires partition { p < length (owner_entry_at self.now o).partitions }
         ensures { result.now ≡ (partition_entry_at self.now o p).name }
     {
-        self.owners[o as usize].partitions[p as usize].name.as_str()
+        self.partition_at(o, p).name.as_str()
     }
 
     /// The table that a partition is of, by its number.
@@ -229,7 +258,7 @@ impl Catalog {
         ensures table { result ≡ (partition_entry_at self.now o p).table }
         ensures there { result < length (owner_entry_at self.now o).tables }
     {
-        self.owners[o as usize].partitions[p as usize].table as u8
+        self.partition_at(o, p).table as u8
     }
 
     /// The text column that a partition goes by, by its number in the table.
@@ -238,9 +267,7 @@ impl Catalog {
         requires partition { p < length (owner_entry_at self.now o).partitions }
         ensures { result ≡ (partition_entry_at self.now o p).column }
     {
-        let owner: &Owner = &self.owners[o as usize];
-        let partition: &Partition = &owner.partitions[p as usize];
-        partition.column as u8
+        self.partition_at(o, p).column as u8
     }
 
     /// A key of a partition.
@@ -250,7 +277,7 @@ impl Catalog {
         requires key { j < length (partition_entry_at self.now o p).keys }
         ensures { result.now ≡ get_or (partition_entry_at self.now o p).keys j [] }
     {
-        self.owners[o as usize].partitions[p as usize].keys.items[j as usize].name()
+        self.partition_at(o, p).keys.items[j as usize].name()
     }
 
     /// The name of a table.
@@ -259,7 +286,7 @@ impl Catalog {
         requires table { t < length (owner_entry_at self.now o).tables }
         ensures { result.now ≡ (table_entry_at self.now o t).name }
     {
-        self.owners[o as usize].tables[t as usize].name.as_str()
+        self.table_at(o, t).name.as_str()
     }
 
     /// The name of a table's file.
@@ -268,7 +295,7 @@ impl Catalog {
         requires table { t < length (owner_entry_at self.now o).tables }
         ensures { result.now ≡ (table_entry_at self.now o t).file }
     {
-        self.owners[o as usize].tables[t as usize].file.as_str()
+        self.table_at(o, t).file.as_str()
     }
 
     /// The columns of a table.
@@ -277,7 +304,7 @@ impl Catalog {
         requires table { t < length (owner_entry_at self.now o).tables }
         ensures { result.now ≡ (table_entry_at self.now o t).columns }
     {
-        &self.owners[o as usize].tables[t as usize].schema
+        &self.table_at(o, t).schema
     }
 
     /// The number of the owner of this name, if there is one.
@@ -299,7 +326,7 @@ impl Catalog {
         requires { o < length self.now.owners }
         ensures { result ≡ position (λ table. bytes_eq name.now table.name) (owner_entry_at self.now o).tables }
     {
-        find(&self.owners[o as usize].tables, name).map(|t| t as u8)
+        find(&self.owner_at(o).tables, name).map(|t| t as u8)
     }
 
     /// The number of the owner's partition of this name, if there is one.
@@ -307,7 +334,7 @@ impl Catalog {
         requires { o < length self.now.owners }
         ensures { result ≡ position (λ partition. bytes_eq name.now partition.name) (owner_entry_at self.now o).partitions }
     {
-        find(&self.owners[o as usize].partitions, name).map(|p| p as u8)
+        find(&self.owner_at(o).partitions, name).map(|p| p as u8)
     }
 
     /// The number of this key of a partition, if it is one.
@@ -316,7 +343,7 @@ impl Catalog {
         requires partition { p < length (owner_entry_at self.now o).partitions }
         ensures { result ≡ position (λ each. bytes_eq key.now each) (partition_entry_at self.now o p).keys }
     {
-        let partition = &self.owners[o as usize].partitions[p as usize];
+        let partition = self.partition_at(o, p);
         partition.keys.names.number(key).map(|k| k as u16)
     }
 
@@ -325,7 +352,7 @@ impl Catalog {
         requires { o < length self.now.owners }
         ensures { IfOk result (λ tables. tables ≡ owner_signature (owner_entry_at self.now o)) }
     {
-        let owner: &Owner = &self.owners[o as usize];
+        let owner = self.owner_at(o);
         signature_of(alloc, &owner.tables)
     }
 }

@@ -86,3 +86,26 @@ pub(crate) fn list<C, T: Item<C> + Drop>(
         names,
     })
 }
+
+/// The items of such a list, without their names.
+pub(crate) fn items<C, T: Item<C> + Drop>(
+    alloc: Global,
+    value: &Value,
+    member: Member,
+    least: u32,
+    most: u32,
+    at: Place,
+    context: &C,
+) -> Result<Vec<T>, CatalogFault>
+    requires { IsSome (get (member_name member) (view value.now)) }
+    ensures list { IfOk result (λ found. list_in least most (here at member) T.name_of (T.place_of context.now) (T.read_of context.now)
+        (the member (view value.now)) ≡ Ok found.items) }
+    ensures fault { IfErr result (λ fault. (fault ≡ CatalogFault.NoMemory)
+        ⊎ (list_in least most (here at member) T.name_of (T.place_of context.now) (T.read_of context.now) (the member (view value.now)) ≡ Err fault)) }
+    ensures some { IfOk result (λ found. least ≤ length found.items) }
+    ensures few { IfOk result (λ found. length found.items ≤ most) }
+    ensures distinct { IfOk result (λ found. IsDistinct bytes_eq (map T.name_of found.items)) }
+    ensures plain { IfOk result (λ _. has_float (the member (view value.now)) ≡ false) }
+{
+    Ok(list(alloc, value, member, least, most, at, context)?.items)
+}

@@ -2,7 +2,7 @@
 
 ghost use Rattle.std.specs.Prelude.{◌≡◌, IfOk};
 ghost use Rattle.owner_catalog.specs.Lawful.{IsCatalog};
-ghost use Rattle.owner_catalog.specs.Made.{catalog_of_one, columns_of_one};
+ghost use Rattle.owner_catalog.specs.Made.{catalog_of_one, columns_of_one, owner_of_one, table_of_one};
 
 use crate::catalog::{Catalog, Owner, Table};
 use crate::named::Label;
@@ -31,29 +31,41 @@ fn one_column(alloc: Global, name: &str) -> Result<Schema, AllocError>
     Ok(Schema::new(columns))
 }
 
+// The table.
+fn table_of_one(alloc: Global, one: &OneOwner<'_>) -> Result<Table, AllocError>
+    ensures { IfOk result (λ table. table ≡ table_of_one one.now) }
+{
+    Ok(Table {
+        name: String::from_str(alloc, one.table)?,
+        file: String::from_str(alloc, one.file)?,
+        schema: one_column(alloc, one.column)?,
+    })
+}
+
+// The owner.
+fn owner_of_one(alloc: Global, one: &OneOwner<'_>) -> Result<Owner, AllocError>
+    ensures { IfOk result (λ owner. owner ≡ owner_of_one one.now) }
+{
+    Ok(Owner {
+        name: String::from_str(alloc, one.owner)?,
+        budget: one.budget,
+        capacity: one.capacity,
+        tables: vec![in alloc; table_of_one(alloc, one)?]?,
+        partitions: Vec::new(alloc),
+        text: String::new(alloc),
+    })
+}
+
 impl Catalog {
     /// A catalog of this analyst and this owner. It was read from no file, so its compact texts are empty.
     pub fn of_one_owner(alloc: Global, one: &OneOwner<'_>) -> Result<Catalog, AllocError>
         requires { IsCatalog (catalog_of_one one.now) }
         ensures { IfOk result (λ catalog. catalog ≡ catalog_of_one one.now) }
     {
-        let table = Table {
-            name: String::from_str(alloc, one.table)?,
-            file: String::from_str(alloc, one.file)?,
-            schema: one_column(alloc, one.column)?,
-        };
-        let owner = Owner {
-            name: String::from_str(alloc, one.owner)?,
-            budget: one.budget,
-            capacity: one.capacity,
-            tables: vec![in alloc; table]?,
-            partitions: Vec::new(alloc),
-            text: String::new(alloc),
-        };
         let analyst = Label::new(String::from_str(alloc, one.analyst)?);
         Ok(Catalog {
             analysts: vec![in alloc; analyst]?,
-            owners: vec![in alloc; owner]?,
+            owners: vec![in alloc; owner_of_one(alloc, one)?]?,
             text: String::new(alloc),
         })
     }

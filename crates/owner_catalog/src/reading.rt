@@ -10,7 +10,7 @@ ghost use Rattle.owner_catalog.specs.Fault.{here, place, the};
 
 use crate::catalog::{Catalog, Owner, Partition, Table};
 use crate::fault::{CatalogFault, FaultKind, Member, Place};
-use crate::list::{Item, list};
+use crate::list::{Item, items, list};
 use crate::member::{CATALOG, COLUMN, OWNER, PARTITION, TABLE};
 use crate::named::{Label, Named, find};
 use crate::parts::{member_number, member_text, object, text, the};
@@ -193,11 +193,11 @@ impl Item<u32> for Table {
             owner: *owner,
             table: number,
         };
-        let columns = list(alloc, value, Member::Columns, 1, 16, at, &within)?;
+        let columns = items(alloc, value, Member::Columns, 1, 16, at, &within)?;
         Ok(Table {
             name,
             file,
-            schema: Schema::new(columns.items),
+            schema: Schema::new(columns),
         })
     }
 }
@@ -355,19 +355,19 @@ impl Item<()> for Owner {
         let name = member_text(alloc, value, Member::OwnerName, Form::Name, at)?;
         let budget = member_number(value, Member::Budget, 1, MOST_BUDGET, at)?;
         let capacity = member_number(value, Member::Capacity, 2, MOST_CAPACITY, at)? as u32;
-        let tables = list(alloc, value, Member::Tables, 1, 8, at, &number)?;
+        let tables = items(alloc, value, Member::Tables, 1, 8, at, &number)?;
         let within = InOwner {
             owner: number,
-            tables: &tables.items,
+            tables: &tables,
         };
-        let partitions = list(alloc, value, Member::Partitions, 0, 8, at, &within)?;
+        let partitions = items(alloc, value, Member::Partitions, 0, 8, at, &within)?;
         let text = value.to_string(alloc)?;
         Ok(Owner {
             name,
             budget,
             capacity,
-            tables: tables.items,
-            partitions: partitions.items,
+            tables,
+            partitions,
             text,
         })
     }

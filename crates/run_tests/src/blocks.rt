@@ -66,6 +66,8 @@ fn served<R: Threads + Wait + Sync>(
             "serve",
             "cat.json",
             "key",
+            "--addr",
+            "127.0.0.2",
             "--port",
             "65520",
             "--workers",
@@ -93,7 +95,7 @@ fn served<R: Threads + Wait + Sync>(
     Ok((status, doors))
 }
 
-// Worker i's connection j is block i + 3 * j, at port 65520 + i; no other door listens.
+// Worker i's connection j is block i + 3 * j, at port 65520 + i of the address that is given; no other door listens.
 #[test]
 fn blocks_and_ports(rt: HostRuntime) -> Result<(), Fail> {
     let gate = CountGate {
@@ -106,7 +108,8 @@ fn blocks_and_ports(rt: HostRuntime) -> Result<(), Fail> {
     assert!(rt; gate.left.load(Ordering::SeqCst) == 0x11_1111);
     let ports = [Some(65_520), Some(65_521), Some(65_522), None];
     for (door, port) in doors.iter().zip(&ports) {
-        assert!(rt; door.port() == *port);
+        let addr = if port.is_some() { "127.0.0.2" } else { "" };
+        assert!(rt; door.port() == *port && door.addr() == addr.as_bytes());
     }
     Ok(())
 }
