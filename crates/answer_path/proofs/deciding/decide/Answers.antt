@@ -16,7 +16,7 @@ returns-in-Ok-judge-clause-decided c =
     record {
       reads = subst (λ (e : Term). IsReading c.args.bytes.now (read e)) (sym judged.checked.term) reads;
       judged = subst (λ (e : Term). IsJudged c.args.sig.now e c.in-Ok-judge.judged) (sym judged.checked.term) judged;
-      digest = c.digest.ensures ∙ ap sha256 c.in-Ok.ensures.program;
+      digest = c.digest-digest.ensures ∙ ap sha256 c.in-Ok.ensures.program;
     }
 
 pub returns-in-Err-judge-clause-refused : goal.returns-in-Err-judge-clause-refused
