@@ -12,3 +12,4 @@ pub use Rattle.session_laws.proofs.Kept
 pub use Rattle.session_laws.proofs.Exact
 pub use Rattle.session_laws.proofs.Growing
 pub use Rattle.session_laws.proofs.Causes
+pub use Rattle.session_laws.proofs.Whole

@@ -2,3 +2,4 @@
 
 pub use Rattle.session_laws.specs.Growing
 pub use Rattle.session_laws.specs.Lines
+pub use Rattle.session_laws.specs.Whole

@@ -352,7 +352,7 @@ pub record CanBeMet (owner : Owner) (draws : ℕ → ℕ → ℕ) (start : ℕ) 
   pub meets : IsMetExactly owner draws start demand seen reply told (seen ++ added)
   pub had : NothingFailed reply
 
-recall_had : (number : ℕ) (r : Recall) → NothingFailed (recall_reply number r)
+pub recall_had : (number : ℕ) (r : Recall) → NothingFailed (recall_reply number r)
 recall_had number (Unknown seen) = tt
 recall_had number (NotYours seen) = tt
 recall_had number (Answer value seen) = tt

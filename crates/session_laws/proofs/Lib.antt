@@ -19,8 +19,10 @@ pub mod Closings
 pub mod Exists
 pub mod Scripts
 pub mod Worked
+pub mod Whole
 mod Orders
 mod ExamplesOfBlocks
+mod ExamplesOfWhole
 -- passed on to the crates above
 pub mod SessionCore
 pub use Rattle.session_core.proofs.AnswerPath

@@ -7,6 +7,7 @@ pub use Rattle.session_core.specs.Transcript
 pub use Rattle.session_core.specs.Served
 pub use Rattle.session_core.specs.Gathered
 pub use Rattle.session_core.specs.Headline
+pub use Rattle.session_core.specs.Said
 pub use Rattle.session_core.specs.Code
 pub use Rattle.session_core.specs.Bundles
 pub use Rattle.session_core.specs.Blocks

@@ -33,6 +33,7 @@ ghost use Rattle.session_laws.specs.Lines.{AreKnown, AreOfTurns, AreHonoured};
 ghost use Rattle.session_laws.specs.Crew.{AreDone, AreJoined, AreTogether};
 ghost use Rattle.session_laws.specs.Between.{two_workers, IsSettledLater, three_records, four_records};
 ghost use Rattle.session_laws.specs.Causes.{AreCaused};
+ghost use Rattle.session_laws.specs.Whole.{HadMemory};
 ghost use Rattle.session_laws.specs.Order.{LeastCodeRefuses, GrantsAreUnopposed};
 
 /// A script's exchanges, by any number of workers in any order, keep the promises to each owner: legal records within the budget,
@@ -198,6 +199,18 @@ pub fn one_worker_shuts_books()
     ensures { (house : House) (draws : ℕ → ℕ → ℕ → ℕ) (crew : ℕ → ℕ) (o : ℕ) (found : List Record) (xs : List Exchange) (records : List Record) →
         (closed : Option Failure) → AreGathered house draws 1 crew o found xs records → AreShut house draws 1 crew o xs closed →
         ClosesOn house draws o None xs closed }
+{}
+
+/// Where one worker answered a script, no owner's book was shut and no line was told 51 or 90, nothing failed: so the replies are the script's
+/// one transcript, and the records are those after it.
+pub fn whole_scripts_are_transcribed()
+    ensures { (house : House) (draws : ℕ → ℕ → ℕ → ℕ) (found : Journals) (script : List ℕ) (crew : ℕ → ℕ) (xs : List Exchange) (records : Journals) →
+        (closed : ℕ → Option Failure) → IsGatheredScript house draws 1 crew found script xs records →
+        ((o : ℕ) (owner : Owner) → slice_get house.owners o ≡ Some owner → AreShut house draws 1 crew o xs (closed o)) →
+        ((o : ℕ) (owner : Owner) → slice_get house.owners o ≡ Some owner → closed o ≡ None) →
+        ((place : ℕ) (x : Exchange) → slice_get xs place ≡ Some x → HadMemory x.reply) → AllByRecursion NothingFailed (map (λ x. x.reply) xs)
+        × ((replies : List Replied) (last : Journals) → IsScriptRun house draws found script replies last → AllByRecursion NothingFailed replies →
+        (map (λ x. x.reply) xs ≡ replies) × ((o : ℕ) (owner : Owner) → slice_get house.owners o ≡ Some owner → records o ≡ last o)) }
 {}
 
 /// What each worker knows of its own lines can be put in the script's order: what the passes own is then what all lines were told. So it is

@@ -15,6 +15,7 @@ use Rattle.query_server.specs.OwnerHistory.Sound.{IsFound, IsDisplacementBounded
 use Rattle.query_server.specs.AnswerPath.Query.{Query}
 use Rattle.query_server.specs.AnswerPath.Demand.{Demand, asks, recalls}
 use Rattle.query_server.specs.SessionCore.Served.{IsBorneOutTo}
+use Rattle.successive_runs.specs.Houses.{Housed, WasSentIn}
 use Rattle.successive_runs.specs.Life.{Run, WasSent}
 
 -- A file stands for records that programs explain, which begin with these.
@@ -40,22 +41,31 @@ pub record StandsRecalled (owner : Owner) (draws : ℕ → ℕ → ℕ) (program
 
 -- Behind the owner's records, which begin with those found, stand programs that begin with the earlier ones and explain all records;
 -- these are legal and within the budget, and against any second dataset epsilon times displacement, added up over all answers, is at
--- most what is spent times the distance. What any reply that was ever sent says of a number stands in them; each answer that was ever
--- sent, to its query or to a recall, stands, and is its program's value plus its number's noise. No number was ever sent for two lines.
-pub record KeepThePromise (house : House) (draws : ℕ → ℕ → ℕ → ℕ) (o : ℕ) (owner : Owner) (found : List Record) (earlier : List (List ℕ))
-    (runs : List Run) (last : List Record) : Type 0 where
+-- most what is spent times the distance. What any reply that was told says of a number stands in them; each answer that was told, to its
+-- query or to a recall, stands, and is its program's value plus its number's noise. No number was told to two lines. `Told` says which line
+-- of which run demanded what, and was told which reply.
+pub record KeepAll (owner : Owner) (draws : ℕ → ℕ → ℕ) (found : List Record) (earlier : List (List ℕ))
+    (Told : (i place : ℕ) → Demand → Replied → Type 0) (last : List Record) : Type 0 where
   pub begins : IsPrefix found last
   pub programs : List (List ℕ)
   pub goes_on : IsPrefix earlier programs
-  pub explained : IsFound owner (draws o) programs last
+  pub explained : IsFound owner draws programs last
   pub bounded : IsDisplacementBounded owner programs last
-  pub borne_out : (i place : ℕ) (demand : Demand) (reply : Replied) → WasSent house o owner runs i place demand reply
-      → IsBorneOutTo programs last demand reply
-  pub answers : (i place : ℕ) (query : Query) (n taken : ℕ) (value : ℤ)
-      → WasSent house o owner runs i place (asks query) (answered n value taken) → StandsAnswered owner (draws o) programs last query n value
-  pub recalls : (i place analyst asked n seen : ℕ) (value : ℤ)
-      → WasSent house o owner runs i place (recalls analyst asked) (recalled n (Some (Answered value)) seen)
-      → StandsRecalled owner (draws o) programs last analyst n value
+  pub borne_out : (i place : ℕ) (demand : Demand) (reply : Replied) → Told i place demand reply → IsBorneOutTo programs last demand reply
+  pub answers : (i place : ℕ) (query : Query) (n taken : ℕ) (value : ℤ) → Told i place (asks query) (answered n value taken)
+      → StandsAnswered owner draws programs last query n value
+  pub recalls : (i place analyst asked n seen : ℕ) (value : ℤ) → Told i place (recalls analyst asked) (recalled n (Some (Answered value)) seen)
+      → StandsRecalled owner draws programs last analyst n value
   pub once : (i j place other : ℕ) (query and : Query) (reply also : Replied) (n : ℕ) (outcome another : Outcome)
-      → WasSent house o owner runs i place (asks query) reply → WasSent house o owner runs j other (asks and) also
+      → Told i place (asks query) reply → Told j other (asks and) also
       → told_settlement reply ≡ Some (n, outcome) → told_settlement also ≡ Some (n, another) → (i ≡ j) × (place ≡ other)
+
+-- It is so of whatever runs in one house sent ..
+abbrev pub KeepThePromise : House → (draws : ℕ → ℕ → ℕ → ℕ) → (o : ℕ) → Owner → (found : List Record) → (earlier : List (List ℕ)) → List Run
+    → (last : List Record) → Type 0
+KeepThePromise house draws o owner found earlier runs last = KeepAll owner (draws o) found earlier (WasSent house o owner runs) last
+
+-- .. and of whatever runs sent of which each has its own.
+abbrev pub KeepThePromiseInHouses : (draws : ℕ → ℕ → ℕ → ℕ) → (o : ℕ) → Owner → (found : List Record) → (earlier : List (List ℕ)) → List Housed
+    → (last : List Record) → Type 0
+KeepThePromiseInHouses draws o owner found earlier runs last = KeepAll owner (draws o) found earlier (WasSentIn o owner runs) last

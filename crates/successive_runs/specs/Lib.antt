@@ -1,5 +1,6 @@
 pub mod Left
 pub mod Life
+pub mod Houses
 pub mod Kept
 pub mod Numbers
 pub mod Raised

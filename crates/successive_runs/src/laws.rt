@@ -11,7 +11,7 @@ ghost use Rattle.budget_core.specs.Granting.{IsAmount};
 ghost use Rattle.budget_ledger.specs.Account.{IsMoment};
 ghost use Rattle.budget_ledger.specs.declared.failure.Failure.{Failure};
 ghost use Rattle.word_streams.specs.Draws.{draws_of};
-ghost use Rattle.owner_house.specs.Owner.{Owner};
+ghost use Rattle.owner_house.specs.Owner.{HasData, Owner};
 ghost use Rattle.owner_house.specs.House.{House, AreOwners, IsOwnerIn, house_of};
 ghost use Rattle.query_server.specs.OwnerHistory.Sound.{IsFound};
 ghost use Rattle.query_server.specs.SessionCore.Turns.{Turn};
@@ -31,7 +31,8 @@ ghost use Rattle.query_server.specs.Run.{IsScriptAnswered};
 ghost use Rattle.query_server.specs.declared.end.Status.{Status};
 ghost use Rattle.successive_runs.specs.Left.{IsLeft};
 ghost use Rattle.successive_runs.specs.Life.{Run, AreRuns, IsRun, none_sent};
-ghost use Rattle.successive_runs.specs.Kept.{KeepThePromise, MayBeGoneOnFrom};
+ghost use Rattle.successive_runs.specs.Houses.{AreHousedRuns, Housed};
+ghost use Rattle.successive_runs.specs.Kept.{KeepThePromise, KeepThePromiseInHouses, MayBeGoneOnFrom};
 ghost use Rattle.successive_runs.specs.Numbers.{AreToldTheirOwn};
 ghost use Rattle.successive_runs.specs.Raised.{LeavesRaised};
 ghost use Rattle.successive_runs.specs.Script.{IsLeftOf};
@@ -54,7 +55,8 @@ pub fn files_stand_for_what_is_left()
 {}
 
 /// Any number of runs, one after another, of scripts or sessions, that ended or were stopped, with grants between them, keep the promise, from
-/// the first on, which found no records; and so do those that go on from whatever records programs explain.
+/// the first on, which found no records; and so do those that go on from whatever records programs explain. Each run may have a house of its own:
+/// where another owner comes or goes, or its tables change, this owner's promise stays whole.
 pub fn runs_keep_the_promise()
     ensures first { (house : House) (draws : ℕ → ℕ → ℕ → ℕ) (o : ℕ) (owner : Owner) (runs : List Run) (last : List Record) →
         AreOwners house → slice_get house.owners o ≡ Some owner → AreRuns house draws o owner [] runs last →
@@ -62,6 +64,9 @@ pub fn runs_keep_the_promise()
     ensures later { (house : House) (draws : ℕ → ℕ → ℕ → ℕ) (o : ℕ) (owner : Owner) (found : List Record) (earlier : List (List ℕ)) (runs : List Run) →
         (last : List Record) → AreOwners house → slice_get house.owners o ≡ Some owner → IsFound owner (draws o) earlier found →
         AreRuns house draws o owner found runs last → KeepThePromise house draws o owner found earlier runs last }
+    ensures houses { (draws : ℕ → ℕ → ℕ → ℕ) (o : ℕ) (owner : Owner) (found : List Record) (earlier : List (List ℕ)) (runs : List Housed) →
+        (last : List Record) → HasData owner → IsFound owner (draws o) earlier found → AreHousedRuns draws o owner found runs last →
+        KeepThePromiseInHouses draws o owner found earlier runs last }
 {}
 
 /// A line that is told a number, as answered, exhausted or lost, is told its own: of the programs behind the records, that of the number is the one
