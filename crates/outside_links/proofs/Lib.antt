@@ -1,2 +1,3 @@
 mod Examples
 pub mod Said
+pub mod Orders
