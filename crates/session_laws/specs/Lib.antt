@@ -6,6 +6,7 @@ pub mod Crew
 pub mod Between
 pub mod Causes
 pub mod Order
+pub mod Walks
 -- passed on to the crates above
 pub mod SessionCore
 pub use Rattle.session_core.specs.AnswerPath

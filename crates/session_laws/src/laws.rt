@@ -1,7 +1,6 @@
 //! The laws. Each function does nothing: its contract is the law.
 
 ghost use Rattle.std.specs.Prelude.{ℕ, List, [], ◌∷◌, ◌++◌, ◌<◌, length, ◌≡◌, map, slice_get, Option, Some, None};
-ghost use Rattle.std.specs.List.{AllByRecursion};
 ghost use mathlib.Core.List.{IsPrefix};
 ghost use Rattle.journal_records.specs.declared.records.Outcome.{Outcome};
 ghost use Rattle.journal_records.specs.declared.records.Record.{Record};
@@ -22,7 +21,7 @@ ghost use Rattle.session_core.specs.Transcript.{Journals, first_new, ClosesOn, L
 ghost use Rattle.session_core.specs.Served.{Sources, AnswersOn};
 ghost use Rattle.session_core.specs.Gathered.{AreGathered, AreOfScript, AreShut, IsAnsweredOn, IsGatheredScript, one_worker, part_of};
 ghost use Rattle.session_core.specs.Headline.{Programs, AreAccountedFor, AreFound, AreHistories, AreOwed, Headline, IsHonoured};
-ghost use Rattle.session_core.specs.Said.{NothingFailed};
+ghost use Rattle.session_core.specs.Said.{NothingFailedAt};
 ghost use Rattle.session_core.specs.Blocks.{AreDealt, crew_of, script_blocks};
 ghost use Rattle.session_core.specs.Worked.{HasWorked, IsBroughtIn};
 ghost use Rattle.session_core.specs.Code.{AreFresh, AreClosed, AreServed, found_by, pass_at};
@@ -34,6 +33,7 @@ ghost use Rattle.session_laws.specs.Crew.{AreDone, AreJoined, AreTogether};
 ghost use Rattle.session_laws.specs.Between.{two_workers, IsSettledLater, three_records, four_records};
 ghost use Rattle.session_laws.specs.Causes.{AreCaused};
 ghost use Rattle.session_laws.specs.Order.{LeastCodeRefuses, GrantsAreUnopposed};
+ghost use Rattle.session_laws.specs.Walks.{AreWalksTold};
 
 /// A script's exchanges, by any number of workers in any order, keep the promises to each owner: legal records within the budget,
 /// explained by the programs of the script's lines behind those of the records that were found, each line's reply the stated
@@ -124,7 +124,7 @@ pub fn one_transcript()
     ensures { (house : House) (draws : ℕ → ℕ → ℕ → ℕ) (found : Journals) (script : List ℕ) (replies others : List Replied) →
         (last end : Journals) →
         IsScriptRun house draws found script replies last → IsScriptRun house draws found script others end →
-        AllByRecursion NothingFailed replies → AllByRecursion NothingFailed others →
+        NothingFailedAt house (turns_of house script) replies → NothingFailedAt house (turns_of house script) others →
         (replies ≡ others) × ((o : ℕ) (owner : Owner) → slice_get house.owners o ≡ Some owner → last o ≡ end o) }
 {}
 
@@ -132,7 +132,8 @@ pub fn one_transcript()
 /// so it has just one such transcript.
 pub fn scripts_have_transcripts()
     ensures { (house : House) (draws : ℕ → ℕ → ℕ → ℕ) (found : Journals) (script : List ℕ) → AreOwners house →
-        (replies : List Replied) × (last : Journals) × IsScriptRun house draws found script replies last × AllByRecursion NothingFailed replies }
+        (replies : List Replied) × (last : Journals) × IsScriptRun house draws found script replies last ×
+        NothingFailedAt house (turns_of house script) replies }
 {}
 
 /// Who is told 42 or 52 is told of the failure that shut the owner's book, and one line is told 52 where it is shut.
@@ -232,4 +233,13 @@ pub fn records_may_come_between()
 pub fn the_least_code_refuses()
     ensures least { LeastCodeRefuses }
     ensures granted { GrantsAreUnopposed }
+{}
+
+/// A line with a program that takes too many walks is told that memory ran out, and adds no record, so it is never charged: of lines that a
+/// worker served, and of those that any number of workers answered, whatever the records and rows are.
+pub fn walks_are_told()
+    ensures served { (house : House) (draws : ℕ → ℕ → ℕ → ℕ) (o start : ℕ) (seen : List Record) (xs : List Exchange) (last : List Record) →
+        AnswersOn house draws o start seen xs last → AreWalksTold house o xs }
+    ensures gathered { (house : House) (draws : ℕ → ℕ → ℕ → ℕ) (count : ℕ) (crew : ℕ → ℕ) (o : ℕ) (found : List Record) (xs : List Exchange) →
+        (records : List Record) → AreGathered house draws count crew o found xs records → AreWalksTold house o xs }
 {}
