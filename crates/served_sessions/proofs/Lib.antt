@@ -1,4 +1,5 @@
 mod Splits
 mod Runs
 pub mod Services
+mod Stopped
 mod Examples

@@ -1,6 +1,6 @@
 //! The laws. Each function does nothing: its contract is the law.
 
-ghost use Rattle.std.specs.Prelude.{◌≡◌, ℕ, ◌<◌, ◌≤◌, true, Bool, List, [], ◌∷◌, ◌++◌, length, take, slice_get, Option, Some, IfSome};
+ghost use Rattle.std.specs.Prelude.{◌≡◌, ℕ, ℤ, ◌<◌, ◌≤◌, true, Bool, List, [], ◌∷◌, ◌++◌, length, take, slice_get, Option, Some, IfSome};
 ghost use mathlib.Core.List.{IsPrefix};
 ghost use Rattle.word_streams.specs.Draws.{draws_of};
 ghost use Rattle.outside_disks.specs.Disks.{Leaves, Passes, Shown, WhereTold, noted};
@@ -9,11 +9,13 @@ ghost use Rattle.journal_records.specs.declared.records.Header.{Header};
 ghost use Rattle.journal_records.specs.declared.records.Record.{Record};
 ghost use Rattle.budget_journal.specs.Journals.{Stands};
 ghost use Rattle.budget_ledger.specs.Account.{IsMoment};
+ghost use Rattle.budget_core.specs.Counts.{outcome_of};
 ghost use Rattle.budget_core.specs.Legal.{MayFollow};
+ghost use Rattle.journal_records.specs.declared.records.Outcome.TheVariants.{Answered};
 ghost use Rattle.budget_ledger.specs.declared.failure.Failure.{Failure};
 ghost use Rattle.owner_desk.specs.Passes.{Pass, records_told};
 ghost use Rattle.owner_house.specs.Owner.{Owner};
-ghost use Rattle.wire_lines.specs.Reply.{refused as refused_reply};
+ghost use Rattle.wire_lines.specs.Reply.{answered, refused as refused_reply};
 ghost use Rattle.wire_lines.specs.Refusal.{by_disk};
 ghost use Rattle.wire_lines.specs.declared.refusal.DiskRefusal.{DiskRefusal};
 ghost use Rattle.wire_lines.specs.declared.refusal.DiskRefusal.TheVariants.{Fault as DiskFault};
@@ -26,6 +28,7 @@ ghost use Rattle.successive_runs.specs.SessionCore.Meant.{wants};
 ghost use Rattle.successive_runs.specs.SessionCore.Turns.{meant_at};
 ghost use Rattle.catalog_loading.specs.Loaded.{IsLoading, Loading, header_of, owners_in};
 ghost use Rattle.successive_runs.specs.Shelves.{Shelf};
+ghost use Rattle.successive_runs.specs.Run.{IsScriptAnswered};
 ghost use Rattle.successive_runs.specs.Serve.{WereHeld};
 ghost use Rattle.successive_runs.specs.OwnerHistory.Sound.{IsFound};
 ghost use Rattle.successive_runs.specs.SessionCore.Exchanges.{Exchange, told_of};
@@ -39,6 +42,7 @@ ghost use Rattle.successive_runs.specs.HeldSessions.Sittings.{Sitting, all_excha
 ghost use Rattle.successive_runs.specs.HeldSessions.Kept.{AreHeld, AreShifts};
 ghost use Rattle.served_sessions.specs.Runs.{AreServiceRuns, AreStopped, IsStoppedBehind, MayAllFollow, records_upto, run_of};
 ghost use Rattle.served_sessions.specs.Services.{IsLeftOfService, ItsDiskFailed};
+ghost use Rattle.served_sessions.specs.Stopped.{HoldsAllTold};
 
 /// What a stop leaves behind so many of one worker's lines: the records up to there with some of those that are told next, whatever part
 /// of a line's they are; all records with one whose append failed; and of a file that has gone on since then, what it stands for.
@@ -119,4 +123,26 @@ pub fn services_are_runs()
         ItsDiskFailed loading key workers old new found were o
         × (refusal ≡ DiskFault → (failure : Failure) × (were.over.closed o ≡ Some failure)
         × IsPendingOf owner (draws_of key o) query x.told failure.pending) }
+{}
+
+/// Each answer that was told stands in every file that a stop leaves once the call has ended, settled with its value, whatever the disks did: among
+/// them those that fail from some moment on, which is what a stop is. So it is of all answers that were sent before a stop.
+pub fn answers_stand_in_every_image()
+    ensures services { (loading : Loading) (key : List ℕ) (workers : ℕ) (old new : Shelf) (found : Journals) → IsLoading loading →
+        (were : WereHeld loading key workers old new found) → (o : ℕ) (owner : Owner) (earlier : List (List ℕ)) (before after : Shown) →
+        slice_get (house_of loading.register).owners o ≡ Some owner → IsFound owner (draws_of key o) earlier (found o) →
+        old o ≡ Some before → new o ≡ Some after →
+        IfSome after.trace (Leaves (HoldsAllTold (house_of loading.register) (draws_of key o) o owner (header_of loading key o) earlier
+        were.held.exchanges)) }
+    ensures scripts { (loading : Loading) (key : List ℕ) (workers : ℕ) (old new : Shelf) (found : Journals) (script text : List ℕ) →
+        IsLoading loading → (done : IsScriptAnswered loading key workers old new found script text) →
+        (o : ℕ) (owner : Owner) (earlier : List (List ℕ)) (before after : Shown) →
+        slice_get (house_of loading.register).owners o ≡ Some owner → IsFound owner (draws_of key o) earlier (found o) →
+        old o ≡ Some before → new o ≡ Some after →
+        IfSome after.trace (Leaves (HoldsAllTold (house_of loading.register) (draws_of key o) o owner (header_of loading key o) earlier
+        done.exchanges)) }
+    ensures settled { (house : House) (draws : ℕ → ℕ → ℕ) (o : ℕ) (owner : Owner) (header : Header) (earlier : List (List ℕ)) (xs : List Exchange) →
+        (file : List ℕ) → HoldsAllTold house draws o owner header earlier xs file → (records : List Record) → Stands header records file →
+        (place : ℕ) (x : Exchange) (query : Query) (n taken : ℕ) (value : ℤ) → slice_get xs place ≡ Some x →
+        meant_at house x.turn ≡ wants o owner (asks query) → x.reply ≡ answered n value taken → outcome_of records n ≡ Some (Answered value) }
 {}

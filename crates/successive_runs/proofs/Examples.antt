@@ -19,7 +19,7 @@ use Rattle.wire_lines.specs.Refusal.{by_disk}
 use Rattle.wire_lines.specs.declared.refusal.DiskRefusal.TheVariants.{Fault}
 use Rattle.part_views.specs.Views.{signature_in, rows_in}
 use Rattle.owner_house.specs.Owner.{Owner}
-use Rattle.owner_house.specs.House.{House, house_of}
+use Rattle.owner_house.specs.House.{House, IsOwnerIn, house_of}
 use Rattle.owner_desk.specs.Passes.{Told}
 use Rattle.query_server.specs.OwnerHistory.Granted.{told_settlement, IsGranted}
 use Rattle.query_server.specs.AnswerPath.Demand.{asks}
@@ -44,6 +44,7 @@ use Rattle.query_server.proofs.SessionLaws.Added.{IsKind, kind_met, number_is, t
 use Rattle.query_server.proofs.SessionLaws.Once.{kind_at}
 use Rattle.successive_runs.specs.Left.{IsLeft}
 use Rattle.successive_runs.specs.Life.{Run, IsRun, AreGranted, AreRuns, none_sent, all_sent}
+use Rattle.successive_runs.specs.Houses.{AreHousedRuns, IsHousedRun}
 use Rattle.successive_runs.specs.Numbers.{AreToldTheirOwn}
 use Rattle.successive_runs.proofs.Files.{met_on_all}
 use Rattle.successive_runs.proofs.Fronts.{counts_on}
@@ -238,6 +239,36 @@ second_run draws = record {
 -- Two runs, one after the other: the first one's answer wasn't sent, and its number stays taken.
 two_runs : (draws : ℕ → ℕ → ℕ → ℕ) → AreRuns house draws 0 clinic [] (stopped (outcome_at draws 0) ∷ second (outcome_at draws 1) ∷ []) (both_runs (outcome_at draws 1))
 two_runs draws = ([], ([], refl), stopped_run draws, (opened, ([], refl), second_run draws, ([], refl)))
+
+-- The second run in a house into which another owner came, behind this one; it had no lines.
+abbrev larger : House
+larger = record { analysts = house.analysts; owners = house.owners ++ clinic ∷ [] }
+
+abbrev idle : Run
+idle = record { count = 1; crew = one_worker; exchanges = []; records = opened; closed = None; sent = all_sent; left = opened }
+
+idle_run : (draws : ℕ → ℕ → ℕ → ℕ) → IsRun larger draws 0 clinic opened idle
+idle_run draws = record {
+  speakers = λ place x at. absurd (cc (at));
+  gathered = record { begins = ([], refl); crews = λ at. omega arith; workers = λ i lt. (opened, ([], refl), refl); once = λ weight. refl };
+  shut = record { crews = λ at. omega arith; ends = λ i. unshut; workers = λ i lt. (refl, λ failure is. is); counted = refl };
+  follows = λ failure is. absurd (cc (is));
+  leaves = inl (([], refl), ([], refl));
+  kept = λ place x asked demand sent at. absurd (cc (at));
+}
+
+after_an_owner_came : (draws : ℕ → ℕ → ℕ → ℕ) → IsOwnerIn house clinic → IsOwnerIn larger clinic
+    → AreHousedRuns draws 0 clinic [] (record { house = house; run = stopped (outcome_at draws 0) } ∷ record { house = larger; run = idle } ∷ []) opened
+after_an_owner_came draws inside within = (
+  [],
+  ([], refl),
+  record { listed = refl; lawful = inside; is_run = stopped_run draws },
+  (opened, ([], refl), record { listed = refl; lawful = within; is_run = idle_run draws }, ([], refl)),
+)
+
+-- an owner of another number isn't this one's
+not_the_third : (draws : ℕ → ℕ → ℕ → ℕ) → IsHousedRun draws 2 clinic opened (record { house = larger; run = idle }) → ⊥
+not_the_third draws housed = cc (housed.listed)
 
 -- The owner grants 5 before the first run, and 3 and 2 behind the second; each counts among the records.
 abbrev raised_before : List Record
