@@ -1,22 +1,25 @@
 -- calls one after another
-use Rattle.std.proofs.Common.{◌≡◌, ℕ, zero, suc, true, false, Bool, List, [], ◌∷◌, slice_get, Some, refl, sym, ◌∙◌, subst}
+use Rattle.std.proofs.Common.{◌≡◌, ℕ, zero, suc, true, false, Bool, List, [], ◌∷◌, slice_get, Some, None, refl, sym, ◌∙◌, subst}
 use Rattle.std.specs.Prelude.{IfSome, Option}
 use mathlib.Core.Logic.{inl, inr}
-use Rattle.outside_disks.specs.Disks.{Leaves, Passes, Trace, WhereTold, after as stepped, noted}
+use Rattle.outside_disks.specs.Disks.{IsImageOf, Leaves, Passes, Trace, WhereTold, after as stepped, noted}
 use Rattle.outside_disks.specs.Disks.Step.{Synced}
 use Rattle.journal_records.specs.declared.records.Header.{Header}
 use Rattle.journal_records.specs.declared.records.Record.{Record}
 use Rattle.budget_journal.specs.Journals.{Stands}
 use Rattle.budget_journal.proofs.One.{stands-one}
+use Rattle.budget_ledger.specs.Account.{IsKeptNow}
+use Rattle.budget_ledger.specs.declared.failure.Failure.{Failure}
 use Rattle.wire_lines.specs.Reply.{Replied}
 use Rattle.owner_house.specs.Owner.{HasData, Owner}
 use Rattle.successive_runs.specs.AnswerPath.Demand.{Demand}
 use Rattle.successive_runs.specs.OwnerHistory.Sound.{IsFound}
-use Rattle.successive_runs.specs.Life.{Run, AreGranted, IsRun, none_sent}
+use Rattle.successive_runs.specs.Left.{IsLeft}
+use Rattle.successive_runs.specs.Life.{Run, AreGranted, IsRun, MayHaveGranted, none_sent}
 use Rattle.successive_runs.proofs.Files.{lines_are_runs}
 use Rattle.successive_runs.proofs.Granted.{found_granted, granted_prefix}
 use Rattle.successive_runs.proofs.Ran.{gone_on}
-use Rattle.plain_promise.specs.Calls.{AreCalls, Call, IsCall, IsLeftBy, MayBeRaised, WasTold, worker_of}
+use Rattle.plain_promise.specs.Calls.{AreCalls, Call, IsCall, IsLeftBy, MayBeRaised, WasTold, file_on, worker_of}
 use Rattle.plain_promise.specs.Plain.{PlainPromise}
 use Rattle.plain_promise.proofs.Going.{kept_more, kept_none, kept_of, kept_since, no_worker, none_told, told_first, worker_first}
 use Rattle.plain_promise.proofs.Made.{IsKept, IsSent}
@@ -57,6 +60,10 @@ module _ (draws : ℕ → ℕ → ℕ → ℕ) (o : ℕ) (owner : Owner) (header
       let since : Passes (LeftWith call none_sent) (stepped Synced s) t = subst (λ (u : Option Trace). WhereTold (Passes (LeftWith call none_sent)) (noted Synced (Some s)) u) told from in
       let l = since.each file image in
       (l.0, l.1, none_too call l.0 none l.2)
+
+  -- it opens the file that its disk holds
+  opens : (call : Call) (file : List ℕ) → IsCall draws o owner header call → file_on call.before ≡ Some file → Stands header call.found file
+  opens call file is holds = subst (λ (bytes : Option (List ℕ)). IfSome bytes (Stands header call.found)) holds is.opens
 
   -- ---- call after call
 
@@ -113,8 +120,7 @@ module _ (draws : ℕ → ℕ → ℕ → ℕ) (o : ℕ) (owner : Owner) (header
   play (call ∷ calls) found earlier file last stands f (start, left, raised, holds, is, by, rest) =
       let r = raised_on found file start stands raised in
       let from_here : IsFound owner (draws o) earlier r.left = found_granted owner (draws o) earlier found r.amounts r.left f r.granted in
-      let opens : Stands header call.found start = subst (λ (bytes : Option (List ℕ)). IfSome bytes (Stands header call.found)) holds is.opens in
-      let same : call.found ≡ r.left = stands-one header call.found r.left start opens r.stands in
+      let same : call.found ≡ r.left = stands-one header call.found r.left start (opens call start is holds) r.stands in
       let l = call_left call left is by in
       let run : Run = run_by call l.0 in
       let its : IsRun call.house draws o owner r.left run = subst (λ (w : List Record). IsRun call.house draws o owner w run) same l.2 in
@@ -140,3 +146,23 @@ module _ (draws : ℕ → ℕ → ℕ → ℕ) (o : ℕ) (owner : Owner) (header
           plain (draws o) owner found earlier p.R (WasTold o owner calls) (worker_of calls) has p.kept,
         ),
       )
+
+  -- ---- a call and the next one
+
+  -- What the second finds is what the first left, with what was granted between them ..
+  pub found_again : (first second : Call) (file start : List ℕ) → IsCall draws o owner header first → IsCall draws o owner header second → IsLeftBy first file → MayBeRaised owner.entry header file start
+      → file_on second.before ≡ Some start → (left : List Record) × IsLeft first.found first.records first.closed left × MayHaveGranted owner.entry left second.found
+  found_again first second file start is next by raised holds =
+      let l = call_left first file is by in
+      let r = raised_on l.0 file start l.1 raised in
+      let same : second.found ≡ r.left = stands-one header second.found r.left start (opens second start next holds) r.stands in
+      (l.0, l.2.leaves, subst (λ (w : List Record). MayHaveGranted owner.entry l.0 w) (sym same) (r.amounts, r.granted))
+
+  -- .. which is all its records, where no append failed and nothing was granted.
+  pub all_found : (first second : Call) (t : Trace) (file : List ℕ) → IsCall draws o owner header first → IsCall draws o owner header second → first.closed ≡ None → first.after.trace ≡ Some t → IsImageOf t file
+      → file_on second.before ≡ Some file → second.found ≡ first.records
+  all_found first second t file is next unshut told image holds =
+      let kept : IfSome (Some t) (IsKeptNow header first.records None)
+      = subst (λ (u : Option Trace). IfSome u (IsKeptNow header first.records None)) told (subst (λ (c : Option Failure). IfSome first.after.trace (IsKeptNow header first.records c)) unshut is.went.kept) in
+      let stands : Stands header first.records file = subst (Stands header first.records) (sym (kept.stable file image)) kept.stands in
+      stands-one header second.found first.records file (opens second file next holds) stands
