@@ -1,10 +1,9 @@
--- each owner's promise, and what an answered script and a service were to each owner
-use Rattle.std.proofs.Common.{◌≡◌, ℕ, ◌<◌, Bool, List, map, slice_get, Some, sym, subst}
+-- what an answered script and a service were to each owner
+use Rattle.std.proofs.Common.{◌≡◌, ℕ, ◌<◌, Bool, List, slice_get, Some, subst}
 use Rattle.std.specs.Prelude.{IfSome, Option, option_and_then, option_map}
 use Rattle.std.proofs.lemmas.Option.{slice_get_within}
 use Rattle.word_streams.specs.Draws.{draws_of}
 use Rattle.outside_disks.specs.Disks.{Shown, seen_of}
-use Rattle.journal_records.specs.declared.records.Record.{Record}
 use Rattle.budget_journal.specs.Journals.{Stands}
 use Rattle.owner_house.specs.House.{IsOwnerIn, house_of}
 use Rattle.owner_house.specs.Owner.{Owner}
@@ -15,11 +14,6 @@ use Rattle.owner_books.specs.Opened.{AreOpened, house_in}
 use Rattle.owner_books.proofs.Versions.{lawful_in}
 use Rattle.query_server.specs.Promise.{IsAnsweredScript}
 use Rattle.query_server.specs.declared.end.Status.{Status}
-use Rattle.query_server.proofs.HeldSessions.Together.{together_keep}
-use Rattle.query_server.proofs.SessionLaws.Kept.{kept}
-use Rattle.successive_runs.specs.HeldSessions.Kept.{KeepThePromises}
-use Rattle.successive_runs.specs.OwnerHistory.Sound.{IsFound}
-use Rattle.successive_runs.specs.SessionCore.Headline.{IsHonoured}
 use Rattle.successive_runs.specs.SessionCore.Transcript.{Journals}
 use Rattle.successive_runs.specs.Service.{IsServiceDone}
 use Rattle.successive_runs.specs.ServiceOver.{Door}
@@ -44,12 +38,6 @@ module _ (words : List (List ℕ)) (reads : ReadsToCome) (old new : Shelf) (scri
   inside : IsOwnerIn (house_in a.loading a.versions) owner
   inside = register_owners (in_versions a.loading a.versions).register lawful.register o owner here
 
-  pub script_owner : (earlier : List (List ℕ)) → IsFound owner (draws_of a.key o) earlier (a.found o)
-      → IsHonoured (house_in a.loading a.versions) (draws_of a.key) script a.workers a.answered.crew o owner (a.found o) earlier a.answered.exchanges (a.answered.records o)
-  script_owner earlier begun =
-      kept (house_in a.loading a.versions) (draws_of a.key) script a.workers a.answered.crew o owner (a.found o) earlier a.answered.exchanges (a.answered.records o) here inside begun
-      a.answered.gathered.turns (a.answered.gathered.owners o owner here)
-
   pub script_is_call : (before after : Shown) (sent : ℕ → Bool) → old o ≡ Some before → new o ≡ Some after
       → IsCall (draws_of a.key) o owner (header_of (in_versions a.loading a.versions) a.key o) (script_call words reads old new script written a o before after sent)
   script_is_call before after sent was is =
@@ -71,16 +59,6 @@ module _ (words : List (List ℕ)) (reads : ReadsToCome) (old new : Shelf) (door
 
   service_inside : IsOwnerIn (house_in s.loading s.at.versions) owner
   service_inside = register_owners (in_versions s.loading s.at.versions).register service_lawful.register o owner here
-
-  pub service_owner : (earlier : List (List ℕ)) → IsFound owner (draws_of s.key o) earlier (s.at.found o)
-      → KeepThePromises (house_in s.loading s.at.versions) (draws_of s.key) o (s.at.found o) (map (λ x. x.turn) s.at.service.held.exchanges) s.workers s.at.service.held.crew owner earlier s.at.service.held.exchanges (s.at.over.records o)
-      s.at.service.sittings
-  service_owner earlier begun =
-      let its : IsFound owner (draws_of s.key o) earlier _ = subst (λ (found : List Record). IsFound owner (draws_of s.key o) earlier found) (sym (s.at.over.begun o)) begun in
-      subst (λ (found : List Record). KeepThePromises (house_in s.loading s.at.versions) (draws_of s.key) o found (map (λ x. x.turn) s.at.service.held.exchanges) s.workers s.at.service.held.crew owner earlier
-      s.at.service.held.exchanges (s.at.over.records o) s.at.service.sittings) (s.at.over.begun o)
-      (together_keep (house_in s.loading s.at.versions) (draws_of s.key) s.workers s.at.service.sittings s.at.service.lasts s.at.first s.at.last s.at.over.records s.at.over.closed s.at.over.fresh s.at.service.held s.at.over.closes
-      o owner here earlier service_inside its)
 
   pub service_is_call : (before after : Shown) (sent : ℕ → Bool) → old o ≡ Some before → new o ≡ Some after
       → IsCall (draws_of s.key) o owner (header_of (in_versions s.loading s.at.versions) s.key o) (service_call words reads old new doors behind status sink sunk s o before after sent)

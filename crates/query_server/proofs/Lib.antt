@@ -22,12 +22,14 @@ pub mod Gained
 pub mod Found
 pub mod Lines
 pub mod Causes
+pub mod Transcribed
 pub mod Compared
 pub mod Examples
 pub mod ExamplesOfOrder
 pub mod ExamplesOfDisks
 pub mod ExamplesOfService
 pub mod ExamplesOfGrants
+mod ExamplesOfRecords
 pub mod Granting
 -- passed on to the crates above
 pub use Rattle.generated_run.proofs.AnswerPath

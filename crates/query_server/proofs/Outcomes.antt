@@ -40,7 +40,8 @@ use Rattle.query_server.proofs.Endings.{ComesTo, answers, checks, compares, coun
 use Rattle.query_server.proofs.Disks.{may_stop_same}
 use Rattle.query_server.proofs.Owed.{histories}
 use Rattle.owner_books.proofs.Versions.{lawful_in}
-use Rattle.generated_run.proofs.Scripts.{headline_of, owed_of}
+use Rattle.generated_run.proofs.Scripts.{owed_of}
+use Rattle.generated_run.proofs.SessionLaws.Kept.{kept}
 use Rattle.owner_house.proofs.Owners.{register_owners}
 
 -- The end's text is written whole or in part: so it is written what is due.
@@ -254,8 +255,9 @@ answered_by words reads b a script text workers loading key work versions found 
       opened = opened;
       answered = answered;
       owed = owed_of (house_in loading versions) (draws_of key) found script workers answered.crew answered.exchanges answered.records owners histories answered.gathered;
-      headline = λ earlier explained.
-          headline_of (house_in loading versions) (draws_of key) found earlier script workers answered.crew answered.exchanges answered.records owners explained answered.gathered;
+      headline = λ o owner here earlier explained.
+          kept (house_in loading versions) (draws_of key) script workers answered.crew o owner (found o) earlier answered.exchanges (answered.records o) here (owners o owner here) explained
+          answered.gathered.turns (answered.gathered.owners o owner here);
     }
 
 -- what is left of some work

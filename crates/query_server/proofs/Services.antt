@@ -104,7 +104,7 @@ service_left words reads b a doors now end status text sink sunk with cause (inl
       end = service;
       at = at;
       owed = owed_to loading key lawful workers each b a doors now service at;
-      kept = λ earlier explained o owner here. kept_to loading key lawful workers each b a doors now service at o owner here (earlier o) (explained o owner here);
+      kept = λ o owner here earlier explained. kept_to loading key lawful workers each b a doors now service at o owner here earlier explained;
       told = here with.whole same;
     })
   where

@@ -1,11 +1,12 @@
 -- What is proved of the definitions.
-use Rattle.std.specs.Prelude.{◌≡◌, ◌⊎◌, ℕ, ◌<◌, List, [], ◌++◌, length, map, slice_get, None, Some}
+use Rattle.std.specs.Prelude.{◌≡◌, ◌⊎◌, ℕ, ◌<◌, List, [], ◌++◌, length, map, slice_get, None, Some, IsSome}
+use Rattle.std.specs.List.{AllByRecursion, flat_map}
 use Rattle.word_streams.specs.Draws.{draws_of}
 use Rattle.fz_outside.specs.Faults.{HasRisen}
 use Rattle.fz_ast.specs.Signature.{Signature, IsSignature}
 use Rattle.metric_values.specs.Tables.{Dataset, IsDataset}
 use Rattle.outside_disks.specs.Disks.{Shown}
-use Rattle.wire_lines.specs.Reply.{refused as refused_reply}
+use Rattle.wire_lines.specs.Reply.{Replied, refused as refused_reply, reply_text}
 use Rattle.wire_lines.specs.Refusal.{by_disk}
 use Rattle.wire_lines.specs.declared.refusal.DiskRefusal.{DiskRefusal}
 use Rattle.wire_lines.specs.declared.refusal.DiskRefusal.TheVariants.{Fault as DiskFault}
@@ -22,12 +23,16 @@ use Rattle.budget_core.specs.Granting.{IsAmount}
 use Rattle.generated_run.specs.SessionCore.Meant.{wants}
 use Rattle.generated_run.specs.SessionCore.Turns.{meant_at}
 use Rattle.generated_run.specs.SessionCore.Exchanges.{Exchange}
+use Rattle.generated_run.specs.SessionCore.Headline.{AreFound, Headline, Programs}
+use Rattle.generated_run.specs.SessionCore.Said.{NothingFailed}
+use Rattle.generated_run.specs.SessionLaws.Whole.{HadMemory}
 use Rattle.generated_run.specs.SessionCore.Transcript.{IsScriptRun, Journals}
 use Rattle.command_words.specs.Command.{command_of}
 use Rattle.catalog_loading.specs.Files.{Contents, ReadsToCome, always}
 use Rattle.catalog_loading.specs.Loaded.{IsKeyedOwner, IsLoading, KeyedOwner, Loading, owners_in}
 use Rattle.query_server.specs.Work.{Work, refused, to_answer, to_check, to_compare, to_count, to_grant, to_make, to_serve}
-use Rattle.owner_books.specs.Shelves.{EachDisk, IsOnlySynced, Shelf}
+use Rattle.owner_books.specs.Opened.{house_in}
+use Rattle.owner_books.specs.Shelves.{EachDisk, IsOnlySynced, Shelf, SomeRose}
 use Rattle.owner_books.specs.Bays.{DisksFailed}
 use Rattle.query_server.specs.Outside.{NoCallFailed, Outside, Stays}
 use Rattle.query_server.specs.Run.{IsScriptAnswered}
@@ -186,6 +191,26 @@ abbrev pub OneWorkerTranscribes : Type 0
 OneWorkerTranscribes = (loading : Loading) (key : List ℕ) (workers : ℕ) (old new : Shelf) (found : Journals) (script text : List ℕ)
     → (answered : IsScriptAnswered loading key workers old new found script text) → workers ≡ 1
     → IsScriptRun (house_of loading.register) (draws_of key) found script (map (λ x. x.reply) answered.exchanges) answered.records
+
+-- And where every owner's disk was at home, none of them failed and no line was told 51 or 90, what is written is the script's one transcript in
+-- which nothing fails, and the records are those after it.
+abbrev pub OneWorkerWritesTheTranscript : Type 0
+OneWorkerWritesTheTranscript = (words : List (List ℕ)) (reads : ReadsToCome) (old new : Shelf) (script written : List ℕ)
+    → (a : IsAnsweredScript words reads old new script written) → a.workers ≡ 1
+    → ((o : ℕ) → o < owners_in a.loading → IsSome (old o)) → (SomeRose old new → ⊥)
+    → ((place : ℕ) (x : Exchange) → slice_get a.answered.exchanges place ≡ Some x → HadMemory x.reply)
+    → (replies : List Replied) (last : Journals) → IsScriptRun (house_in a.loading a.versions) (draws_of a.key) a.found script replies last
+    → AllByRecursion NothingFailed replies
+    → (written ≡ flat_map reply_text replies)
+    × ((o : ℕ) (owner : Owner) → slice_get (house_in a.loading a.versions).owners o ≡ Some owner → a.answered.records o ≡ last o)
+
+-- What is promised to each owner by itself is the headline of all, where programs explain what was found of all of them.
+abbrev pub OwnersMakeTheHeadline : Type 0
+OwnersMakeTheHeadline = (words : List (List ℕ)) (reads : ReadsToCome) (old new : Shelf) (script written : List ℕ)
+    → (a : IsAnsweredScript words reads old new script written) → (earlier : Programs)
+    → AreFound (house_in a.loading a.versions) (draws_of a.key) earlier a.found
+    → Headline (house_in a.loading a.versions) (draws_of a.key) a.found earlier script a.workers a.answered.crew a.answered.exchanges
+    a.answered.records
 
 -- A query is refused for its owner's disk (42 or 52) only where the count of faults of that disk rose in the run. Of a line that is told
 -- 52 it is its own record that may stand in the journal behind the others.

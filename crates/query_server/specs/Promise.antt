@@ -1,7 +1,9 @@
 -- A script that was answered, and what is promised to every owner.
-use Rattle.std.specs.Prelude.{◌≡◌, ◌⊎◌, ℕ, ◌≤◌, List, length, Some, Ok}
+use Rattle.std.specs.Prelude.{◌≡◌, ◌⊎◌, ℕ, ◌≤◌, List, length, slice_get, Some, Ok}
 use Rattle.word_streams.specs.Draws.{draws_of}
-use Rattle.generated_run.specs.SessionCore.Headline.{Programs, AreFound, AreOwed, Headline}
+use Rattle.owner_house.specs.Owner.{Owner}
+use Rattle.generated_run.specs.OwnerHistory.Sound.{IsFound}
+use Rattle.generated_run.specs.SessionCore.Headline.{AreOwed, IsHonoured}
 use Rattle.generated_run.specs.SessionCore.Transcript.{Journals}
 use Rattle.command_words.specs.Command.{run, command_of}
 use Rattle.catalog_loading.specs.Files.{ReadsToCome}
@@ -23,8 +25,9 @@ pub record IsHouseOf (words : List (List ℕ)) (reads : ReadsToCome) (workers : 
   pub lawful : IsKeyedHouse (keyed loading key)
 
 -- The script is no longer than it may be. The owners' journals are opened, and what is written is the script's replies, in the house of
--- the files. The records behind them are legal after those found, and within the budget, for every owner; and for all programs that
--- explain the found ones, the exchanges that these replies are of and the records keep the promises.
+-- the files. The records behind them are legal after those found, and within the budget, for every owner; and to each owner, for all
+-- programs that explain the records found of its own, the exchanges that these replies are of and its records keep the promises, whatever
+-- was found of others.
 pub record IsAnsweredScript (words : List (List ℕ)) (reads : ReadsToCome) (old new : Shelf) (script written : List ℕ) : Type 0 where
   pub workers : ℕ
   pub loading : Loading
@@ -36,8 +39,10 @@ pub record IsAnsweredScript (words : List (List ℕ)) (reads : ReadsToCome) (old
   pub opened : AreOpened loading key old versions found
   pub answered : IsScriptAnswered (in_versions loading versions) key workers old new found script written
   pub owed : AreOwed (house_in loading versions) found answered.records
-  pub headline : (earlier : Programs) → AreFound (house_in loading versions) (draws_of key) earlier found
-      → Headline (house_in loading versions) (draws_of key) found earlier script workers answered.crew answered.exchanges answered.records
+  pub headline : (o : ℕ) (owner : Owner) → slice_get (house_in loading versions).owners o ≡ Some owner
+      → (earlier : List (List ℕ)) → IsFound owner (draws_of key o) earlier (found o)
+      → IsHonoured (house_in loading versions) (draws_of key) script workers answered.crew o owner (found o) earlier answered.exchanges
+      (answered.records o)
 
 -- What a `run` leaves at whatever status: the script was answered, and what is written is a prefix of its replies, all of them at
 -- status Done; or it wasn't, the status is another, and nothing was written to any owner's disk.

@@ -5,6 +5,7 @@ ghost use Rattle.query_server.specs.Laws.{DiskRefusalsHaveCauses, GapsAreOfDatas
 ghost use Rattle.query_server.specs.Laws.{LinesAreExact, ProgramsAreExact, RefusalsAreExact, VerdictsAreExact};
 ghost use Rattle.query_server.specs.Laws.{FaultyWordsAreTold, StatusesAreOfCommands};
 ghost use Rattle.query_server.specs.Laws.{AuditsKeepWhatWasFound, GrantsKeepWhatWasFound, RunsKeepWhatWasFound, ServicesKeepWhatWasFound};
+ghost use Rattle.query_server.specs.Laws.{OneWorkerWritesTheTranscript, OwnersMakeTheHeadline};
 ghost use Rattle.query_server.specs.Laws.{LinesAreHeadlines, ValidCommandsEndWell, WhatIsGrantedIsLawful, WhatIsLoadedIsLawful};
 
 /// Where files, source and sink tell what they hold, what the top call writes and reads is exactly what is due.
@@ -75,9 +76,16 @@ pub fn outside_stays()
     ensures { OutsideStays }
 {}
 
-/// One worker's replies are the script's transcript.
+/// One worker's replies are the script's transcript. Where no disk failed and no line was told 51 or 90, what is written is the one transcript
+/// in which nothing fails, byte for byte.
 pub fn one_worker_transcribes()
-    ensures { OneWorkerTranscribes }
+    ensures replies { OneWorkerTranscribes }
+    ensures written { OneWorkerWritesTheTranscript }
+{}
+
+/// What is promised to each owner by itself is the headline of all.
+pub fn owners_make_the_headline()
+    ensures { OwnersMakeTheHeadline }
 {}
 
 /// Where a `gap` is accepted, its last line's number is at most the sensitivity times the distance.
