@@ -161,8 +161,8 @@ module _ (draws : ℕ → ℕ → ℕ → ℕ) (o : ℕ) (owner : Owner) (header
   -- .. which is all its records, where no append failed and nothing was granted.
   pub all_found : (first second : Call) (t : Trace) (file : List ℕ) → IsCall draws o owner header first → IsCall draws o owner header second → first.closed ≡ None → first.after.trace ≡ Some t → IsImageOf t file
       → file_on second.before ≡ Some file → second.found ≡ first.records
-  all_found first second t file is next open told image holds =
+  all_found first second t file is next unshut told image holds =
       let kept : IfSome (Some t) (IsKeptNow header first.records None)
-      = subst (λ (u : Option Trace). IfSome u (IsKeptNow header first.records None)) told (subst (λ (c : Option Failure). IfSome first.after.trace (IsKeptNow header first.records c)) open is.went.kept) in
+      = subst (λ (u : Option Trace). IfSome u (IsKeptNow header first.records None)) told (subst (λ (c : Option Failure). IfSome first.after.trace (IsKeptNow header first.records c)) unshut is.went.kept) in
       let stands : Stands header first.records file = subst (Stands header first.records) (sym (kept.stable file image)) kept.stands in
       stands-one header second.found first.records file (opens second file next holds) stands
