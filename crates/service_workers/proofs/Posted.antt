@@ -1,12 +1,12 @@
 -- Doors given to workers, and put back in front of those that are left; and what the workers' ends come to.
-use Rattle.std.proofs.Common.{◌≡◌, ◌≢◌, ℕ, zero, suc, ◌+◌, ◌<◌, ◌≤◌, List, [], ◌∷◌, ◌++◌, length, get_or, take, drop, map, Option, refl, sym, ap, ◌∙◌, arith, append_assoc, length-append}
+use Rattle.std.proofs.Common.{◌≡◌, ◌≢◌, ℕ, zero, suc, ◌+◌, ◌<◌, ◌≤◌, List, [], ◌∷◌, ◌++◌, length, get_or, take, drop, map, Option, refl, sym, ap, subst, ◌∙◌, arith, append_assoc, length-append}
 use Rattle.std.proofs.lemmas.List.{length-map, map-append}
 use Rattle.std.proofs.Math.Seq.{drop-append_seam}
 use Rattle.service_workers.specs.declared.posting.Service.{Service}
 use Rattle.service_workers.specs.declared.posting.Service.TheVariants.{Served, DoorFault, NoMemory}
 use Rattle.outside_links.specs.Links.{Connection}
 use Rattle.service_workers.specs.Services.{Door, ComesTo, door_at, door_of}
-use Rattle.service_workers.specs.Code.{worse_of, worst_of}
+use Rattle.service_workers.specs.Code.{IsPosted, worse_of, worst_of}
 
 -- the first of some doors is taken
 pub first_taken : {A : Type 0} (all rest : List A) (first : A) → 0 < length all → first ≡ get_or all 0 first → rest ≡ take 0 all ++ drop 1 all → all ≡ first ∷ rest
@@ -29,6 +29,26 @@ worst_step end now after taken more last is one before = one ∙ ap (λ w. worse
 -- what a door shows, by what its calls say
 abbrev pub shown_by : {B : Type 0} → (coming back : B → Option (List Connection)) → (faults : B → ℕ) → B → Door
 shown_by coming back faults one = door_of (coming one) (back one) (faults one)
+
+-- a worker's door is the one at its place
+pub door_there : {A B : Type 0} (door : A → B) (all rest : List B) (crew : List A) (i : ℕ) (w : A) (d : B) → all ≡ map door crew ++ rest → i < length crew
+    → get_or all i d ≡ door (get_or crew i w)
+door_there {A = A} door all rest crew i w d is lt = ap (λ ds. get_or ds i d) is ∙ at crew i lt
+  where
+    at : (ws : List A) (k : ℕ) → k < length ws → get_or (map door ws ++ rest) k d ≡ door (get_or ws k w)
+    at [] k lt = absurd (omega (arith, lt))
+    at (x ∷ ws) zero lt = refl
+    at (x ∷ ws) (suc k) lt = at ws k (omega (arith, lt))
+
+-- .. so it listens where that worker is posted
+pub posted_there : {A B : Type 0} (door : A → B) (listens : B → List ℕ → ℕ → Type 0) (faults : B → ℕ) (addr : List ℕ) (port : ℕ) (olds news rest : List B)
+    (first crew : List A) (i : ℕ) (w : A) (d : B) → olds ≡ map door first ++ rest → news ≡ map door crew ++ rest → i < length first → i < length crew
+    → IsPosted (listens (door (get_or crew i w)) addr port) (faults (door (get_or first i w))) (faults (door (get_or crew i w)))
+    → IsPosted (listens (get_or news i d) addr port) (faults (get_or olds i d)) (faults (get_or news i d))
+posted_there door listens faults addr port olds news rest first crew i w d before after early late posted =
+    subst (λ n. IsPosted (listens n addr port) (faults (get_or olds i d)) (faults n)) (sym (door_there door news rest crew i w d after late))
+    (subst (λ o. IsPosted (listens (door (get_or crew i w)) addr port) (faults o) (faults (door (get_or crew i w))))
+    (sym (door_there door olds rest first i w d before early)) posted)
 
 module _ {A B : Type 0} (door : A → B) (show : B → Door) where
   -- a worker's door is the one at its place

@@ -1,5 +1,6 @@
 -- What a worker has done: with one connection, and with its door.
-use Rattle.std.specs.Prelude.{◌≡◌, ℕ, Bool, true, false, List, [], ◌∷◌}
+use Rattle.std.specs.Prelude.{◌≡◌, ◌⊎◌, ℕ, Bool, true, false, List, [], ◌∷◌}
+use Rattle.fz_outside.specs.Faults.{HasRisen}
 use Rattle.owner_desk.specs.Passes.{Pass}
 use Rattle.owner_house.specs.House.{House}
 use Rattle.held_sessions.specs.SessionEndType.{SessionEnd}
@@ -25,6 +26,10 @@ pub record HasAttended (house : House) (draws : ℕ → ℕ → ℕ → ℕ) (ea
   pub sittings : List (Sitting house draws)
   pub follow : FollowOn house draws before sittings after
   pub attended : IsAttended house draws each end sittings old new
+
+-- A door listens where its worker is posted, or a call of it has failed.
+abbrev pub IsPosted : (Listens : Type 0) → (old new : ℕ) → Type 0
+IsPosted Listens old new = Listens ⊎ HasRisen old new
 
 -- how a worker's work ended, by whether it dropped a connection and whether its door failed
 abbrev pub end_by : (dropped failed : Bool) → Service

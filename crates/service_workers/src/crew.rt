@@ -8,7 +8,7 @@ ghost use Rattle.held_sessions.specs.SessionCore.Bundles.{given_halves, handed_o
 ghost use Rattle.held_sessions.specs.SessionCore.Code.{ArePasses, pass_at};
 ghost use Rattle.script_workers.specs.Crews.{HasTakenAll, needed};
 ghost use Rattle.service_workers.specs.Services.{door_of};
-ghost use Rattle.service_workers.specs.Code.{HasAttended, worse_of, worst_of};
+ghost use Rattle.service_workers.specs.Code.{HasAttended, IsPosted, worse_of, worst_of};
 
 use crate::posting::{Posting, Service};
 use crate::worker::{Place, Worker, attend_own};
@@ -108,6 +108,9 @@ where
         (door_of (O.coming (slice_index_or crew.items i d).door) (O.served (slice_index_or crew.items i d).door) (O.faults (slice_index_or crew.items i d).door))
         (door_of (O.coming (slice_index_or after.items i d).door) (O.served (slice_index_or after.items i d).door) (O.faults (slice_index_or after.items i d).door))
         (slice_index_or crew.items i d).passes.knows (slice_index_or after.items i d).passes.knows) }
+    ensures posted { IfOk result (λ after. (i : ℕ) (d : _) → i < length crew.items →
+        IsPosted (O.listens (slice_index_or after.items i d).door posting.now.addr.now (posting.now.port + i))
+        (O.faults (slice_index_or crew.items i d).door) (O.faults (slice_index_or after.items i d).door)) }
     ensures kept { IfOk result (λ after. (i : ℕ) (d : _) → i < length crew.items → (slice_index_or after.items i d).passes
         ≡ record (slice_index_or crew.items i d).passes { knows = (slice_index_or after.items i d).passes.knows }) }
     ensures refused { IfErr result (λ refused. refused.crew.items ≡ crew.items) }
@@ -120,6 +123,8 @@ where
             (door_of (O.coming worker.old.door) (O.served worker.old.door) (O.faults worker.old.door))
             (door_of (O.coming worker.new.door) (O.served worker.new.door) (O.faults worker.new.door))
             worker.old.passes.knows worker.new.passes.knows
+            × IsPosted (O.listens worker.new.door posting.entry.now.addr.now (posting.entry.now.port + index))
+            (O.faults worker.old.door) (O.faults worker.new.door)
             × (worker.new.passes ≡ record worker.old.passes { knows = worker.new.passes.knows }) }
     {
         let server = Server {

@@ -1,12 +1,13 @@
 //! A service, from its doors to the last connection.
 
-ghost use Rattle.std.specs.Prelude.{◌≡◌, ◌+◌, ◌^◌, ◌<◌, ◌≤◌, length, map, All, IfErr, IfOk};
+ghost use Rattle.std.specs.Prelude.{◌≡◌, ◌+◌, ◌^◌, ◌<◌, ◌≤◌, ℕ, length, map, All, IfErr, IfOk, slice_index_or};
 ghost use Rattle.owner_lock.specs.Known.{whole_share};
 ghost use Rattle.word_streams.specs.Draws.{draws_of};
 ghost use Rattle.owner_house.specs.House.{house_of};
 ghost use Rattle.held_sessions.specs.SessionCore.Code.{AreFresh, ArePasses};
 ghost use Rattle.held_sessions.specs.SessionCore.Worked.{HaveAddedNone};
 ghost use Rattle.service_workers.specs.Services.{IsService, door_of};
+ghost use Rattle.service_workers.specs.Code.{IsPosted};
 
 use crate::crew::{bring_in, hire_all, work};
 use crate::posting::{Posting, Service};
@@ -51,6 +52,10 @@ where
     ensures service { IfOk result (λ end. IsService (house_of house.now) (draws_of streams.now) workers posting.now.each end
         (map (λ d. door_of (O.coming d) (O.served d) (O.faults d)) doors.old.items) (map (λ d. door_of (O.coming d) (O.served d) (O.faults d)) doors.new.items)
         passes.old.knows passes.new.knows) }
+    // Worker i's door listens at the given address and port P + i, or it has failed.
+    ensures posted { IfOk result (λ _. (i : ℕ) (d : O) → i < workers →
+        IsPosted (O.listens (slice_index_or doors.new.items i d) posting.now.addr.now (posting.now.port + i))
+        (O.faults (slice_index_or doors.old.items i d)) (O.faults (slice_index_or doors.new.items i d))) }
     ensures refused { IfErr result (λ _. HaveAddedNone (house_of house.now) passes.old.knows passes.new.knows) }
     ensures untouched { IfErr result (λ _. doors.new.items ≡ doors.old.items) }
     ensures passes { ArePasses (house_of house.now) passes.new.knows }

@@ -1,12 +1,12 @@
 //! One worker, and what it does.
 
-ghost use Rattle.std.specs.Prelude.{◌≡◌, ◌≢◌, ◌+◌, ◌*◌, ◌-◌, ◌^◌, ◌<◌, ◌≤◌, ◌||◌, min, IsErr, IfOk, MatchBool, OnErr};
+ghost use Rattle.std.specs.Prelude.{◌≡◌, ◌≢◌, ◌+◌, ◌*◌, ◌-◌, ◌^◌, ◌<◌, ◌≤◌, ◌||◌, min, ℕ, List, IsErr, IfOk, MatchBool, OnErr};
 ghost use Rattle.fz_outside.specs.Faults.{HasCause};
 ghost use Rattle.owner_house.specs.House.{house_of};
 ghost use Rattle.held_sessions.specs.SessionCore.Code.{ArePasses};
 ghost use Rattle.held_sessions.specs.SessionEnds.{NoMemory};
 ghost use Rattle.service_workers.specs.Services.{door_of};
-ghost use Rattle.service_workers.specs.Code.{HasAttended, HasHeld, end_by};
+ghost use Rattle.service_workers.specs.Code.{HasAttended, HasHeld, IsPosted, end_by};
 
 use crate::posting::{Posting, Service};
 use fz_outside::Failed;
@@ -58,6 +58,7 @@ fn serve_next<R: Wait, D: Disk, S: Streams, G: Gate, O: Doors>(
     ensures held { IfOk result (λ end. HasHeld (house_of server.now.house.now) (S.given server.now.streams.now) end
         (door_of (O.coming door.old) (O.served door.old) (O.faults door.old)) (door_of (O.coming door.new) (O.served door.new) (O.faults door.new))
         passes.old.knows passes.new.knows) }
+    ensures there { (addr : List ℕ) (port : ℕ) → O.listens door.old addr port → O.listens door.new addr port }
     ensures failed { OnErr result ((O.coming door.new ≡ O.coming door.old) × (O.served door.new ≡ O.served door.old) × (passes.new ≡ passes.old)) }
     ensures cause { HasCause (O.faults door.old) (O.faults door.new) (IsErr result) }
     ensures passes { ArePasses (house_of server.now.house.now) passes.new.knows }
@@ -114,6 +115,7 @@ fn serve_each<R: Wait, D: Disk, S: Streams, G: Gate, O: Doors>(
     ensures attended { HasAttended (house_of server.now.house.now) (S.given server.now.streams.now) each result
         (door_of (O.coming door.old) (O.served door.old) (O.faults door.old)) (door_of (O.coming door.new) (O.served door.new) (O.faults door.new))
         passes.old.knows passes.new.knows }
+    ensures there { (addr : List ℕ) (port : ℕ) → O.listens door.old addr port → O.listens door.new addr port }
     ensures kept { passes.new ≡ record passes.old { knows = passes.new.knows } }
 {
     let mut any = false;
@@ -144,6 +146,7 @@ fn attend<R: Wait, D: Disk, S: Streams, G: Gate, O: Doors>(
     ensures attended { HasAttended (house_of server.now.house.now) (S.given server.now.streams.now) posting.now.each result
         (door_of (O.coming door.old) (O.served door.old) (O.faults door.old)) (door_of (O.coming door.new) (O.served door.new) (O.faults door.new))
         passes.old.knows passes.new.knows }
+    ensures posted { IsPosted (O.listens door.new posting.now.addr.now (posting.now.port + place.index)) (O.faults door.old) (O.faults door.new) }
     ensures kept { passes.new ≡ record passes.old { knows = passes.new.knows } }
 {
     let port = posting.port + place.index as u16;
@@ -169,6 +172,8 @@ pub(crate) fn attend_own<R: Wait, D: Disk, S: Streams, G: Gate, O: Doors + Drop>
         (door_of (O.coming worker.old.door) (O.served worker.old.door) (O.faults worker.old.door))
         (door_of (O.coming worker.new.door) (O.served worker.new.door) (O.faults worker.new.door))
         worker.old.passes.knows worker.new.passes.knows }
+    ensures posted { IsPosted (O.listens worker.new.door posting.now.addr.now (posting.now.port + place.index))
+        (O.faults worker.old.door) (O.faults worker.new.door) }
     ensures kept { worker.new.passes ≡ record worker.old.passes { knows = worker.new.passes.knows } }
 {
     worker.end = attend(server, &mut worker.passes, &mut worker.door, posting, place);

@@ -1,4 +1,4 @@
-use Rattle.std.proofs.Common.{◌≡◌, ◌++◌, ◌<◌, List, length, get_or, map, sym, refl, ap, ◌∙◌, subst, arith}
+use Rattle.std.proofs.Common.{◌≡◌, ◌++◌, ◌+◌, ◌<◌, List, length, get_or, map, sym, refl, ap, ◌∙◌, subst, arith}
 use Rattle.std.specs.Prelude.{sum_by}
 use Rattle.word_streams.specs.Draws.{draws_of}
 use Rattle.owner_house.specs.House.{house_of}
@@ -8,7 +8,7 @@ use Rattle.held_sessions.specs.SessionCore.Code.{pass_at}
 use Rattle.script_workers.specs.Crews.{HasTakenAll}
 use Rattle.script_workers.proofs.Brought.{sum_same}
 use Rattle.script_workers.proofs.Back.{all_back, handed_passes, none_brought, owner_within, passes_back, some_of, whole_enough}
-use Rattle.service_workers.proofs.Posted.{as_many, others_left, room_for, shown_by}
+use Rattle.service_workers.proofs.Posted.{as_many, others_left, posted_there, room_for, shown_by}
 use Rattle.service_workers.proofs.Joined.{all_served, attended_at}
 use Rattle.service_workers.proofs.service.serve_all.Goals as goal
 
@@ -89,6 +89,17 @@ returns-in-Ok-work-clause-service g c =
       subst (λ (ks : List Pass). HasTakenAll (pass_at ks o) (map (λ x. pass_at x.passes.knows o) crew) (pass_at c.bring_in.new.passes.knows o)) c.in-Ok.ensures.kept.1
           (c.bring_in.ensures.taken o (owner_within house main.knows (length c.args.desks.now) o owner c.requires.passes long at)),
     ))
+
+pub returns-in-Ok-work-clause-posted : goal.returns-in-Ok-work-clause-posted
+returns-in-Ok-work-clause-posted g c = λ i d lt.
+    let first = c.hire_all.new.crew.items in
+    let crew = c.in-Ok-work.crew.items in
+    let early : i < length first = omega (arith, lt, c.in-Ok.ensures.len) in
+    let late : i < length crew = omega (arith, early, c.in-Ok-work.ensures.len) in
+    let w = some_of crew (omega (arith, late)) in
+    posted_there (λ v. v.door) g.O.Doors.listens g.O.Doors.faults c.args.posting.now.addr.now (c.args.posting.now.port + i) c.args.doors.now.items
+    c.bring_in.new.doors.items c.hire_all.new.doors.items first crew i w d c.in-Ok.ensures.doors c.bring_in.ensures.doors early late
+    (c.in-Ok-work.ensures.posted i w early)
 
 pub returns-in-Ok-work-clause-passes : goal.returns-in-Ok-work-clause-passes
 returns-in-Ok-work-clause-passes g c =
