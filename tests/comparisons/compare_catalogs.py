@@ -96,7 +96,18 @@ def partition(rng, name, tables):
     return Members([("name", name), ("table", dict(of)["name"]), ("column", dict(column)["name"]), ("keys", keys(rng, many))])
 
 
-def owner(rng, name):
+def limits(rng, analysts):
+    """Of some of the analysts, each once; now and then none, or left out."""
+    if rng.random() < 0.5:
+        return []
+    limited = rng.sample(analysts, rng.choice([0, 1, 1, len(analysts)]))
+    many = [Members([("analyst", name), ("budget", Number(rng.choice([1, 10**18, rng.randint(1, 10**18)])))]) for name in limited]
+    for made in many:
+        rng.shuffle(made)
+    return [("limits", many)]
+
+
+def owner(rng, name, analysts):
     tables = [table(rng, name) for name in names(rng, some(rng, 8), reserved=False)]
     partitions = [partition(rng, name, tables) for name in names(rng, rng.choice([0, 0, 0, 1, 2, 8]))]
     return Members(
@@ -106,14 +117,16 @@ def owner(rng, name):
             ("capacity", Number(rng.choice([2, 100, 262_144, rng.randint(2, 262_144)]))),
             ("tables", tables),
             ("partitions", [made for made in partitions if made is not None]),
+            *limits(rng, analysts),
         ]
     )
 
 
 def right(rng):
     many = rng.choice(SIDES["owners"]) if rng.random() < 0.02 else some(rng, 16)
-    owners = [owner(rng, name) for name in names(rng, many)]
-    return Members([("analysts", names(rng, some(rng, 64))), ("owners", owners)])
+    analysts = names(rng, some(rng, 64))
+    owners = [owner(rng, name, analysts) for name in names(rng, many)]
+    return Members([("analysts", analysts), ("owners", owners)])
 
 
 # Changes of one value.
@@ -164,9 +177,9 @@ def change(rng, whole):
     elif way == "order":
         rng.shuffle(holder)
     elif way == "unknown":
-        holder.insert(at, (rng.choice(["", "more", "Name", "name ", "budget", "\x00", "\U0001f600", "\uffff"]), anything(rng)))
+        holder.insert(at, (rng.choice(["", "more", "Name", "name ", "budget", "limits", "\x00", "\U0001f600", "\uffff"]), anything(rng)))
     elif way == "renamed":
-        holder[at] = (rng.choice(["name", "file", "type", "more"]), inside)
+        holder[at] = (rng.choice(["name", "file", "type", "more", "limits", "limit", "analyst"]), inside)
     elif way == "hidden":
         # The same member before, with another value: only the last counts.
         holder.insert(rng.randrange(at + 1), (holder[at][0], anything(rng)))

@@ -275,7 +275,7 @@ class Case:
         """A journal of this owner, with records, and perhaps spoilt."""
         rng, entry = self.rng, self.entries[order]
         capacity, version = entry["capacity"], rng.choice([1, 1, 2, 2, 3, 3, 3])
-        book = Book(entry, len(self.analysts), version)
+        book = Book(entry, self.analysts, version)
         fill(rng, book, min(capacity, rng.choice([0, 2, 20, 64, 65, 128, 129, capacity, rng.randint(0, capacity)])))
         records = list(book.records)
         wrong = rng.random() < 0.3 and len(records) < capacity
@@ -318,7 +318,7 @@ class Case:
         """Each owner's book, or why there is none."""
         for order, (data, entry) in enumerate(zip(self.journals, self.entries)):
             try:
-                yield book_of(data, self.head(order), entry, len(self.analysts))
+                yield book_of(data, self.head(order), entry, self.analysts)
             except Refused as refusal:
                 yield refusal
 

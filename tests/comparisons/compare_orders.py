@@ -59,7 +59,7 @@ class Orders(Case):
 
     def judged(self, kept, books, script, said, now, workers):
         """Whether this was said and left in some order of the script's lines."""
-        analysts = len(self.house.catalog["analysts"])
+        analysts = self.house.catalog["analysts"]
         after = [book_of(data, head, entry, analysts) for data, head, entry in zip(now, self.heads, self.entries)]
         for before, data, book, new in zip(kept, now, books, after):
             if data != appended(before, book.entry["capacity"], new.records[len(book.records) :]):
@@ -101,7 +101,7 @@ class Plants:
 
     def records(self, order):
         kept = self.now[order]
-        book = book_of(kept, self.case.heads[order], self.case.entries[order], len(self.case.house.catalog["analysts"]))
+        book = book_of(kept, self.case.heads[order], self.case.entries[order], self.case.house.catalog["analysts"])
         return book.records
 
     def with_records(self, order, records):
@@ -178,9 +178,9 @@ class Plants:
     def stale(self):
         """A worker is told what was left before its own earlier answer."""
         for at, reply in enumerate(self.replies):
-            if reply.startswith("left ") and any(self.order_of(before) == self.order_of(at) for before in self.own_before(at)):
-                book = self.books[self.order_of(at)]
-                self.refused("a balance behind too few records", self.changed(at, f"left {book.spent} {book.budget} {len(book.records)}"))
+            if reply.startswith(("left ", "mine ")) and any(self.order_of(before) == self.order_of(at) for before in self.own_before(at)):
+                book, words = self.books[self.order_of(at)], reply.split(" ")
+                self.refused("a balance behind too few records", self.changed(at, f"{words[0]} 0 {words[2]} {len(book.records)}"))
 
     def own_before(self, at):
         """The answers that the worker of a line had before it."""

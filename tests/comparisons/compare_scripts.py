@@ -40,14 +40,14 @@ from runs import TooManySteps  # noqa: E402
 
 STEPS = 100_000
 SHARE = 50
-REPLIES = ("hello", "answer", "recall", "left", "bye", "no")
+REPLIES = ("hello", "answer", "recall", "left", "mine", "bye", "no")
 GRANTS = ["granted", "too large", "full", "usage", "granted to nobody"]
-KINDS = [b"hello", b"ask", b"askpart", b"recall", b"left", b"bye"]
+KINDS = [b"hello", b"ask", b"askpart", b"recall", b"left", b"mine", b"bye"]
 WANTED = (
-    ["hello", "answer", "answer of a part", "answer of a part that took 0", "recall answer", "recall exhausted", "recall lost", "left", "bye"]
+    ["hello", "answer", "answer of a part", "answer of a part that took 0", "recall answer", "recall exhausted", "recall lost", "left", "mine", "mine without a limit", "bye"]
     + [f"no 10 {word}" for word in range(6)] + ["no 12 1", "no 12 2", "no 12 3"]
     + [f"no 30 {kind}" for kind in ("unbound", "mismatch", "notground", "notflat")]
-    + [f"no {code}" for code in (11, 13, 14, 20, 21, 22, 31, 32, 33, 34, 35, 36, 37, 40, 41, 60, 61)]
+    + [f"no {code}" for code in (11, 13, 14, 20, 21, 22, 31, 32, 33, 34, 35, 36, 37, 40, 41, 43, 60, 61)]
     + ["a run that goes on", "a record without its gate", "recall of an earlier run's", "journals of version 1", "journals of version 2"]
     + ["journals with records that gave back", "an area that was opened", "a grant behind 40", "an ask of 40 that is granted", *GRANTS]
 )  # fmt: skip
@@ -64,6 +64,8 @@ def kind_of(line, reply):
         return " ".join(words[: 3 if words[1] in ("10", "12", "30") else 2])
     if words[0] == "recall":
         return f"recall {words[2]}"
+    if words[0] == "mine":
+        return "mine without a limit" if words[2] == "none" else "mine"
     if words[0] == "answer" and line.startswith(b"askpart "):
         return "answer of a part that took 0" if words[3] == "0" else "answer of a part"
     return words[0]
@@ -119,7 +121,7 @@ class Case:
                 raise Differs(f"journals/{order}.bud isn't wanted{order}.bud")
 
     def books(self):
-        analysts = len(self.house.catalog["analysts"])
+        analysts = self.house.catalog["analysts"]
         return [book_of(kept, head, entry, analysts) for kept, head, entry in zip(self.kept, self.heads, self.entries)]
 
     def made(self, books):
@@ -214,7 +216,7 @@ class Case:
                 self.leave(order, made(in_version(self.heads[order], version), capacity))
                 self.came[f"journals of version {version}"] += 1
             if self.rng.random() < (0.6 if capacity > 64 else 0.25):
-                book = Book(entry, len(self.house.catalog["analysts"]), version)
+                book = Book(entry, self.house.catalog["analysts"], version)
                 lay_records(self.rng, book)
                 self.leave(order, self.with_records(order, book.records))
                 self.came["journals with records that were laid"] += 1

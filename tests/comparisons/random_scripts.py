@@ -43,13 +43,22 @@ def partitions_of(rng, tables):
     return [(name, *rng.choice(texts), MOST_KEYS if rng.random() < 0.05 else rng.sample(KEYS, rng.randint(1, 5))) for name in names]
 
 
-def owner_at_random(rng, name, order):
+def owner_at_random(rng, name, order, analysts):
     tables = [("people", (("age", "num"),))] * (rng.random() < 0.75) + [("stays", (("ward", "text"), ("nights", "num")))] * (rng.random() < 0.75)
     tables += [(name, columns_of(rng)) for name in rng.sample(["t", "visits", "T_2", "x" * 32], rng.choice([0, 0, 1, 1, 2]))]
     tables = tables or [("people", (("age", "num"),))]
     rng.shuffle(tables)
     tables = [(name, f"{order}_{name}.csv", columns) for name, columns in tables]
-    return owner(name, tables, rng.choice(BUDGETS), rng.choice(CAPACITIES), partitions_of(rng, tables))
+    budget = rng.choice(BUDGETS)
+    return owner(name, tables, budget, rng.choice(CAPACITIES), partitions_of(rng, tables), limits_of(rng, analysts, budget))
+
+
+def limits_of(rng, analysts, budget):
+    """Of some analysts, or of none, or left out: parts of the budget that are soon spent, or more than it."""
+    if rng.random() < 0.4:
+        return None
+    limited = rng.sample(analysts, rng.choice([0, 1, 1, 2, len(analysts)]) % (len(analysts) + 1))
+    return {name: max(1, min(MOST_BUDGET, budget * rng.choice([1, 2, 3, 5, 8, 15]) // 10)) for name in limited}
 
 
 def number_of(rng):
@@ -71,9 +80,10 @@ def file_of(rng, columns):
 
 def house_at_random(rng):
     names = rng.sample(OWNERS, rng.choice([1, 1, 2, 3, 4]))
-    owners = [owner_at_random(rng, name, order) for order, name in enumerate(names)]
+    analysts = MOST_ANALYSTS if rng.random() < 0.05 else rng.sample(ANALYSTS, rng.randint(1, 4))
+    owners = [owner_at_random(rng, name, order, analysts) for order, name in enumerate(names)]
     files = {table["file"]: file_of(rng, table["columns"]) for one in owners for table in one["tables"]}
-    return catalog(*owners, analysts=MOST_ANALYSTS if rng.random() < 0.05 else rng.sample(ANALYSTS, rng.randint(1, 4))), files
+    return catalog(*owners, analysts=analysts), files
 
 
 # Records.
@@ -92,7 +102,7 @@ def reservation_at_random(rng, book, parts=(2, 10, 50)):
         partition = rng.randrange(len(partitions))
         view = (partition, part_at_random(rng, len(partitions[partition]["keys"])))
     e = rng.randint(1, max(1, min(10**9, budget // rng.choice(parts))))
-    made = Reservation(len(book.reserved), view, e, r.numerator, r.denominator, 0, rng.randrange(book.analysts), rng.randbytes(32))
+    made = Reservation(len(book.reserved), view, e, r.numerator, r.denominator, 0, rng.randrange(len(book.analysts)), rng.randbytes(32))
     made.taken = book.spent_with(made) - book.spent
     return made
 
@@ -291,13 +301,16 @@ class Lines:
     def left(self):
         return [b"left", self.owner()[1]]
 
+    def mine(self):
+        return [b"mine", self.owner()[1]]
+
     def bye(self):
         return [b"bye"]
 
     def junk(self):
         rng = self.rng
         return [rng.choice([
-            b"", b" ", b"\t", b"\0", b"\r", b"hello", b"ask", b"askpart", b"recall", b"left", b"bye ", b" bye", b"Bye", b"HELLO ann", b"hello\tann",
+            b"", b" ", b"\t", b"\0", b"\r", b"hello", b"ask", b"askpart", b"recall", b"left", b"mine", b"bye ", b" bye", b"Bye", b"HELLO ann", b"hello\tann",
             b"\xef\xbb\xbfhello ann", b"quit", b"answer 0 5 1000000", b"no 40", b"ask\0census 1 size people", rng.randbytes(rng.randint(1, 40)).replace(b"\n", b"?"),
             b"a" * (LINE_LIMIT + rng.choice([-1, 0, 1, 1, 2])), b"hello " + b"a" * (LINE_LIMIT - 6 + rng.choice([0, 1])), b" " * LINE_LIMIT,
             b"left " + rng.choice(self.catalog["owners"])["name"].encode().ljust(LINE_LIMIT - 5 + rng.choice([0, 1])),
@@ -333,8 +346,8 @@ class Lines:
         return line
 
     def line(self):
-        kinds = [self.hello, self.ask, self.askpart, self.recall, self.left, self.bye, self.junk]
-        words = self.rng.choices(kinds, [8, 38, 22, 12, 6, 3, 10 * self.hostile])[0]()
+        kinds = [self.hello, self.ask, self.askpart, self.recall, self.left, self.mine, self.bye, self.junk]
+        words = self.rng.choices(kinds, [8, 38, 22, 12, 6, 5, 3, 10 * self.hostile])[0]()
         return self.changed(words) if self.chance(self.hostile) else b" ".join(words)
 
 

@@ -104,7 +104,7 @@ class Room:
             file.write(data)
 
     def book(self):
-        return book_of(contents("journals/0.bud"), self.head, self.entry, 2)
+        return book_of(contents("journals/0.bud"), self.head, self.entry, range(2))
 
     def counted(self):
         """What a next opening finds, which `audit` counts."""
@@ -146,7 +146,8 @@ def due(first, failed):
         elif failed >= 2 * at:
             replies.append("no 52")
             if failed % 2:
-                owner.charges, owner.records = owner.with_charge(None, E), owner.records + 1
+                owner.charge(b"ann", None, E)
+                owner.records += 1
                 owner.reservations.append((b"ann", None))
         else:
             replies.append("no 42 1")
@@ -155,7 +156,7 @@ def due(first, failed):
 
 
 def judge_run(room, ran):
-    first, before = room.first, book_of(room.before, room.head, room.entry, 2).records
+    first, before = room.first, book_of(room.before, room.head, room.entry, range(2)).records
     acknowledged = 2 * first
     if ran.returncode == 6:
         if (ran.returncode, ran.stdout) != DISK or contents("journals/0.bud") != room.before:
@@ -186,7 +187,7 @@ def judge_run(room, ran):
 
 
 def judge_grant(room, ran):
-    before = book_of(room.before, room.head, room.entry, 2).records
+    before = book_of(room.before, room.head, room.entry, range(2)).records
     if (ran.returncode, ran.stdout) not in (DISK, (-9, "")):
         raise Wrong(f"status {ran.returncode} and {ran.stdout!r}")
     now, book = contents("journals/0.bud"), room.counted()

@@ -74,7 +74,7 @@ class Room:
 
     def laid(self, order, version):
         """A journal of this version, so full that two asks more open its next area; every fourth number is exhausted, others are lost or answered."""
-        book = Book(self.entries[order], len(ANALYSTS), version)
+        book = Book(self.entries[order], ANALYSTS, version)
         for number in range(FULL // 2):
             view = WHOLE if number % 2 else (0, number % 4 // 2)
             one = Reservation(number, view, 1000 + number, 1, 1, 0, number % 2, bytes(32))
@@ -93,7 +93,7 @@ class Room:
         return [contents(f"journals/{order}.bud") for order in range(len(NAMES))]
 
     def books(self):
-        return [book_of(data, head, entry, len(ANALYSTS)) for data, head, entry in zip(self.journals(), self.heads, self.entries)]
+        return [book_of(data, head, entry, ANALYSTS) for data, head, entry in zip(self.journals(), self.heads, self.entries)]
 
     def ran(self, command, script=b"", words=(), **faults):
         given = {**os.environ, **faults, **({"LD_PRELOAD": self.library} if faults else {})}

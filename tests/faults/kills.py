@@ -65,7 +65,7 @@ class Trial:
         """Reads the journal, compares it with what was there before and with `audit`, and keeps it."""
         now = contents("journals/0.bud")
         if self.book is None:
-            self.book = book_of(now, self.head, self.entry, 2)
+            self.book = book_of(now, self.head, self.entry, range(2))
         before = len(self.book.records)
         if changes_since(self.kept, now, self.entry["capacity"]) != []:
             raise Wrong("an earlier record isn't what it was")

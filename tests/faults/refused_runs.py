@@ -69,12 +69,13 @@ def ask_is(server, line, found):
     view, epsilon, program = owner.part(words[2], words[3]) if len(words) == 6 else None, *words[-2:]
     if found == f"no 51 {len(owner.reservations)}":
         try:
-            charges = owner.with_charge(view, ceil(asked(program, owner.shown(view)[0])[1] * millionths(epsilon)))
+            amount = ceil(asked(program, owner.shown(view)[0])[1] * millionths(epsilon))
         except Refused:
             raise Wrong("no 51 of a refused program") from None
-        if cost_of(charges) > BUDGET:
+        owner.charge(server.who, view, amount)
+        if owner.spent > BUDGET:
             raise Wrong("no 51 over the budget")
-        owner.charges, owner.records = charges, owner.records + 2
+        owner.records += 2
         owner.reservations.append((server.who, "lost"))
         return "no 51"
     want = server.reply(line)

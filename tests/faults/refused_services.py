@@ -73,7 +73,7 @@ class Room:
         return ran.returncode, ran.stdout, ran.stderr
 
     def books(self):
-        return [book_of(contents(f"journals/{order}.bud"), head, entry, 2) for order, (head, entry) in enumerate(zip(self.heads, self.entries))]
+        return [book_of(contents(f"journals/{order}.bud"), head, entry, range(2)) for order, (head, entry) in enumerate(zip(self.heads, self.entries))]
 
 
 # What is tried: each makes its folder ready, does it with these refusals, and gives what came of it and what was written to standard error.
@@ -91,7 +91,7 @@ def making(room, refusals):
     for order, (head, entry) in enumerate(zip(room.heads, room.entries)):
         data = room.files().get(f"{order}.bud", b"")
         try:
-            if book_of(data, head, entry, 2).records:
+            if book_of(data, head, entry, range(2)).records:
                 raise Wrong("records in a new journal")
         except Refused as refusal:
             if not str(refusal).startswith("uninitialised"):

@@ -189,7 +189,7 @@ class Room:
 
     def filled(self, records, version, many):
         """So many records, these first; those behind them are lost and exhausted by turns."""
-        book = Book(self.entry, len(ANALYSTS), version)
+        book = Book(self.entry, ANALYSTS, version)
         assert all(book.add(record) for record in records)
         while len(book.records) < many:
             number = len(book.reserved)
@@ -198,7 +198,7 @@ class Room:
         return book.records
 
     def book(self, file):
-        return book_of(file, self.head, self.entry, len(ANALYSTS))
+        return book_of(file, self.head, self.entry, ANALYSTS)
 
 
 def judge(room, file, synced, next_ones, made):

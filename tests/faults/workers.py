@@ -30,7 +30,7 @@ import sys
 import tempfile
 import time
 from collections import Counter
-from copy import copy
+from copy import copy, deepcopy
 from fractions import Fraction
 
 sys.path.insert(0, f"{os.path.dirname(os.path.abspath(__file__))}/../lib")
@@ -149,7 +149,7 @@ class Room:
 
     def books(self, journals=None):
         journals = journals or self.journals()
-        return [book_of(data, head, entry, len(ANALYSTS)) for data, head, entry in zip(journals, self.heads, self.entries)]
+        return [book_of(data, head, entry, ANALYSTS) for data, head, entry in zip(journals, self.heads, self.entries)]
 
     def audited(self, books):
         said = "".join(f"{book.counts()}\n" for book in books)
@@ -228,7 +228,7 @@ def refused_rightly(room, script, replies, order, book, refused):
         if words[:2] != ["no", "40"]:
             raise Wrong(f"{script.lines[at]} was told {replies[at]}")
         shown.setdefault(int(words[5]), []).append((at, tuple(map(int, words[2:5]))))
-    behind = book_of(room.heads[order] + bytes(SLOT * book.entry["capacity"]), room.heads[order], book.entry, len(ANALYSTS))
+    behind = book_of(room.heads[order] + bytes(SLOT * book.entry["capacity"]), room.heads[order], book.entry, ANALYSTS)
     for length in range(len(book.records) + 1):
         for at, told in shown.pop(length, []):
             due = behind.spent, behind.spent_with(script.asks[at].reservation(0, 0)), book.entry["budget"]
@@ -358,7 +358,7 @@ class Kills:
 def copy_of(book):
     made = copy(book)
     made.records, made.reserved, made.settled = list(book.records), list(book.reserved), dict(book.settled)
-    made.sums, made.dearest = dict(book.sums), dict(book.dearest)
+    made.costs, made.own = deepcopy((book.costs, book.own))
     return made
 
 

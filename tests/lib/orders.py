@@ -25,11 +25,11 @@ from collections import Counter, defaultdict
 from itertools import repeat
 
 from catalog import catalog, owner  # noqa: E402
-from journal import WHOLE, Book, Grant, Reservation  # noqa: E402
+from journal import Book, Grant, Reservation  # noqa: E402
 from lines import lines_of  # noqa: E402
-from reference import Server, house_of, key_words  # noqa: E402
+from reference import Server, by_view, house_of, key_words, own_by_view  # noqa: E402
 
-SHOWN = {"recall": -1, "left": -1, "no 40": -1, "no 41": 2, "no 60": -1, "no 61": -1}
+SHOWN = {"recall": -1, "left": -1, "mine": -1, "no 40": -1, "no 41": 2, "no 43": -1, "no 60": -1, "no 61": -1}
 NUMBERED = {"answer": 1, "no 50": 2}
 DISK = ("no 42", "no 52")
 
@@ -64,8 +64,8 @@ class Log:
         behind = Book(book.entry, book.analysts, book.version)
         for place, one in enumerate([*self.records, None]):
             if place >= self.first:
-                charges = {None if view == WHOLE else view: amount for view, amount in behind.sums.items()}
-                self.behind.append((charges, list(reservations), sum(said is None for _, said in reservations[self.start :])))
+                open_ones = sum(said is None for _, said in reservations[self.start :])
+                self.behind.append((by_view(behind.costs), own_by_view(behind, analysts), list(reservations), open_ones))
             if isinstance(one, Reservation):
                 reservations.append((analysts[one.analyst], None))
                 self.places[one.number] = place
@@ -79,9 +79,9 @@ class Log:
 
     def goes_to(self, length):
         """The second server's owner is as behind so many records."""
-        charges, reservations, unsettled = self.behind[length - self.first]
+        charges, own, reservations, unsettled = self.behind[length - self.first]
         owner = self.owner
-        owner.charges, owner.records, owner.reservations, owner.added = dict(charges), length, list(reservations), []
+        owner.charges, owner.own, owner.records, owner.reservations, owner.added = dict(charges), dict(own), length, list(reservations), []
         owner.start, owner.unsettled = self.start, unsettled
 
     def shown(self, reply, knows):
@@ -127,7 +127,7 @@ class Judge:
 
     def line(self, line, reply):
         words = line.split(b" ", 2)
-        log = self.logs.get(words[1]) if words[0] in (b"ask", b"askpart", b"recall", b"left") and len(words) > 1 else None
+        log = self.logs.get(words[1]) if words[0] in (b"ask", b"askpart", b"recall", b"left", b"mine") and len(words) > 1 else None
         if log is None:
             return self.same(self.server.reply(line), reply)
         if log.may_shut and kind_of(reply) in DISK:
@@ -283,7 +283,7 @@ class Pair:
         server = Server(self.house, self.draws)
         said = [server.reply(line) for line in lines_of(self.script)]
         self.answers = [reply for reply in said if reply.startswith("answer ")]
-        self.found, self.after = ([Book(entry, 2) for entry in self.house.catalog["owners"]] for _ in range(2))
+        self.found, self.after = ([Book(entry, range(2)) for entry in self.house.catalog["owners"]] for _ in range(2))
         for book, one in zip(self.after, server.owners.values()):
             assert all(book.add(record) for record in one.added)
 
@@ -309,7 +309,7 @@ def check():
     pair = Pair(*[b"ask a 1 size people\n"] * 2)
     zero, one = pair.answers
     assert pair.fits(zero, one, 1) and pair.fits(zero, one, 2) and pair.fits(one, zero, 2) and not pair.fits(one, zero, 1)
-    half = [Book(book.entry, 2) for book in pair.after]
+    half = [Book(book.entry, range(2)) for book in pair.after]
     assert all(half[0].add(record) for record in pair.after[0].records[:2])
     for after in (half, pair.after):
         assert not any(pair.fits(zero, zero, workers, after) for workers in (1, 2))
@@ -331,7 +331,7 @@ def check_exhausted():
     entry = house.catalog["owners"][0]
     asked, exhausted, other, answered = server.owners[b"a"].added
     for version, (back, spent) in {1: (0, 6), 2: (0, 6), 3: (2, 4)}.items():
-        found, after = Book(entry, 2, version), Book(entry, 2, version)
+        found, after = Book(entry, range(2), version), Book(entry, range(2), version)
         other.taken = 0
         assert all(after.add(record) for record in (asked, other, answered)) and after.settlement(0, 2).returned == back
         assert after.add(after.settlement(0, 2)) and after.spent == spent
@@ -344,7 +344,7 @@ def check_exhausted():
             except Wrong as fault:
                 assert not fits, (version, takes, fault)
     other.taken = 4
-    found, after = Book(entry, 2), Book(entry, 2)
+    found, after = Book(entry, range(2)), Book(entry, range(2))
     assert exhausted.returned == 6 and all(after.add(record) for record in (asked, exhausted, other, answered)) and after.spent == 4
     for workers in (1, 2):
         judged(house, words, [found], [after], script, "".join(f"{reply}\n" for reply in said).encode(), workers)

@@ -71,7 +71,7 @@ class Room:
         return journal_bytes(f"{folder or self.folder + '/journals'}/{order}.bud")
 
     def book(self, order, folder=None):
-        return book_of(self.journal(order, folder), self.heads[order], self.catalog["owners"][order], len(self.analysts))
+        return book_of(self.journal(order, folder), self.heads[order], self.catalog["owners"][order], self.analysts)
 
     def books(self, folder=None):
         return [self.book(order, folder) for order in range(len(self.names))]

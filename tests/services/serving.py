@@ -260,7 +260,7 @@ def hostile_line(rng, room):
     eps = mostly(("1", "0.000001", "0.5"), "0", "1000.0000001", "1e3", "-1", "", "01")
     program, key = rng.choice([*PROGRAMS, *HOSTILE]), mostly("AB", "Z", "")
     asks = [f"ask {name} {eps} {program}", f"askpart {name} area {key} {eps} {program}"] * 4
-    others = [f"hello {rng.choice(ANALYSTS)}", f"recall {name} {number}", f"left {name}"] * 2
+    others = [f"hello {rng.choice(ANALYSTS)}", f"recall {name} {number}", f"left {name}", f"mine {name}"] * 2
     line = rng.choice([*asks, *others, "hello", f"recall {name} 9999999999", "bye now", "Bye", f" ask {name} 1 1", f"left  {name}"])
     data = bytearray(line.encode())
     for _ in range(rng.choice([0, 0, 0, 1, 2]) if data else 0):

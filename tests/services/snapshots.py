@@ -115,7 +115,7 @@ class Copies:
 
     def __init__(self, room):
         self.room, self.entries = room, room.catalog["owners"]
-        self.books = [Book(entry, len(room.analysts)) for entry in self.entries]
+        self.books = [Book(entry, room.analysts) for entry in self.entries]
         self.bytes = [bytearray() for _ in self.entries]
 
     def goes_on(self, order, data):
@@ -149,7 +149,7 @@ def plain(room, rng):
     with open(f"{room.folder}/journals/{order}.bud", "rb", buffering=0) as file:
         data = b"".join(iter(lambda: file.read(SLOT), b""))
     try:
-        book_of(data, room.heads[order], room.catalog["owners"][order], len(room.analysts))
+        book_of(data, room.heads[order], room.catalog["owners"][order], room.analysts)
         return True
     except Refused:
         return False

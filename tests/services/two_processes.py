@@ -95,7 +95,7 @@ class Trial:
 
     def look(self, killed=False):
         """The journal has what was told, and `audit` counts what is there."""
-        book = book_of(contents("journals/0.bud"), self.head, self.entry, 2)
+        book = book_of(contents("journals/0.bud"), self.head, self.entry, range(2))
         for number, (value, taken) in self.told.items():
             settled = book.settled.get(int(number))
             check(settled is not None and (settled.outcome, settled.answer) == (1, value), f"number {number} isn't settled with {value}")

@@ -303,6 +303,7 @@ LINES = [
     ("no 33 persons", "a row of persons"), ("no 34", "no number"), ("no 35 1 2", "depth 129"), ("no 36 1 2", "turn 20001"), ("no 37 1 2 65", "65 tables wide"),
     ("no 40 1000000 1001000000 20000000 4", "of 20000000 millionths 1000000 are spent, and with this ask it would be 1001000000"),
     ("no 41 100 0 100", "no room for its two records: 100 of 100"), ("no 42 1", "closed for the rest of this run"), ("no 50 7", "over 4096 draws"),
+    ("no 43 1000000 2000000 1000000 2", "of 1000000 millionths that this analyst may spend 1000000 are spent"),
     ("no 51 7", "memory ran out while the program of reservation 7 was run: it is charged"), ("no 52", "it may be charged, and has no answer"),
     ("no 60 7 20", "no number 7 was ever reserved"), ("no 61 7 20", "another analyst made reservation 7"), ("no 90", "nothing is charged"),
     ("usage", "no command"), ("refused key", "'key' is the file, or the owner"), ("journal labour uninitialised 0", "it has 0 bytes"),
@@ -316,16 +317,17 @@ LINES = [
     ("values 2 -3", "is 2 on the first dataset and -3 on the second"), ("asks 2 answered 1 exhausted 0 over 1 spent 5 sum -2", "of 2 generated asks 1"),
     ("ok 3/2", "a sensitivity of 3/2"), ("answer 3 -7 0", "the noisy value -7"), ("recall 1 open 4", "no answer yet"), ("recall 1 lost 4", "charged and has "
         "no answer"),
-    ("recall 1 exhausted 4", "4096 draws"), ("recall 1 answer 5 4", "answered with 5"), ("left 1 2 3", "1 of 2 millionths"), ("hello mia", "mia speaks"),
+    ("recall 1 exhausted 4", "4096 draws"), ("recall 1 answer 5 4", "answered with 5"), ("left 1 2 3", "1 of 2 millionths"), ("mine 1 2 3", "has spent 1 of the 2"), ("mine 1 none 3", "no limit of its own"), ("hello mia", "mia speaks"),
     *[(f"status {status}", words) for status, words in enumerate(STATUS_WORDS.split("|"))],
     ("124", "timeout"), ("126", "may not be run"), ("127", "no such program"), ("137", "signal 9"), ("99", "never ends so"),
 ]  # fmt: skip
 NO_LINES = ["no", "no 40 1", "no 15", "no 10", "answer 1 2", "no 33 a b", "journal labour", "foo", "no 010", "granted labour 1", "granted 1 2 3",
-    "too large", "full 2", "owner labour budget 1", "labour reservations 1", "distance -3", "values 1", "gap", "hello", "\x1b[31m"]  # fmt: skip
+    "too large", "full 2", "no 43 1 2 3", "mine 1 2", "mine none 1 2", "owner labour budget 1", "labour reservations 1", "distance -3", "values 1", "gap", "hello", "\x1b[31m"]  # fmt: skip
 # A program next to a line that isn't the program's refusal: what is said of the line.
 OTHERS = [
     ("no 13", "write 0.5"), ("answer 0 1 2", "noisy value 1"),
     ("no 40 1000000 21000000 20000000 4", "an EPS of 19 is the greatest that fits now. (That is so where it was asked of the whole"),
+    ("no 43 1000000 21000000 20000000 4", "an EPS of 19 is the greatest that fits now. (That is so where it was asked of the whole"),
 ]  # fmt: skip
 # The lines of a script over examples/survey, each with its reply and, where that is a refusal, words that are said of it.
 SCRIPT = [
@@ -336,7 +338,7 @@ SCRIPT = [
     ("hello mia", "hello mia", None),
     ("", "no 10 0", "the line is empty"),
     (" ask labour 1 1", "no 10 0", "begins with a blank"),
-    ("size persons", "no 10 0", "there are hello, ask, askpart, recall, left, bye. A program stands in one line"),
+    ("size persons", "no 10 0", "there are hello, ask, askpart, recall, left, mine, bye. A program stands in one line"),
     ("check labour size persons", "no 10 0", "`check` is a command of the program"),
     ("ask labour areas north 0.5 size persons", "no 13", "a part is asked by `askpart labour areas KEY EPS PROGRAM`"),
     ("ask labour north 0.5 size persons", "no 13", "a part is asked by `askpart labour areas KEY EPS PROGRAM`"),
@@ -347,6 +349,9 @@ SCRIPT = [
     ("select 1", "no 10 0", "`select` is no kind of line"),
     ("ask labour 0.5", "no 10 3", "PROGRAM is missing: `ask OWNER EPS PROGRAM`"),
     ("left  labour", "no 10 1", "where OWNER belongs stands nothing"),
+    ("mine", "no 10 1", "OWNER is missing: `mine OWNER`"),
+    ("mine labour x", "no 10 2", "`x` is one word too many: `mine OWNER`"),
+    ("mine nobody", "no 12 1", "no owner `nobody`"),
     ("bye now", "no 10 1", "`now` is one word too many: `bye`"),
     ("recall labour x", "no 10 2", "`x` is no number"),
     ("left " + 16_400 * "a", "no 11", "16405 bytes"),
@@ -380,11 +385,13 @@ SCRIPT = [
     ("ask labour 1 3 * (2 * size persons)", "no 40 15000000 21000000 20000000 2", "At its sensitivity of 6 an EPS of 0.833333 is the greatest that fits now"),
     ("ask labour 1000 5000001 * size persons", "no 40 15000000 5000001015000000 20000000 2", "No EPS is small enough for it now"),
     ("ask labour 1000 5000000 * size persons", "no 40 15000000 5000000015000000 20000000 2", "an EPS of 0.000001 is the greatest"),
+    ("mine labour", "mine 15000000 none 2", None),
     ("recall labour 7", "no 60 7 2", "no number 7"),
     ("hello tom", "hello tom", None),
     ("recall labour 0", "no 61 0 2", "another analyst made reservation 0"),
     ("bye", "bye", None),
     ("recall labour 0", "no 14", "nobody has said hello"),
+    ("mine labour", "no 14", "nobody has said hello"),
 ]  # fmt: skip
 
 

@@ -7,7 +7,7 @@
     census(..)              the bytes of a catalog with one owner
 
 It shares nothing with the server but the rules. A catalog is a JSON object. Each of its objects has exactly the members of
-its kind, in any order; of a member that stands twice the last one counts. The first fault counts: an object's kind, then
+its kind, in any order, but for an owner's `limits`, which may be left out; of a member that stands twice the last one counts. The first fault counts: an object's kind, then
 the first member that is missing, then the first that is unknown in the order of their bytes, then the members one after
 another, each whole; a list's count, then its items one after another, and an item that is right by itself may repeat one
 before it. `at` is the number of the owner, of the item in it, and of the item in that; 0 where there is none.
@@ -97,13 +97,13 @@ def of_kind(wanted, value, member, at):
     return value
 
 
-def members(value, member, at, names):
+def members(value, member, at, names, may_lack=()):
     of_kind(dict, value, member, at)
     for name in names:
         if name not in value:
             raise BadCatalog("Missing", name, at)
     for name in sorted(value):
-        if name not in names:
+        if name not in names and name not in may_lack:
             raise BadCatalog("Unknown", member, at)
     return value
 
@@ -194,20 +194,35 @@ def partition(value, member, at, tables):
     return found
 
 
-def owner_of(value, member, at):
-    found = members(value, member, at, ["name", "budget", "capacity", "tables", "partitions"])
+def limit(value, member, at, analysts):
+    found = members(value, member, at, ["analyst", "budget"])
+    if of_kind(str, found["analyst"], "analyst", at) not in analysts:
+        raise BadCatalog("NoSuch", "analyst", at)
+    number(found["budget"], "budget", at, 1, MOST_BUDGET)
+    return found
+
+
+def owner_of(value, member, at, analysts):
+    found = members(value, member, at, ["name", "budget", "capacity", "tables", "partitions"], may_lack=["limits"])
     text(found["name"], "name", at, is_name)
     number(found["budget"], "budget", at, 1, MOST_BUDGET)
     number(found["capacity"], "capacity", at, 2, MOST_CAPACITY)
     items(found["tables"], "tables", at, range(1, TABLES + 1), 1, table, by_name)
     items(found["partitions"], "partitions", at, range(PARTITION_LIMIT + 1), 1, lambda *one: partition(*one, found["tables"]), by_name)
+    if "limits" in found:
+        items(found["limits"], "limits", at, range(ANALYSTS + 1), 1, lambda *one: limit(*one, analysts), lambda one: one["analyst"])
     return found
+
+
+def limits(owner):
+    """The limits that an owner has, by the names of their analysts."""
+    return {one["analyst"]: one["budget"] for one in owner.get("limits", ())}
 
 
 def read(data):
     found = members(json_value(data), "", (0, 0, 0), ["analysts", "owners"])
     items(found["analysts"], "analysts", (0, 0, 0), range(1, ANALYSTS + 1), 1, lambda one, member, at: text(one, member, at, is_name))
-    items(found["owners"], "owners", (0, 0, 0), range(1, OWNERS + 1), 0, owner_of, by_name)
+    items(found["owners"], "owners", (0, 0, 0), range(1, OWNERS + 1), 0, lambda *one: owner_of(*one, found["analysts"]), by_name)
     return found
 
 
@@ -222,8 +237,10 @@ def said(data):
 # Catalogs of one owner.
 
 
-def owner(name="census", tables=(("people", "people.csv", (("age", "num"),)),), budget=10_000_000, capacity=100, partitions=()):
-    return {
+def owner(
+    name="census", tables=(("people", "people.csv", (("age", "num"),)),), budget=10_000_000, capacity=100, partitions=(), limits=None
+):
+    made = {
         "name": name,
         "budget": budget,
         "capacity": capacity,
@@ -235,6 +252,9 @@ def owner(name="census", tables=(("people", "people.csv", (("age", "num"),)),), 
             {"name": partition, "table": table, "column": column, "keys": list(keys)} for partition, table, column, keys in partitions
         ],
     }
+    if limits is not None:
+        made["limits"] = [{"analyst": analyst, "budget": most} for analyst, most in limits.items()]
+    return made
 
 
 def catalog(*owners, analysts=("ann", "bob")):
@@ -249,12 +269,14 @@ def census(file="people.csv", columns=(("age", "num"),)):
 
 
 def changed(path, value):
-    """A catalog of two columns and a partition, with the value at this path put in place of what is there, or None: without it."""
+    """A catalog of two columns and a partition, and of two limits where the path goes there, with the value at this path put in place of
+    what is there, or None: without it."""
     made = json.loads(
         catalog(
             owner(
                 tables=(("people", "people.csv", (("town", "text"), ("age", "num"))),),
                 partitions=(("area", "people", "town", ("A", "B")),),
+                limits={"ann": 1_000_000, "bob": 2_000_000} if "limits" in path else None,
             )
         )
     )
@@ -271,6 +293,7 @@ def changed(path, value):
 OWNER = ("owners", 0)
 TABLE = (*OWNER, "tables", 0)
 PARTITION = (*OWNER, "partitions", 0)
+LIMIT = (*OWNER, "limits", 1)
 KNOWN = [
     (("analysts",), [f"a{number}" for number in range(64)], "ok"),
     (("analysts",), [f"a{number}" for number in range(65)], "Count analysts 0 0 0"),
@@ -321,6 +344,24 @@ KNOWN = [
     ((*PARTITION, "keys"), ["\x7f"], "Form keys 0 0 0"),
     ((*OWNER, "partitions"), [], "ok"),
     ((*OWNER, "partitions"), None, "Missing partitions 0 0 0"),
+    ((*OWNER, "limits"), None, "ok"),
+    ((*OWNER, "limits"), [], "ok"),
+    ((*OWNER, "limits"), {}, "Kind limits 0 0 0"),
+    ((*OWNER, "limits"), 64 * [7], "Kind limits 0 0 0"),
+    ((*OWNER, "limits"), 65 * [7], "Count limits 0 0 0"),
+    (LIMIT, [], "Kind limits 0 1 0"),
+    (LIMIT, {"analyst": "ann", "budget": 1}, "Double limits 0 1 0"),
+    (LIMIT, {"analyst": "bob"}, "Missing budget 0 1 0"),
+    (LIMIT, {"budget": 1, "more": 1}, "Missing analyst 0 1 0"),
+    ((*LIMIT, "more"), 1, "Unknown limits 0 1 0"),
+    ((*LIMIT, "analyst"), 7, "Kind analyst 0 1 0"),
+    ((*LIMIT, "analyst"), "eve", "NoSuch analyst 0 1 0"),
+    ((*LIMIT, "analyst"), "Bob", "NoSuch analyst 0 1 0"),
+    ((*LIMIT, "budget"), "1", "Kind budget 0 1 0"),
+    ((*LIMIT, "budget"), 0, "Range budget 0 1 0"),
+    ((*LIMIT, "budget"), 1, "ok"),
+    ((*LIMIT, "budget"), 10**18, "ok"),
+    ((*LIMIT, "budget"), 10**18 + 1, "Range budget 0 1 0"),
 ]
 NO_JSON = [
     b"", b" ", b"{", b"[1,]", b"{}{}", b"\xef\xbb\xbf{}", b"\xff", b'"\xed\xa0\x80"', b'"\\ud800"', b'"\\udc00"', b'"\\ud800\\u0041"',

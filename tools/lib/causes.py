@@ -375,7 +375,7 @@ class Journals:
 
     def book(self, number, entry, kept):
         try:
-            return book_of(kept, self.head(number), entry, len(self.house.catalog["analysts"]))
+            return book_of(kept, self.head(number), entry, self.house.catalog["analysts"])
         except Refused as refusal:
             return refusal
         except OSError as fault:

@@ -26,9 +26,11 @@ MEMBERS = {
     "tables": ["name", "file", "columns"],
     "columns": ["name", "type"],
     "partitions": ["name", "table", "column", "keys"],
+    "limits": ["analyst", "budget"],
 }
+MAY_LACK = {"owners": ["limits"]}
 COUNTS = {
-    "analysts": (1, ANALYSTS), "owners": (1, OWNERS), "tables": (1, TABLES), "partitions": (0, PARTITION_LIMIT),
+    "analysts": (1, ANALYSTS), "owners": (1, OWNERS), "tables": (1, TABLES), "partitions": (0, PARTITION_LIMIT), "limits": (0, ANALYSTS),
     "columns": (1, COLUMN_LIMIT), "keys": (1, KEYS),
 }  # fmt: skip
 RANGES = {"budget": (1, MOST_BUDGET), "capacity": (2, MOST_CAPACITY)}
@@ -106,16 +108,21 @@ def reason(fault, data):
         return "this member is missing"
     found = walked(json.loads(data), fault.path)
     if fault.kind == "Unknown":
-        names = MEMBERS[fault.path[-1][0] if fault.path else ""]
+        of = fault.path[-1][0] if fault.path else ""
+        names = MEMBERS[of] + MAY_LACK.get(of, [])
         unknown = sorted(set(found) - set(names))[0]
         return f"`{unknown}` is no member; here stand {', '.join(names)}"
     if fault.kind == "Double":
+        if fault.member == "limits":
+            return f"a second limit for {found['analyst']}"
         return f"a second one of the name {found if isinstance(found, str) else found['name']}"
     value = found if is_item else found[fault.member]
     if fault.kind == "Count":
         return "{} stand here, and {} to {} may".format(len(value), *COUNTS[fault.member])
     if fault.kind == "Range":
         return "{} isn't from {} to {}".format(value, *RANGES[fault.member])
+    if fault.kind == "NoSuch" and fault.member == "analyst":
+        return f"the catalog has no analyst `{value}`"
     if fault.kind == "NoSuch":
         return f"the owner has no table `{value}`" if fault.member == "table" else f"`{found['table']}` has no text column `{value}`"
     if fault.member == "name" and value in WORDS:

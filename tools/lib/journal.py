@@ -30,7 +30,7 @@ from math import gcd
 
 from audits import fallen
 from bounds import KEYS, MOST_BUDGET, MOST_CAPACITY, MOST_EPS, PARTITION_LIMIT
-from catalog import BadCatalog, json_value, read
+from catalog import BadCatalog, json_value, limits, read
 from files import contents, plain
 from lines import harmless
 
@@ -397,13 +397,11 @@ def cost(sums):
     return sums.get(WHOLE, 0) + sum(dearest(sums).values())
 
 
-class Book:
-    """Records as they may follow one another, by an owner's entry, the number of analysts and the journal's version."""
+class Costs:
+    """What reservations cost together: the sum of each view's charges, for each partition that of its dearest part, and what is spent."""
 
-    def __init__(self, entry, analysts, version=VERSIONS[-1]):
-        self.entry, self.analysts, self.version, self.records = entry, analysts, version, []
-        self.sums, self.dearest, self.spent, self.reserved, self.settled = {}, {}, 0, [], {}
-        self.budget, self.grants = entry["budget"], []
+    def __init__(self):
+        self.sums, self.dearest, self.spent = {}, {}, 0
 
     def sum_with(self, one):
         return self.sums.get(one.view, 0) + one.charge()
@@ -414,17 +412,46 @@ class Book:
             return self.spent + one.charge()
         return self.spent + max(0, self.sum_with(one) - self.dearest.get(one.view[0], 0))
 
-    def sums_with(self, settled):
-        """The sum of each view's charges with one settlement more: from version 3 on those of exhausted numbers don't count."""
-        if self.version < 3 or settled.outcome != 2:
-            return self.sums
-        one = self.reserved[settled.number]
+    def sums_without(self, one):
         return {**self.sums, one.view: self.sums[one.view] - one.charge()}
+
+    def add(self, one):
+        self.spent, self.sums[one.view] = self.spent_with(one), self.sum_with(one)
+        self.dearest[one.view[0]] = max(self.dearest.get(one.view[0], 0), self.sums[one.view])
+
+    def take_back(self, one):
+        self.sums = self.sums_without(one)
+        self.dearest, self.spent = dearest(self.sums), cost(self.sums)
+
+
+class Book:
+    """Records as they may follow one another, by an owner's entry, the names of the analysts and the journal's version. What all together cost is
+    `costs`, and what each analyst's reservations cost by themselves is in `own`, by the analyst's number."""
+
+    def __init__(self, entry, analysts, version=VERSIONS[-1]):
+        self.entry, self.analysts, self.version, self.records = entry, analysts, version, []
+        self.costs, self.own, self.reserved, self.settled = Costs(), [Costs() for _ in analysts], [], {}
+        self.budget, self.grants = entry["budget"], []
+        self.limits = {analysts.index(name): most for name, most in limits(entry).items()}
+
+    @property
+    def spent(self):
+        return self.costs.spent
+
+    def spent_with(self, one):
+        """What is spent with one reservation more."""
+        return self.costs.spent_with(one)
+
+    def comes_back(self, settled):
+        """Whether what a settlement's number took comes back: from version 3 on it does of exhausted ones."""
+        return self.version >= 3 and settled.outcome == 2
 
     def settlement(self, number, outcome, answer=0):
         """The settlement of a number that isn't settled, which says by how much the cost falls."""
-        sums = self.sums_with(Settlement(number, outcome))
-        return Settlement(number, outcome, answer, 0 if sums is self.sums else self.spent - cost(sums))
+        settled = Settlement(number, outcome, answer)
+        if self.comes_back(settled):
+            settled.returned = self.spent - cost(self.costs.sums_without(self.reserved[number]))
+        return settled
 
     def has_view(self, view):
         partitions = self.entry["partitions"]
@@ -444,13 +471,22 @@ class Book:
         after = self.spent_with(one)
         if one.number != len(self.reserved):
             return f"it reserves number {one.number}, and {len(self.reserved)} is the next one"
-        if one.analyst >= self.analysts:
-            return f"it is a reservation of analyst {one.analyst} (from 0), and there are {self.analysts}"
+        if one.analyst >= len(self.analysts):
+            return f"it is a reservation of analyst {one.analyst} (from 0), and there are {len(self.analysts)}"
         if not self.has_view(one.view):
             return f"it is a reservation of partition {one.view[0]}, part {one.view[1]} (from 0), which the owner hasn't"
         if one.taken != after - self.spent:
             return f"its reservation says that it took {one.taken}, and by the records before it took {after - self.spent}"
-        return f"with its reservation {after} are spent of {self.budget}" if after > self.budget else None
+        if after > self.budget:
+            return f"with its reservation {after} are spent of {self.budget}"
+        return self.over_share(one)
+
+    def over_share(self, one):
+        """Why a reservation is above its analyst's limit, or nothing."""
+        own = self.own[one.analyst].spent_with(one)
+        if own <= self.limits.get(one.analyst, own):
+            return None
+        return f"with its reservation {own} are spent by analyst {one.analyst} (from 0), whose limit is {self.limits[one.analyst]}"
 
     def why_no_grant(self, one):
         if one.number != len(self.grants):
@@ -470,15 +506,17 @@ class Book:
     def keep(self, one):
         """Adds a record that may follow."""
         if isinstance(one, Settlement):
-            self.settled[one.number], self.sums = one, self.sums_with(one)
-            if one.returned:
-                self.spent, self.dearest = self.spent - one.returned, dearest(self.sums)
+            self.settled[one.number] = one
+            if self.comes_back(one):
+                back = self.reserved[one.number]
+                for costs in (self.costs, self.own[back.analyst]):
+                    costs.take_back(back)
         elif isinstance(one, Grant):
             self.budget += one.amount
             self.grants.append(one)
         else:
-            self.spent, self.sums[one.view] = self.spent_with(one), self.sum_with(one)
-            self.dearest[one.view[0]] = max(self.dearest.get(one.view[0], 0), self.sums[one.view])
+            for costs in (self.costs, self.own[one.analyst]):
+                costs.add(one)
             self.reserved.append(one)
         self.records.append(one)
 
@@ -532,7 +570,7 @@ def books(catalog_name, key_name, folder=".", file=contents):
         except FileNotFoundError:
             kept = b""
         try:
-            yield book_of(kept, header(data, order, key, file), entry, len(catalog["analysts"]))
+            yield book_of(kept, header(data, order, key, file), entry, catalog["analysts"])
         except Refused as refusal:
             yield f"journal {entry['name']} {refusal}"
 
@@ -655,7 +693,7 @@ def why_refused(data, catalog, order, key, catalog_name):
     """Why a journal is refused, in words."""
     entry = catalog["owners"][order]
     try:
-        book_of(data, header(contents(catalog_name), order, key, contents), entry, len(catalog["analysts"]))
+        book_of(data, header(contents(catalog_name), order, key, contents), entry, catalog["analysts"])
     except Refused as refusal:
         return refusal.how or "there is no header of 128 bytes whose first byte is 0xA5"
     return "it isn't"

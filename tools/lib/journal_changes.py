@@ -137,6 +137,17 @@ def earlier_partitions(entry):
             yield f"the partition {partition['name']} had no key {said}", {**entry, "partitions": changed}
 
 
+def earlier_limits(entry):
+    """A limit that wasn't there; and none, as an empty list or left out, of which each is another text."""
+    limits, without = entry.get("limits", []), {name: value for name, value in entry.items() if name != "limits"}
+    for said, kept in without_some(limits, lambda more: ", ".join(one["analyst"] for one in more)):
+        yield f"the entry had no limit for {said}", {**entry, "limits": kept}
+    if "limits" in entry:
+        yield "the entry had no limits", without
+    else:
+        yield "the entry had an empty list of limits", {**entry, "limits": []}
+
+
 def names_of(objects):
     return ", ".join(one["name"] for one in objects)
 
@@ -215,7 +226,7 @@ def entries_to_try(house, entry, others):
     for one in house.whole["owners"]:
         if one["name"] != entry["name"] and fits(one):
             yield f"it was made for the owner {one['name']}", (analysts, one)
-    for earlier in (earlier_partitions, earlier_tables):
+    for earlier in (earlier_partitions, earlier_tables, earlier_limits):
         for said, one in earlier(entry):
             yield said, (analysts, one)
 

@@ -50,9 +50,9 @@ def check_journals(data, entry, head, reservation, settlement):
     assert len(whole) == 6528
     torn = bytearray(whole)
     torn[HEAD : HEAD + SLOT] = reservation.encoded()
-    assert book_of(bytes(torn), head, entry, 2).counts() == "census reservations 1 answered 0 exhausted 0 lost 1 spent 1000000 budget 10000000"
+    assert book_of(bytes(torn), head, entry, range(2)).counts() == "census reservations 1 answered 0 exhausted 0 lost 1 spent 1000000 budget 10000000"
     torn[HEAD + SLOT : HEAD + 2 * SLOT] = settlement.encoded()
-    assert book_of(bytes(torn), head, entry, 2).counts() == "census reservations 1 answered 1 exhausted 0 lost 0 spent 1000000 budget 10000000"
+    assert book_of(bytes(torn), head, entry, range(2)).counts() == "census reservations 1 answered 1 exhausted 0 lost 0 spent 1000000 budget 10000000"
     check_refusals([
         (b"", "uninitialised 0"),
         (whole[:127], "uninitialised 127"),
@@ -79,7 +79,7 @@ def check_copies(head, reservation, settlement):
 def check_refusals(cases, head, entry):
     for bytes_of, said in cases:
         try:
-            book_of(bytes_of, head, entry, 2)
+            book_of(bytes_of, head, entry, range(2))
             raise AssertionError(said)
         except Refused as refusal:
             assert str(refusal) == said, (str(refusal), said)
@@ -102,7 +102,7 @@ def check_areas(entry, head, reservation, settlement):
     grown = with_bytes(first, {97: GATE}) + two + bytes(SLOT * 98)
     assert len(first) == 4224 and len(grown) == 10624
     for data in (first, grown, first + b"\x07", with_bytes(grown, {97: 0x25}), with_bytes(grown, {127: 7, 200: 9})):
-        assert len(book_of(data, head, entry, 2).records) == 2
+        assert len(book_of(data, head, entry, range(2)).records) == 2
     assert changes_since(first, grown, 100) == [] and changes_since(grown, first, 100) is None
     # The 65th record is put in area 1, at byte 8320; what a stop left behind area 0 is written over.
     records = [Reservation(number, WHOLE, 1, 1, 1, 1, 0, ONE) for number in range(66)]
@@ -130,7 +130,7 @@ def check_areas(entry, head, reservation, settlement):
 def check_sums(entry):
     """What is spent grows as the sums of all records say."""
     parts = {**entry, "budget": 10**9, "partitions": [{"name": name, "keys": ["a", "b"]} for name in "xy"]}
-    book, held = Book(parts, 1), {}
+    book, held = Book(parts, range(1)), {}
     for number, (view, e) in enumerate([(WHOLE, 5), ((0, 0), 3), ((0, 1), 4), ((1, 1), 2), ((0, 0), 2), (WHOLE, 1), ((0, 1), 9)]):
         held[view] = held.get(view, 0) + e
         one = Reservation(number, view, e, 1, 1, cost(held) - book.spent, 0, ONE)
@@ -138,7 +138,7 @@ def check_sums(entry):
     assert book.spent == 6 + 13 + 2
     # Part a takes 6 of 10, b under it 4; when a's number is exhausted, 2 comes back from version 3 on.
     for version, (back, spent) in {1: (0, 6), 2: (0, 6), 3: (2, 4)}.items():
-        book = Book({**parts, "budget": 10}, 1, version)
+        book = Book({**parts, "budget": 10}, range(1), version)
         assert book.add(Reservation(0, (0, 0), 6, 1, 1, 6, 0, ONE)) and book.add(Reservation(1, (0, 1), 4, 1, 1, 0, 0, ONE))
         assert book.settlement(0, 2).returned == back and book.settlement(1, 2).returned == book.settlement(0, 3).returned == 0
         assert not book.add(Settlement(0, 2, 0, 1)) and book.add(book.settlement(0, 2)) and book.spent == spent
@@ -152,9 +152,9 @@ def check_grants(entry, head):
         slot = with_bytes(grant.encoded(), {place: byte})
         assert decoded(slot) is None and no_record(slot), place
     for amount in (0, 10**18 + 1, 2**64 - 1):
-        assert decoded(Grant(0, amount).encoded()).amount == amount and "and 1 to 1" in Book(entry, 2).why_not(Grant(0, amount))
+        assert decoded(Grant(0, amount).encoded()).amount == amount and "and 1 to 1" in Book(entry, range(2)).why_not(Grant(0, amount))
     for version in VERSIONS:
-        book = Book({**entry, "budget": 10**6}, 2, version)
+        book = Book({**entry, "budget": 10**6}, range(2), version)
         more = Reservation(1, WHOLE, 500_000, 1, 1, 500_000, 0, ONE)
         assert book.add(Reservation(0, WHOLE, 10**6, 1, 1, 10**6, 0, ONE)) and book.add(Settlement(0, 1, 5)) and not book.add(more)
         assert not book.add(Grant(1, 1)) and not book.add(Grant(0, 10**18 - 10**6 + 1)) and book.add(grant)
@@ -162,6 +162,6 @@ def check_grants(entry, head):
         assert book.counts().endswith("spent 1500000 budget 1000000000000000000") and not book.add(Grant(2, 1))
         assert [line for line in book.said(["ann"]) if "grant" in line] == ["grant 0 amount 500000 budget 1500000",
             "grant 1 amount 999999999998500000 budget 1000000000000000000"]  # fmt: skip
-    assert book_of(head + hundred(grant, Grant(1, 1)), head, entry, 2).budget == 10_500_001
+    assert book_of(head + hundred(grant, Grant(1, 1)), head, entry, range(2)).budget == 10_500_001
     wrong = [([grant, grant], "damaged 1"), ([Grant(0, 10**18)], "damaged 0"), ([grant, Grant(1, 0)], "damaged 1")]
     check_refusals([(head + hundred(*records), said) for records, said in wrong], head, entry)

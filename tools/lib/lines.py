@@ -16,7 +16,7 @@ from fractions import Fraction
 from bounds import AMOUNT_LIMIT, LINE_LIMIT
 
 FORMS = {
-    "hello": "ANALYST", "ask": "OWNER EPS PROGRAM", "askpart": "OWNER PARTITION KEY EPS PROGRAM", "recall": "OWNER N", "left": "OWNER", "bye": "",
+    "hello": "ANALYST", "ask": "OWNER EPS PROGRAM", "askpart": "OWNER PARTITION KEY EPS PROGRAM", "recall": "OWNER N", "left": "OWNER", "mine": "OWNER", "bye": "",
 }  # fmt: skip
 COMMANDS = (b"init", b"run", b"serve", b"audit", b"grant", b"check", b"gap", b"gen")
 WORDS = b"size sum fst snd least greatest let if case in then else map filter split union".split()
@@ -152,7 +152,7 @@ class Line:
             self.e, self.program = millionths(words["EPS"]), words["PROGRAM"]
             if self.e is None:
                 return self.refuse("13", self.of_a_part(words["EPS"]) or why_no_epsilon(words["EPS"]))
-        if self.kind in ("ask", "askpart", "recall") and self.analyst is None:
+        if self.kind in ("ask", "askpart", "recall", "mine") and self.analyst is None:
             return self.refuse("14", "nobody has said hello: `hello ANALYST` stands before what is asked, and again after a `bye`")
         return True
 

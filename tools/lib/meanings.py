@@ -65,6 +65,7 @@ REFUSALS = {
     "no 42 N": "the owner's journal is closed for the rest of this run, since its disk failed (fault {0}) at an ask before; nothing is charged, "
         "unless several workers answered the script and another one's record failed after this ask's reservation (`left` in the next run tells): it may be "
         "asked again then",
+    "no 43 N N N N": "the analyst's limit doesn't allow it: of {2} millionths that this analyst may spend {0} are spent, and with this ask it would be {1}",
     "no 50 N": f"the noise of reservation {{0}} took over {DRAW_LIMIT} draws, which hardly ever happens: it has no answer for ever, and its charge comes "
         "back, or stays in a journal of version 1 or 2",
     "no 51 N": "memory ran out while the program of reservation {0} was run: it is charged, and has no answer for ever",
@@ -104,6 +105,8 @@ LINES = {
     "recall N lost N": "reservation {0} is charged and has no answer: memory ran out, the disk failed, or the program was stopped",
     "recall N open N": "reservation {0} is of this very run and has no answer yet; ask again in the next run",
     "left N N N": "{0} of {1} millionths are spent",
+    "mine N N N": "the analyst has spent {0} of the {1} millionths that its limit allows; the budget may have less left, as `left` says",
+    "mine N none N": "the analyst has spent {0} millionths, and has no limit of its own",
     "ok R": "the program is accepted, at a sensitivity of {0}",
     "asks N answered N exhausted N over N spent N sum V": "of {0} generated asks {1} were answered, {2} have no answer, since their noise "
         f"took over {DRAW_LIMIT} draws, "

@@ -68,9 +68,9 @@ def spent_by_analyst(book, analysts):
 
 
 def spent_by_partition(book):
-    whole = book.sums.get(WHOLE, 0)
+    whole = book.costs.sums.get(WHOLE, 0)
     found = [("all rows", whole)] if whole else []
-    return found + [(one["name"], book.dearest[place]) for place, one in enumerate(book.entry["partitions"]) if book.dearest.get(place)]
+    return found + [(one["name"], book.costs.dearest[place]) for place, one in enumerate(book.entry["partitions"]) if book.costs.dearest.get(place)]
 
 
 def answers_by_number(book):

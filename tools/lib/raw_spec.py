@@ -36,7 +36,7 @@ ONCE = ("YYYY|YY", "MM|Mon", "DD")
 RAW = {"encoding": (str,), "delimiter": (str,), "skip": (int,), "ragged": (str,)}
 TABLE = {"name": (str,), "file": (str,), "per": (str,)}
 PERSON = {"column": (str,), "rows": (int,), "key": (str,)}
-CATALOG = {"file": (str,), "analysts": (list,), "owner": (str,), "budget": (int,), "capacity": (int,)}
+CATALOG = {"file": (str,), "analysts": (list,), "owner": (str,), "budget": (int,), "capacity": (int,), "limits": (dict,)}
 COLUMN = {"name": (str,), "kind": (str,), "keep": (bool,)}
 CELLS = {"from": (str,), "at": (int,), "map": (dict,), "missing": (list,), "if_missing": CODE, "if_bad": CODE}
 CLIPS = {"bottom": (*NUMBER, str), "top": (*NUMBER, str)}
@@ -374,7 +374,7 @@ NO_FILE = f"a file's name has 1 to {FILE_NAME_BYTES} bytes and no control byte"
 
 
 def check_catalog(faults, catalog):
-    if not faults.members(catalog, "catalog", CATALOG, list(CATALOG)):
+    if not faults.members(catalog, "catalog", CATALOG, [name for name in CATALOG if name != "limits"]):
         return
     faults.unless(is_right_file(catalog["file"]), "catalog.file", NO_FILE)
     names = [*catalog["analysts"], catalog["owner"]]
@@ -385,6 +385,10 @@ def check_catalog(faults, catalog):
     faults.unless(len(set(map(str, catalog["analysts"]))) == len(catalog["analysts"]), "catalog.analysts", "a name stands twice")
     faults.unless(1 <= catalog["budget"] <= MOST_BUDGET, "catalog.budget", "1 to 10^18 millionths of epsilon")
     faults.unless(2 <= catalog["capacity"] <= MOST_CAPACITY, "catalog.capacity", f"2 to {MOST_CAPACITY} records, two for each answer")
+    for name, most in catalog.get("limits", {}).items():
+        faults.unless(name in catalog["analysts"], "catalog.limits", f"`{name}` is none of the analysts")
+        whole = type(most) is int and 1 <= most <= MOST_BUDGET
+        faults.unless(whole, f"catalog.limits.{name}", "1 to 10^18 millionths of epsilon, which this analyst may spend at most")
 
 
 def is_encoding(word):

@@ -28,7 +28,7 @@ from math import ceil
 from cryptography.hazmat.primitives.ciphers import Cipher, algorithms
 
 from bounds import DRAW_LIMIT, LINE_LIMIT, MOST_BUDGET, SCRIPT_LIMIT
-from catalog import catalog, census, owner, read
+from catalog import catalog, census, limits, owner, read
 from journal import VERSIONS, WHOLE, Book, Grant, Reservation, Settlement, books
 from lines import amount_of, lines_of, millionths, whole_number
 from options import Parser
@@ -109,17 +109,28 @@ def cost_of(charges):
     return charges.get(None, 0) + sum(dearest.values())
 
 
+def by_view(costs):
+    """The sum of each view's charges in a journal, the whole being None."""
+    return {None if view == WHOLE else view: amount for view, amount in costs.sums.items()}
+
+
+def own_by_view(book, analysts):
+    """The same of each analyst's own, by the analyst's name."""
+    return {name: by_view(costs) for name, costs in zip(analysts, book.own)}
+
+
 class Owner:
     """An owner's entry, tables and rows, and what was charged and recorded: of each reservation who made it, and what became of it.
 
     From version 3 of its journal on an exhausted number's charge comes back. The budget is the entry's and all grants.
-    A view is None for the whole, else a partition's number and a key's. `added` has the records that its journal got in this run, and
+    A view is None for the whole, else a partition's number and a key's. `charges` are all analysts', `own` each one's. `added` has the records that its journal got in this run, and
     `unsettled` says how many reservations of this run have no settlement yet: none where one line is answered after another."""
 
     def __init__(self, entry, rows):
         self.entry, self.rows, self.tables = entry, rows, signature(entry)
         self.version, self.budget, self.charges, self.records, self.start = VERSIONS[-1], entry["budget"], {}, 0, 0
-        self.reservations, self.added, self.unsettled = [], [], 0
+        self.reservations, self.added, self.unsettled, self.own = [], [], 0, {}
+        self.limits = {name.encode(): most for name, most in limits(entry).items()}
 
     def goes_on(self, charges, records, reservations):
         """From here on a later run is answered, after so many records, where each view was charged so much. A reservation is who
@@ -129,17 +140,24 @@ class Owner:
 
     def found(self, book, analysts):
         """From here on a run is answered after the records of a journal (journal.py)."""
-        self.version, self.budget = book.version, book.budget
-        charges = {None if view == WHOLE else view: amount for view, amount in book.sums.items()}
+        self.version, self.budget, self.own = book.version, book.budget, own_by_view(book, analysts)
         standings = [book.settled[number].standing() if number in book.settled else None for number in range(len(book.reserved))]
-        self.goes_on(charges, len(book.records), [(analysts[one.analyst], said) for one, said in zip(book.reserved, standings)])
+        self.goes_on(by_view(book.costs), len(book.records), [(analysts[one.analyst], said) for one, said in zip(book.reserved, standings)])
 
     @property
     def spent(self):
         return cost_of(self.charges)
 
-    def with_charge(self, view, amount):
-        return {**self.charges, view: self.charges.get(view, 0) + amount}
+    def spent_by(self, who):
+        return cost_of(self.own.get(who, {}))
+
+    def with_charge(self, view, amount, who=None):
+        """All charges with one more, or an analyst's own."""
+        charges = self.charges if who is None else self.own.get(who, {})
+        return {**charges, view: charges.get(view, 0) + amount}
+
+    def charge(self, who, view, amount):
+        self.charges, self.own = self.with_charge(view, amount), {**self.own, who: self.with_charge(view, amount, who)}
 
     def part(self, partition, key):
         """The view of a partition and a key by their names, or the word's number that is unknown."""
@@ -219,6 +237,8 @@ class Server:
             return self.recall(words)
         if kind == b"left":
             return self.left(words)
+        if kind == b"mine":
+            return self.mine(words)
         if kind == b"bye":
             if len(words) > 1:
                 return "no 10 1"
@@ -261,6 +281,13 @@ class Server:
         owner = self.owners[words[1]]
         return f"left {owner.spent} {owner.budget} {owner.records}"
 
+    def mine(self, words):
+        fault = self.fault_of_one(words, self.owners)
+        if fault or self.who is None:
+            return fault or "no 14"
+        owner = self.owners[words[1]]
+        return f"mine {owner.spent_by(self.who)} {owner.limits.get(self.who, 'none')} {owner.records}"
+
     def hello(self, words):
         fault = self.fault_of_one(words, self.analysts)
         if fault:
@@ -295,14 +322,18 @@ class Server:
         return self.query(owner, view, e, program, term, sensitivity)
 
     def query(self, owner, view, e, program, term, sensitivity):
-        charges, budget, capacity = owner.with_charge(view, ceil(sensitivity * e)), owner.budget, owner.entry["capacity"]
-        spent, after = owner.spent, cost_of(charges)
+        amount, budget, capacity = ceil(sensitivity * e), owner.budget, owner.entry["capacity"]
+        spent, after = owner.spent, cost_of(owner.with_charge(view, amount))
         if after > budget:
             return f"no 40 {spent} {after} {budget} {owner.records}"
         if owner.records + owner.unsettled + 2 > capacity:
             return f"no 41 {owner.records} {owner.unsettled} {capacity}"
+        own, own_after = owner.spent_by(self.who), cost_of(owner.with_charge(view, amount, self.who))
+        if own_after > owner.limits.get(self.who, own_after):
+            return f"no 43 {own} {own_after} {owner.limits[self.who]} {owner.records}"
         number, order = len(owner.reservations), list(self.owners.values()).index(owner)
-        before, owner.charges = owner.charges, charges
+        before = owner.charges, owner.own
+        owner.charge(self.who, view, amount)
         owner.records += 2
         exact = Run(self.steps).value(term, dict(owner.shown(view)[1]))
         try:
@@ -311,7 +342,8 @@ class Server:
         except Exhausted:
             back = after - spent if owner.version >= 3 else 0
             settlement, reply = Settlement(number, 2, 0, back), f"no 50 {number}"
-            owner.charges = before if owner.version >= 3 else charges
+            if owner.version >= 3:
+                owner.charges, owner.own = before
         fraction, digest = (sensitivity.numerator, sensitivity.denominator), hashlib.sha256(program).digest()
         reservation = Reservation(number, view or WHOLE, e, *fraction, after - spent, self.analysts.index(self.who), digest)
         owner.added += [reservation, settlement]
@@ -517,6 +549,7 @@ def check():
         assert transcript(line.encode() + b"\n", house) == said + "\n", line
     check_found(hello, one)
     check_grants(hello)
+    check_limits(hello, one, towns)
     check_generated()
     # Programs worked by hand.
     for program, said in KNOWN_PROGRAMS:
@@ -544,14 +577,14 @@ def check_found(hello, one):
         ([Settlement(0, 1, 5)], hello + b"recall census 1\n", "no 60 1 2"),
     ]
     for settled, script, said in cases:
-        book = Book(house.catalog["owners"][0], 2)
+        book = Book(house.catalog["owners"][0], range(2))
         assert all(book.add(record) for record in [reservation, *settled])
         assert transcript(script, house, found=[book]).splitlines()[-1] == said, (script, said)
     # Draws that are zeros for ever: the charge comes back, and in version 2 it doesn't.
     for version, spent in {1: 10**6, 2: 10**6, 3: 0}.items():
-        said = transcript(hello + one + b"left census\n", house, lambda order, number: repeat(0), [Book(house.catalog["owners"][0], 2, version)])
+        said = transcript(hello + one + b"left census\n", house, lambda order, number: repeat(0), [Book(house.catalog["owners"][0], range(2), version)])
         assert said.splitlines()[1:] == ["no 50 0", f"left {spent} 10000000 2"], said
-    book = Book(house.catalog["owners"][0], 2)
+    book = Book(house.catalog["owners"][0], range(2))
     book.add(reservation)
     assert transcript(hello + one, house, found=[book]).startswith("hello ann\nanswer 1 ")
     server = Server(house, key_words(bytes(32)))
@@ -566,7 +599,7 @@ def check_grants(hello):
     house = House({"analysts": ["ann", "bob"], "owners": [entry]}, rows)
     more = hello + b"ask census 0.5 size people\nleft census\n"
     for version in VERSIONS:
-        book = Book(entry, 2, version)
+        book = Book(entry, range(2), version)
         assert book.add(Reservation(0, WHOLE, 10**6, 1, 1, 10**6, 0, bytes(32))) and book.add(Settlement(0, 1, 5))
         assert transcript(more, house, found=[book]).splitlines()[1] == "no 40 1000000 1500000 1000000 2"
         assert granted(book, 10**18) == (9, "too large 1000000\n", []) and grant_by_words(book, "0") == (2, "usage\n", [])
@@ -575,9 +608,45 @@ def check_grants(hello):
         said = transcript(more, house, found=[book]).splitlines()
         assert said[1].startswith("answer 1 ") and said[1].endswith(" 500000") and said[2] == "left 1500000 1500000 5"
         assert granted(book, 10**18 - 1_500_000)[:2] == (0, "granted census 1000000000000000000 4\n")
-    full = Book({**entry, "capacity": 2}, 2)
+    full = Book({**entry, "capacity": 2}, range(2))
     assert full.add(Reservation(0, WHOLE, 1, 1, 1, 1, 0, bytes(32))) and full.add(Settlement(0, 1, 5))
     assert granted(full, 1) == (10, "full 2 2\n", []) and granted(full, 10**18) == (9, "too large 1000000\n", [])
+
+
+def check_limits(hello, one, towns):
+    """Limits of analysts, worked by hand."""
+    rows, mine, bob = [{"people": list(ROWS)}], b"mine census\n", b"hello bob\n"
+
+    def said(script, limits, draws=key_words(bytes(32)), **words):
+        return transcript(script, House(read(catalog(owner(limits=limits, **words))), rows), draws).splitlines()
+
+    assert said(hello + 2 * one + mine + bob + one + mine, {"ann": 10**6})[1:5] == [
+        "answer 0 5 1000000", "no 43 1000000 2000000 1000000 2", "mine 1000000 1000000 2", "hello bob"]  # fmt: skip
+    assert said(hello + 2 * one + bob + one + hello + mine + bob + mine, {"ann": 10**6})[-4:] == [
+        "hello ann", "mine 1000000 1000000 4", "hello bob", "mine 1000000 none 4"]  # fmt: skip
+    assert said(hello + 2 * one, {"ann": 10**6}, budget=10**6)[-1] == "no 40 1000000 2000000 1000000 2"
+    assert said(hello + 2 * one, {"ann": 10**6}, capacity=2)[-1] == "no 41 2 0 2"
+    for line, reply in [(b"mine", "no 10 1"), (b"mine ", "no 10 1"), (b"mine nobody", "no 12 1"), (b"mine census x", "no 10 2"), (b"mine census", "no 14")]:
+        assert said(line + b"\n", {}) == [reply], line
+    # Each can spend its own, whatever the other does.
+    shares = {"ann": 600_000, "bob": 400_000}
+    asks = b"ask census 0.6 size people\nask census 0.4 size people\n"
+    assert [line[:9] for line in said(hello + asks + bob + asks, shares, budget=10**6)][1:] == ["answer 0 ", "no 43 600", "hello bob", "no 40 600", "answer 1 "]
+    # Parts of one partition: of the analyst's own the dearest counts.
+    parts = b"askpart census area A 0.000006 size people\naskpart census area B 0.000004 size people\n"
+    house = House(read(catalog({**towns, "budget": 100, "limits": [{"analyst": "ann", "budget": 10}]})), [{"people": [(b"A", 20), (b"B", 30)]}])
+    found = transcript(hello + parts + mine + b"ask census 0.000005 size people\n" + bob + parts + mine, house).splitlines()
+    assert found[3:5] == ["mine 6 10 4", "no 43 6 11 10 4"] and found[-1] == "mine 6 none 8"
+    # What is exhausted comes back in version 3, and is charged in version 2.
+    entry = read(catalog(owner(limits={"ann": 10**6})))["owners"][0]
+    house = House({"analysts": ["ann", "bob"], "owners": [entry]}, rows)
+    for version, spent in {1: 10**6, 2: 10**6, 3: 0}.items():
+        book = Book(entry, ["ann", "bob"], version)
+        found = transcript(hello + one + mine, house, lambda order, number: repeat(0), [book]).splitlines()
+        assert found[1:] == ["no 50 0", f"mine {spent} 1000000 2"], found
+    # A budget that is raised raises no limit.
+    book = Book(entry, ["ann", "bob"])
+    assert book.add(Grant(0, 10**7)) and transcript(hello + 2 * one, house, found=[book]).splitlines()[-1] == "no 43 1000000 2000000 1000000 3"
 
 
 def check_generated():

@@ -5,6 +5,6 @@
     labour.count("persons", "p.age <= 30", eps=0.5)
 """
 from .client import Client, connect
-from .faults import BadCall, Cut, Failed, Fault, Refused, Unanswered
+from .faults import BadCall, Cut, Failed, Fault, OverShare, Refused, Unanswered
 
-__all__ = ["BadCall", "Client", "Cut", "Failed", "Fault", "Refused", "Unanswered", "connect"]
+__all__ = ["BadCall", "Client", "Cut", "Failed", "Fault", "OverShare", "Refused", "Unanswered", "connect"]

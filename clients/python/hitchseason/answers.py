@@ -73,6 +73,37 @@ class Left:
     __repr__ = __str__
 
 
+class Mine:
+    """What the analyst's own asks of an owner cost, in millionths, what they may cost at most or nothing where there is no limit, and how many records
+    there are."""
+
+    def __init__(self, owner, spent, limit, records):
+        self.owner, self.spent, self.limit, self.records = owner, spent, limit, records
+
+    @property
+    def left(self):
+        """What is left to the analyst of its limit, or nothing where it has none. The budget may have less."""
+        return None if self.limit is None else self.limit - self.spent
+
+    def as_dict(self):
+        return {"owner": self.owner, "spent": self.spent, "limit": self.limit, "left": self.left, "records": self.records}
+
+    def _repr_html_(self):
+        return lines_html(self)
+
+    def __str__(self):
+        of = "no limit of its own" if self.limit is None else f"{units(self.left)} left of a limit of {units(self.limit)}"
+        return f"{self.owner}: {units(self.spent)} spent by the analyst, {of}; {self.records} records"
+
+    __repr__ = __str__
+
+
+def lesser(left, mine):
+    """What is left to an analyst: the lesser of what is left of the budget and of the analyst's limit, as far as they are known."""
+    rests = [rest for rest in (left and left.left, mine and mine.left) if rest is not None]
+    return min(rests, default=None)
+
+
 def rows_said(rows):
     return f"{rows} row{'' if rows == 1 else 's'}"
 

@@ -11,7 +11,7 @@ from contextlib import nullcontext
 from inspect import Parameter, Signature, signature
 
 from . import statistics
-from .answers import Answer, Left, units
+from .answers import Answer, Left, Mine, lesser, units
 from .asks import Forecast, Forgotten, View, charge_of, price
 from .borrowed import meanings
 from .cuts import Kept, Pending, least_of
@@ -122,8 +122,9 @@ class Client:
                 raise Refused(f"there is no {what} `{name}`: {known(name, [one for one in all_names if one], 'there is')}")
         self.transport, self.catalog, self.analyst = transport, catalog, analyst
         self.view = View(catalog, catalog["owners"][names.index(owner)], getattr(transport, "closed", False))
-        # The next number; what was left at a time when there was none after it that isn't another's; what isn't known yet; what was left at last.
-        self.next = self.before = self.pending = self.known = None
+        # The next number; what was left at a time when there was none after it that isn't another's; what isn't known yet; what was left at last, and of
+        # the analyst's limit.
+        self.next = self.before = self.pending = self.known = self.own = None
 
     # What is asked. Each takes `eps` or `charge`, and `part=(PARTITION, KEY)`, as statistics.py says, and `resume=ANSWERS` of a call that was cut.
 
@@ -156,10 +157,12 @@ class Client:
         """Refuses asks of the whole that don't fit together, so that none of them is paid in vain. Of parts it can't be known. PAID are answered already."""
         if len(plan.asks) == 1 or any(ask.part for ask in plan.asks):
             return
-        charge, left = Forecast(plan).charge - charge_of(paid), self.left()
-        self.before = left
-        if charge > left.left:
-            raise Refused(f"its {len(plan.asks) - len(paid)} asks take up to {units(charge)} together, and {units(left.left)} is left: none of them was asked.")
+        charge = Forecast(plan).charge - charge_of(paid)
+        self.before, self.own = self.left(), self.share()
+        rest = lesser(self.before, self.own)
+        if charge > rest:
+            of = " of the analyst's limit" if rest < self.before.left else ""
+            raise Refused(f"its {len(plan.asks) - len(paid)} asks take up to {units(charge)} together, and {units(rest)} is left{of}: none of them was asked.")
 
     # What costs nothing.
 
@@ -174,9 +177,10 @@ class Client:
 
     def forecast(self, name, *words, **more):
         """What a call would be charged, and how far its answers are off: forecast("count", "people", eps=0.5). It asks nothing. What is left is known
-        from the last answer or the last left(); else it is compared with the catalog's budget, which the owner may have raised since."""
+        from the last answer or the last left(), and the analyst's limit from a mine() after which nothing was asked: the lesser rest counts. Else it is compared with the catalog's
+        budget, which the owner may have raised since."""
         plan = self.plan(name, *words, **more)
-        return Forecast(plan, self.known.left if self.known else None, self.view.entry["budget"], self.view.person)
+        return Forecast(plan, lesser(self.known, self.own), self.view.entry["budget"], self.view.person)
 
     def sent(self, program):
         """A program as it is sent, with its columns' names written out."""
@@ -184,6 +188,30 @@ class Client:
 
     def left(self):
         return self.left_of(self.told([f"left {self.view.name}"])[0])
+
+    def mine(self):
+        """What the analyst's own asks of this owner cost, and what its limit leaves, where it has one. It costs nothing."""
+        reply = self.told([self.hello(), f"mine {self.view.name}"])[1]
+        must_be_reply(reply)
+        words = reply.split(" ")
+        if words[0] != "mine":
+            raise Refused(f"{reply}: {meanings.meaning(reply)}.", reply)
+        self.own = Mine(self.view.name, int(words[1]), None if words[2] == "none" else int(words[2]), int(words[3]))
+        return self.own
+
+    def share(self):
+        """The same, or nothing where the service doesn't know the line: then it has no limits."""
+        try:
+            return self.mine()
+        except Refused as refused:
+            if refused.reply == "no 10 0":
+                return None
+            raise
+
+    def limit_allows(self, asks):
+        """Whether the analyst's limit surely refused none of these asks, whatever became of them: what is spent now is at least what was spent before."""
+        own = self.share()
+        return own is None or own.limit is None or own.spent + charge_of(asks) <= own.limit
 
     def recall(self, number, eps=None):
         """What became of a reservation: its value, or, by the EPS at which it was asked, an answer with its interval. Refused where it isn't the
@@ -227,7 +255,7 @@ class Client:
             raise Cut("a run before was cut, and what came of it isn't known yet: recover() first")
         if self.next is None:
             self.learn()
-        self.pending = Pending(asks, self.next, self.before)
+        self.pending, self.own = Pending(asks, self.next, self.before), None
         try:
             replies = self.transport.replies([hello, *(ask.line() for ask in asks), f"left {self.view.name}"])
         except Stopped as stopped:
@@ -352,7 +380,9 @@ class Client:
             none = f"None of the {len(rest)} asks was reserved: nothing is charged for them, and they" if len(rest) > 1 else (
                 "The ask wasn't reserved: nothing is charged for it, and it")
             raise next(iter(heard), Failed(f"{why}{none} may be asked again."))
-        if not found or len(found) < len(rest) and pending.none_refused(after, found, left, self.view.entry, getattr(self.transport, "judged", False)):
+        judged = getattr(self.transport, "judged", False)
+        surely = found and len(found) < len(rest) and pending.none_refused(after, found, left, self.view.entry, judged) and self.limit_allows(pending.asks)
+        if not found or surely:
             unasked = rest[len(found) :]
             raise Cut(f"{why}{pending.told(recalled, unasked)}", found, [one for one in recalled if isinstance(one, Answer)], unasked)
         told = "; ".join(f"{number} {' '.join(said)}" for number, said in found)

@@ -2,7 +2,7 @@
 
     Fault                        all of them
     BadCall                      the words of a call don't fit it: nothing was asked
-    Refused                      nothing is charged; `reply` is the line or nothing, `place` the part of the analyst's program
+    Refused                      nothing is charged; OverShare is one that the analyst's own limit doesn't allow (43); `reply` is the line or nothing, `place` the part of the analyst's program
     Unanswered                   no answer comes: exhausted (50), whose charge comes back, or charged (51), or perhaps (52)
     Failed                       the program didn't run, or closed a journal: nothing of what was asked is known to be charged
     Cut                          the run was cut, and what came of it isn't known, or not which answer is whose, or a part of it came to nothing
@@ -33,6 +33,14 @@ class Refused(Fault):
     def __init__(self, said, reply=None, place=None):
         super().__init__(said)
         self.reply, self.place = reply, place
+
+
+class OverShare(Refused):
+    """The analyst's own limit doesn't allow it: `limit` is what it may spend at most with this owner, and `spent` what it has spent, in millionths."""
+
+    def __init__(self, said, reply):
+        super().__init__(said, reply)
+        self.spent, self.limit = int(reply.split(" ")[2]), int(reply.split(" ")[4])
 
 
 class Unanswered(Fault):
@@ -89,12 +97,12 @@ def of_reply(reply, line, catalog, analyst, sensitivity):
         return Refused(f"{reply}: {why or said}.", reply)
     if code in OF_PROGRAMS:
         return Failed(f"{reply}: {said}. The rules that this client reads accept the program: is its server another version?", reply)
-    if code == "40":
+    if code in ("40", "43"):
         charge = -(-sensitivity[0] * sensitivity[1] // 1)
-        return Refused(f"{reply}: {said}.{explain.affordable(words, sensitivity[0], int(charge))}", reply)
+        return (Refused if code == "40" else OverShare)(f"{reply}: {said}.{explain.affordable(words, sensitivity[0], int(charge))}", reply)
     if code in ("50", "51", "52"):
         return Unanswered(f"{reply}: {said}.", reply, int(words[2]) if len(words) > 2 else None)
     return (Refused if code in ("41", "60", "61") else Failed)(f"{reply}: {said}.", reply)
 
 
-__all__ = ["BadCall", "Cut", "Failed", "Fault", "Refused", "Unanswered", "known", "of_names", "of_program", "of_reply"]
+__all__ = ["BadCall", "Cut", "Failed", "Fault", "OverShare", "Refused", "Unanswered", "known", "of_names", "of_program", "of_reply"]

@@ -262,7 +262,7 @@ class Connections(unittest.TestCase):
 
 
 class Told:
-    """A transport that has its replies written down: a list of replies, or what is raised, an exchange. A hello and a `left`, before recalls, are none, unless
+    """A transport that has its replies written down: a list of replies, or what is raised, an exchange. A hello and a `left`, before recalls, or a `mine`, are none, unless
     they fail: they say that there are more records than are recalled."""
 
     def __init__(self, *exchanges):
@@ -271,7 +271,7 @@ class Told:
     def replies(self, lines):
         self.asked.append(lines)
         if len(lines) == 2 and not isinstance(self.exchanges[0], Exception):
-            return [lines[0], "left 1000000 20000000 40"]
+            return [lines[0], "mine 0 none 40" if lines[1].startswith("mine ") else "left 1000000 20000000 40"]
         said = self.exchanges.pop(0)
         if isinstance(said, Exception):
             raise said

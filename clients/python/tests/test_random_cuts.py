@@ -174,7 +174,7 @@ class RandomCuts(unittest.TestCase):
                 files[name] = file.read()
         catalog = read(files["catalog.json"])
         head = header(files["catalog.json"], 0, files["key"], lambda name: contents(f"{self.place.folder}/{name}"))
-        return catalog["analysts"], book_of(contents(f"{self.place.folder}/journals/0.bud"), head, catalog["owners"][0], len(catalog["analysts"]))
+        return catalog["analysts"], book_of(contents(f"{self.place.folder}/journals/0.bud"), head, catalog["owners"][0], catalog["analysts"])
 
     def test_two_clients(self):
         """Where the rule is broken, and another client of the analyst asked meanwhile, there are two new numbers: neither is taken for the answer."""

@@ -248,7 +248,7 @@ abbrev pub reserved : ℕ → Record
 reserved number = Reserve (record { number = number; view = Whole; e = 1000000; p = 1; q = 1; taken = 1000000; analyst = 5; digest = sha256 size_people })
 
 abbrev entry_in : (version : ℕ) → Entry
-entry_in version = record { budget = 9000000; capacity = 100; analysts = 6; keys = []; version = version }
+entry_in version = record { budget = 9000000; capacity = 100; analysts = 6; keys = []; version = version; limits = [] }
 
 records_are : grant_records (entry_in 2) [] an_ask (a_grant 4 1000000 9) Exhausted ≡ reserved 4 ∷ settling 4 Exhausted ∷ []
 unfolding cost_of cost_of_charges partition_cost budget_of
@@ -273,7 +273,7 @@ full_is = refl
 abbrev pub owner : (budget capacity : ℕ) → Owner
 owner budget capacity = record {
   name = codes "census";
-  entry = record { budget = budget; capacity = capacity; analysts = 6; keys = []; version = 2 };
+  entry = record { budget = budget; capacity = capacity; analysts = 6; keys = []; version = 2; limits = [] };
   tables = people ∷ [];
   rows = rows ∷ [];
   partitions = [];

@@ -39,7 +39,7 @@ query = a_query size_people
 abbrev stranger : (budget capacity : ℕ) → Owner
 stranger budget capacity = record {
   name = codes "census";
-  entry = record { budget = budget; capacity = capacity; analysts = 6; keys = []; version = 2 };
+  entry = record { budget = budget; capacity = capacity; analysts = 6; keys = []; version = 2; limits = [] };
   tables = words ∷ [];
   rows = [] ∷ [];
   partitions = [];

@@ -62,7 +62,7 @@ odd = Part 1 0
 abbrev owner : (budget : ℕ) → Owner
 owner budget = record {
   name = codes "census";
-  entry = record { budget = budget; capacity = 100; analysts = 6; keys = 3 ∷ 1 ∷ []; version = 2 };
+  entry = record { budget = budget; capacity = 100; analysts = 6; keys = 3 ∷ 1 ∷ []; version = 2; limits = [] };
   tables = residents ∷ words ∷ [];
   rows =
       (lives_in (codes "york") 20 ∷ lives_in (codes "bath") 30 ∷ lives_in (codes "york") 40 ∷ lives_in (codes "leeds") 50 ∷ [])

@@ -5,11 +5,11 @@ use Rattle.budget_core.specs.Entries.{Entry}
 use Rattle.budget_core.specs.declared.entry.Ask.{Ask}
 use Rattle.budget_core.specs.declared.entry.Grant.{Grant}
 use Rattle.budget_core.specs.declared.entry.ReserveFault.{ReserveFault}
-use Rattle.budget_core.specs.declared.entry.ReserveFault.TheVariants.{OverBudget, Full}
+use Rattle.budget_core.specs.declared.entry.ReserveFault.TheVariants.{OverBudget, Full, OverShare}
 use Rattle.budget_core.specs.Ledger.{money_verdict}
 use Rattle.wire_lines.specs.Refusal.{ProgramRefusal}
 use Rattle.wire_lines.specs.declared.refusal.MoneyRefusal.{MoneyRefusal}
-use Rattle.wire_lines.specs.declared.refusal.MoneyRefusal.TheVariants.{OverBudget as NoBudget, JournalFull}
+use Rattle.wire_lines.specs.declared.refusal.MoneyRefusal.TheVariants.{OverBudget as NoBudget, JournalFull, OverShare as NoShare}
 use Rattle.sha2.specs.Sha256.{sha256}
 use Rattle.fz_frac.specs.Distance.{Fin, Inf}
 use Rattle.fz_ast.specs.Signature.{Signature}
@@ -31,6 +31,7 @@ ask_for query p q =
 abbrev pub money_refusal : ReserveFault → MoneyRefusal
 money_refusal (OverBudget spent after budget seen) = NoBudget spent after budget seen
 money_refusal (Full used unsettled capacity) = JournalFull used unsettled capacity
+money_refusal (OverShare spent after limit seen) = NoShare spent after limit seen
 
 abbrev pub verdict_by_money : Ask → Result Grant ReserveFault → Verdict
 verdict_by_money ask (Ok grant) = granted ask grant

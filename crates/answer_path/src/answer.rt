@@ -148,6 +148,17 @@ fn refusal_of(fault: ReserveFault) -> MoneyRefusal
             open: unsettled,
             capacity,
         },
+        ReserveFault::OverShare {
+            spent,
+            after,
+            limit,
+            seen,
+        } => MoneyRefusal::OverShare {
+            spent,
+            after,
+            limit,
+            seen,
+        },
     }
 }
 

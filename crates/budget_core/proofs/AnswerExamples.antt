@@ -23,7 +23,7 @@ abbrev records : List Record
 records = found ++ made 2 1 ∷ settling 2 (Answered (negsuc 6)) ∷ made 3 0 ∷ settling 3 Exhausted ∷ made 4 0 ∷ settling 4 Lost ∷ made 5 0 ∷ []
 
 abbrev ledger : Ledger
-ledger = record { entry = record { budget = 10; capacity = 100; analysts = 2; keys = []; version = 2 }; found = found; records = records }
+ledger = record { entry = record { budget = 10; capacity = 100; analysts = 2; keys = []; version = 2; limits = [] }; found = found; records = records }
 
 answered_before : recalled ledger 0 0 ≡ Answer (pos 5) 10
 answered_before = refl

@@ -18,14 +18,14 @@ use Rattle.journal_records.specs.Records.{settling_back, number_or_zero}
 use Rattle.budget_core.specs.Counts.{reservations_of, reservation_of, is_numbered, outcome_of}
 use Rattle.budget_core.specs.Cost.{charge_by, comes_back, counts_in, charges_in}
 use Rattle.budget_core.specs.Entries.{Entry, IsEntry, HasView}
-use Rattle.budget_core.specs.Legal.{MayFollow, IsOpen, IsHistory}
+use Rattle.budget_core.specs.Legal.{IsReservationAfter, MayFollow, IsOpen, IsHistory}
 use Rattle.budget_core.proofs.Charging.{view-valid}
 use Rattle.budget_core.proofs.Costs.{nothing-back, sum-filtered}
 use Rattle.budget_core.proofs.Histories.{history-induction}
 use Rattle.budget_core.proofs.Numbers.{sum_by-parts, option_or-None, eqb_turned, reservations-with, reservations-settled, reservations-granted, reservation_of-append, reserved_below, outcome_of-append-Settle}
 
 -- Of a number's reservations a history has just the one that is found.
-only-one : (entry : Entry) (a : Reservation → ℕ) (records : List Record) → IsHistory entry records → (n : ℕ)
+pub only-one : (entry : Entry) (a : Reservation → ℕ) (records : List Record) → IsHistory entry records → (n : ℕ)
     → sum_by (λ (r : Reservation). cond (n == r.number) (a r) 0) (reservations_of records) ≡ number_or_zero a (reservation_of records n)
 only-one entry a = history-induction entry (λ records. (n : ℕ) → sum_by (λ (r : Reservation). cond (n == r.number) (a r) 0) (reservations_of records) ≡ number_or_zero a (reservation_of records n)) (λ n. refl) step
   where
@@ -74,7 +74,7 @@ module _ (entry : Entry) (records : List Record) (number returned : ℕ) (outcom
       let all : cond (not (comes_back entry (option_or old None))) a 0 ≡ cond (not (comes_back entry old)) a 0 = ap (λ (b : Bool). cond (not b) a 0) same in
       omega (arith, all)
 
-  at : (view : View) (r : Reservation) → cond (counts_in entry settled r) (charged_to view (charge_by r)) 0 + cond (number == r.number) (charged_to view (charge_by r)) 0
+  pub at : (view : View) (r : Reservation) → cond (counts_in entry settled r) (charged_to view (charge_by r)) 0 + cond (number == r.number) (charged_to view (charge_by r)) 0
       ≡ cond (counts_in entry records r) (charged_to view (charge_by r)) 0
   at view r =
       (λ i. cond (not (comes_back entry (outcome_of-append-Settle records number outcome returned r.number i))) (charged_to view (charge_by r)) 0
@@ -107,21 +107,26 @@ module _ (entry : Entry) (records : List Record) (number returned : ℕ) (outcom
   back-charged charge costs is stands =
       (charges_in entry records, stands, rest-charged (charges_in entry records) (charges_in entry settled) charge.view charge.amount (back-rest charge is))
 
--- Each reservation of a history names a view of the entry.
-pub reserved-view : (entry : Entry) (records : List Record) → IsHistory entry records → (n : ℕ) (r : Reservation) → reservation_of records n ≡ Some r → HasView entry r.view
-reserved-view entry = history-induction entry (λ records. (n : ℕ) (r : Reservation) → reservation_of records n ≡ Some r → HasView entry r.view) (λ n r is. absurd cc) step
+-- What holds of each reservation that may follow holds of each of a history.
+pub reserved-all : (entry : Entry) (P : Reservation → Type 0) → ((records : List Record) (r : Reservation) → IsReservationAfter entry records r → P r) → (records : List Record) → IsHistory entry records
+    → (n : ℕ) (r : Reservation) → reservation_of records n ≡ Some r → P r
+reserved-all entry P from = history-induction entry (λ records. (n : ℕ) (r : Reservation) → reservation_of records n ≡ Some r → P r) (λ n r is. absurd cc) step
   where
     step : (xs : List Record) (x : Record) → IsHistory entry xs → MayFollow entry xs x
-        → ((n : ℕ) (r : Reservation) → reservation_of xs n ≡ Some r → HasView entry r.view) → (n : ℕ) (r : Reservation) → reservation_of (xs ++ x ∷ []) n ≡ Some r → HasView entry r.view
+        → ((n : ℕ) (r : Reservation) → reservation_of xs n ≡ Some r → P r) → (n : ℕ) (r : Reservation) → reservation_of (xs ++ x ∷ []) n ≡ Some r → P r
     step xs (Reserve reservation) h may before n r is =
         by (reservation_of xs n) refl (n == reservation.number) (sym (reservation_of-append xs (Reserve reservation ∷ []) n) ∙ is)
       where
-        by : (old : Option Reservation) → reservation_of xs n ≡ old → (hit : Bool) → option_or old (cond hit (Some reservation) None) ≡ Some r → HasView entry r.view
+        by : (old : Option Reservation) → reservation_of xs n ≡ old → (hit : Bool) → option_or old (cond hit (Some reservation) None) ≡ Some r → P r
         by (Some other) was hit now = before n r (was ∙ now)
-        by None was true now = let same : reservation ≡ r = cc now in subst (λ (z : Reservation). HasView entry z.view) same may.looks_at
+        by None was true now = let same : reservation ≡ r = cc now in subst P same (from xs reservation may)
         by None was false now = absurd cc
     step xs (Settle settlement) h may before n r is = before n r (sym (reservation_of-append xs (Settle settlement ∷ []) n ∙ option_or-None (reservation_of xs n)) ∙ is)
     step xs (Grant grant) h may before n r is = before n r (sym (reservation_of-append xs (Grant grant ∷ []) n ∙ option_or-None (reservation_of xs n)) ∙ is)
+
+-- Each names a view of the entry.
+reserved-view : (entry : Entry) (records : List Record) → IsHistory entry records → (n : ℕ) (r : Reservation) → reservation_of records n ≡ Some r → HasView entry r.view
+reserved-view entry = reserved-all entry (λ (r : Reservation). HasView entry r.view) (λ records r may. may.looks_at)
 
 pub charge-view : (entry : Entry) (records : List Record) → IsEntry entry → IsHistory entry records → (n : ℕ) (charge : Charge)
     → option_map charge_by (reservation_of records n) ≡ Some charge → IsView charge.view

@@ -1,5 +1,5 @@
 -- A verdict doesn't depend on answers, nor the cost on what is settled.
-use Rattle.std.proofs.Common.{◌≡◌, ℕ, Bool, true, false, cond, not, ◌&&◌, ◌==◌, nat_le, List, [], ◌∷◌, ◌++◌, length, map, sum_by, Option, Some, is_some, refl, sym, ◌∙◌, ap, arith}
+use Rattle.std.proofs.Common.{◌≡◌, ℕ, ◌+◌, ◌-◌, Bool, true, false, cond, not, ◌&&◌, ◌==◌, nat_le, nat_lt, unwrap_or, List, [], ◌∷◌, ◌++◌, length, map, sum_by, Option, Some, is_some, refl, sym, ◌∙◌, ap, arith}
 use Rattle.std.proofs.lemmas.List.Sums.{sum_by-cons}
 use Rattle.std.proofs.Math.ListN.{length-map}
 use Rattle.std.proofs.lemmas.List.{map-append}
@@ -9,11 +9,18 @@ use Rattle.journal_records.specs.declared.records.Reservation.{Reservation}
 use Rattle.journal_records.specs.declared.records.Record.{Record}
 use Rattle.journal_records.specs.declared.records.Record.TheVariants.{Reserve, Settle, Grant}
 use Rattle.budget_core.specs.declared.entry.Ask.{Ask}
+use Rattle.budget_core.specs.declared.entry.ReserveFault.TheVariants.{OverBudget, Full, OverShare}
+use Rattle.journal_records.specs.Records.{is_some_and}
+use Rattle.budget_core.specs.Bars.{first_bar}
 use Rattle.budget_core.specs.Bare.{bare_outcome, bare_record, without_answers}
-use Rattle.budget_core.specs.Cost.{cost_of, budget_of}
+use Rattle.std.specs.List.{filter}
+use Rattle.partition_charge.specs.Cost.{cost_of_charges}
+use Rattle.budget_core.specs.Cost.{charge_by, cost_of, budget_of}
 use Rattle.budget_core.specs.Counts.{reservations_of, outcome_of, is_exhaustion, amount_of, is_open_in, open_from}
-use Rattle.budget_core.specs.Entries.{Entry}
-use Rattle.budget_core.specs.Ledger.{next_number, reservation_numbered, cost_with, money_verdict}
+use Rattle.budget_core.specs.Entries.{Entry, limit_of}
+use Rattle.budget_core.specs.Ledger.{next_number, reservation_numbered, cost_with, spent_with, money_verdict}
+use Rattle.budget_core.specs.Mine.{is_by, spent_by}
+use Rattle.budget_core.proofs.MineLemmas.{spent_by-charges}
 use Rattle.budget_core.proofs.Numbers.{one_if}
 use Rattle.budget_core.proofs.Costs.{charges_in-same, cost_of-same, budget_of-same}
 
@@ -61,6 +68,18 @@ cost_with-without_answers entry records ask =
     ∙ ap (cost_of entry) (sym (map-append bare_record records (Reserve (reservation_numbered (next_number records) ask 0) ∷ [])))
     ∙ cost_of-without_answers entry (records ++ Reserve (reservation_numbered (next_number records) ask 0) ∷ [])
 
+pub spent_by-without_answers : (entry : Entry) (records : List Record) (analyst : ℕ) → spent_by entry (without_answers records) analyst ≡ spent_by entry records analyst
+spent_by-without_answers entry records analyst =
+    spent_by-charges entry (without_answers records) analyst
+    ∙ (λ i. cost_of_charges (map charge_by (filter (λ (r : Reservation). not ((entry.version == 3) && same-exhausted records r.number i)) (filter (is_by analyst) (same-reservations records i)))))
+    ∙ sym (spent_by-charges entry records analyst)
+
+pub spent_with-without_answers : (entry : Entry) (records : List Record) (ask : Ask) → spent_with entry (without_answers records) ask ≡ spent_with entry records ask
+spent_with-without_answers entry records ask =
+    (λ i. spent_by entry (without_answers records ++ Reserve (reservation_numbered (length (same-reservations records i)) ask 0) ∷ []) ask.analyst)
+    ∙ ap (λ (all : List Record). spent_by entry all ask.analyst) (sym (map-append bare_record records (Reserve (reservation_numbered (next_number records) ask 0) ∷ [])))
+    ∙ spent_by-without_answers entry (records ++ Reserve (reservation_numbered (next_number records) ask 0) ∷ []) ask.analyst
+
 pub reservations_of-without_answers : (records : List Record) → length (reservations_of (without_answers records)) ≡ length (reservations_of records)
 reservations_of-without_answers [] = refl
 reservations_of-without_answers (Reserve reservation ∷ records) = omega (arith, reservations_of-without_answers records)
@@ -87,4 +106,22 @@ open_from-without_answers start records = sum_by-mapped (λ r. one_if (is_open_i
 
 pub money_verdict-without_answers : (entry : Entry) (start : ℕ) (records : List Record) (ask : Ask) → money_verdict entry start (without_answers records) ask ≡ money_verdict entry start records ask
 money_verdict-without_answers entry start records ask =
-    cc (cost_of-without_answers entry records, budget_of-without_answers entry records, cost_with-without_answers entry records ask, reservations_of-without_answers records, open_from-without_answers start records, length-map records bare_record)
+    λ i. first_bar
+    ((
+      nat_lt (budget_of-without_answers entry records i) (cost_with-without_answers entry records ask i),
+      OverBudget (cost_of-without_answers entry records i) (cost_with-without_answers entry records ask i) (budget_of-without_answers entry records i) (length-map records bare_record i),
+    )
+    ∷ (
+      nat_lt entry.capacity (length-map records bare_record i + open_from-without_answers start records i + 2),
+      Full (length-map records bare_record i) (open_from-without_answers start records i) entry.capacity,
+    )
+    ∷ (
+      is_some_and (λ limit. nat_lt limit (spent_with-without_answers entry records ask i)) (limit_of entry ask.analyst),
+      OverShare (spent_by-without_answers entry records ask.analyst i) (spent_with-without_answers entry records ask i) (unwrap_or (limit_of entry ask.analyst) 0) (length-map records bare_record i),
+    )
+    ∷ [])
+    (record {
+      number = reservations_of-without_answers records i;
+      taken = cost_with-without_answers entry records ask i - cost_of-without_answers entry records i;
+      seen = length-map records bare_record i + 1;
+    })

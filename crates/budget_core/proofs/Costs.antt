@@ -123,17 +123,23 @@ nothing-back entry = by (entry.version == 3)
     by true = refl
     by false = refl
 
--- A settlement whose charge doesn't come back changes no charge.
-pub charges_in-append-Settle : (entry : Entry) (records : List Record) (number : ℕ) (outcome : Outcome) (returned : ℕ) → comes_back entry (Some outcome) ≡ false
-    → charges_in entry (records ++ settling_back number outcome returned ∷ []) ≡ charges_in entry records
-charges_in-append-Settle entry records number outcome returned kept =
-    charges_in-same entry (records ++ settling_back number outcome returned ∷ []) records (reservations-settled records (record { number = number; outcome = outcome; returned = returned }))
-    (λ n. ap (comes_back entry) (outcome_of-append-Settle records number outcome returned n) ∙ by (outcome_of records n) (n == number))
+-- A settlement whose charge doesn't come back brings none back.
+pub ended-alike : (entry : Entry) (records : List Record) (number : ℕ) (outcome : Outcome) (returned : ℕ) → comes_back entry (Some outcome) ≡ false
+    → (n : ℕ) → comes_back entry (outcome_of (records ++ settling_back number outcome returned ∷ []) n) ≡ comes_back entry (outcome_of records n)
+ended-alike entry records number outcome returned kept n =
+    ap (comes_back entry) (outcome_of-append-Settle records number outcome returned n) ∙ by (outcome_of records n) (n == number)
   where
     by : (old : Option Outcome) (hit : Bool) → comes_back entry (option_or old (cond hit (Some outcome) None)) ≡ comes_back entry old
     by (Some o) hit = refl
     by None true = kept ∙ sym (nothing-back entry)
     by None false = refl
+
+-- So it changes no charge.
+pub charges_in-append-Settle : (entry : Entry) (records : List Record) (number : ℕ) (outcome : Outcome) (returned : ℕ) → comes_back entry (Some outcome) ≡ false
+    → charges_in entry (records ++ settling_back number outcome returned ∷ []) ≡ charges_in entry records
+charges_in-append-Settle entry records number outcome returned kept =
+    charges_in-same entry (records ++ settling_back number outcome returned ∷ []) records (reservations-settled records (record { number = number; outcome = outcome; returned = returned }))
+    (ended-alike entry records number outcome returned kept)
 
 pub cost_of-append-Settle : (entry : Entry) (records : List Record) (number : ℕ) (outcome : Outcome) (returned : ℕ) → comes_back entry (Some outcome) ≡ false
     → cost_of entry (records ++ settling_back number outcome returned ∷ []) ≡ cost_of entry records

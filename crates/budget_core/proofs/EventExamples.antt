@@ -15,7 +15,7 @@ use Rattle.budget_core.specs.Entries.{Entry}
 use Rattle.budget_core.specs.Events.{World, is_ask_of, is_lowest, is_epsilon, is_digest, has_view, stepped, ran}
 
 abbrev entry_of : ℕ → ℕ → Entry
-entry_of budget capacity = record { budget = budget; capacity = capacity; analysts = 2; keys = 2 ∷ []; version = 2 }
+entry_of budget capacity = record { budget = budget; capacity = capacity; analysts = 2; keys = 2 ∷ []; version = 2; limits = [] }
 
 abbrev digest : List ℕ
 digest = replicate 32 9

@@ -25,6 +25,7 @@ use Rattle.budget_core.proofs.Numbers.{numbered_in_order, settled_once, outcome_
 use Rattle.budget_core.proofs.SoundLemmas.{sound-history, sound-Reserve, sound-Settle, sound-Grant, sound-found, may-raise}
 use Rattle.budget_core.proofs.LegalLemmas.{settlement-may}
 use Rattle.budget_core.proofs.Costs.{cost_of-nil, budget_of-nil}
+use Rattle.budget_core.proofs.MineLemmas.{stays_within_limits}
 use Rattle.budget_core.proofs.Asks.{ask-from}
 
 -- each of these numbers is settled with an answer
@@ -172,6 +173,7 @@ safe-good entry world good =
     record {
       within = good.sound.within;
       limited = good.sound.limited;
+      shares = λ analyst limit is. stays_within_limits entry world.records analyst limit h is;
       numbered = numbered_in_order entry world.records h;
       once = λ number. omega (arith, settled_once entry world.records h number, at-most (is_some (outcome_of world.records number)));
       answered = λ number within. subst (λ n. IsTrue (is_answer (outcome_of world.records n))) within.2 (answers-at world.records world.sent good.answered within.0 number within.1);

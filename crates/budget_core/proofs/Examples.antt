@@ -41,7 +41,7 @@ greatest : charge_of 1000000000 4294967295 1 ≡ 4294967295000000000
 greatest = refl
 
 abbrev entry_of : ℕ → ℕ → Entry
-entry_of budget capacity = record { budget = budget; capacity = capacity; analysts = 2; keys = 2 ∷ []; version = 2 }
+entry_of budget capacity = record { budget = budget; capacity = capacity; analysts = 2; keys = 2 ∷ []; version = 2; limits = [] }
 
 abbrev digest : List ℕ
 digest = replicate 32 9

@@ -20,7 +20,7 @@ use Rattle.budget_core.specs.Ledger.{money_verdict}
 use Rattle.budget_core.specs.Legal.{MayFollow}
 
 abbrev entry_of : (budget capacity version : ℕ) → Entry
-entry_of budget capacity version = record { budget = budget; capacity = capacity; analysts = 1; keys = []; version = version }
+entry_of budget capacity version = record { budget = budget; capacity = capacity; analysts = 1; keys = []; version = version; limits = [] }
 
 abbrev digest : List ℕ
 digest = replicate 32 9

@@ -15,7 +15,7 @@ use Rattle.journal_records.specs.Records.{reservation_in}
 use Rattle.budget_core.specs.Counts.{reservations_of, open_from}
 use Rattle.budget_core.specs.Entries.{Entry}
 use Rattle.budget_core.specs.Laws.{NumbersNeverShared, NumbersGrow}
-use Rattle.budget_core.specs.Ledger.{next_number, reservation_numbered, cost_with, rise_of, money_verdict, records_after}
+use Rattle.budget_core.specs.Ledger.{next_number, reservation_numbered, cost_with, is_over_share, over_share, grant_for, money_verdict, records_after}
 use Rattle.budget_core.proofs.LegalLemmas.{chosen}
 use Rattle.budget_core.proofs.Numbers.{reservations_of-append-Reserve}
 
@@ -46,9 +46,8 @@ never-shared entry records j k one other h first second same =
 -- A grant is numbered by the reservations before it.
 pub grant-number : (entry : Entry) (start : ℕ) (records : List Record) (ask : Ask) (grant : Grant) → money_verdict entry start records ask ≡ Ok grant → grant.number ≡ next_number records
 grant-number entry start records ask grant is =
-    let used : ℕ = open_from start records in
-    let parts = chosen (nat_lt (budget_of entry records) (cost_with entry records ask)) (nat_lt entry.capacity (length records + used + 2)) (OverBudget (cost_of entry records) (cost_with entry records ask) (budget_of entry records) (length records)) (Full (length records) used entry.capacity) (record { number = next_number records; taken = rise_of entry records ask; seen = length records + 1 }) grant is in
-    ap (λ (g : Grant). g.number) parts.2
+    let parts = chosen (nat_lt (budget_of entry records) (cost_with entry records ask)) (nat_lt entry.capacity (length records + open_from start records + 2)) (is_over_share entry records ask) (OverBudget (cost_of entry records) (cost_with entry records ask) (budget_of entry records) (length records)) (Full (length records) (open_from start records) entry.capacity) (over_share entry records ask) (grant_for entry records ask) grant is in
+    ap (λ (g : Grant). g.number) parts.3
 
 -- There are no fewer reservations in what begins with these records.
 pub reservations-begin : (records later : List Record) → IsPrefix records later → length (reservations_of records) ≤ length (reservations_of later)

@@ -1,5 +1,6 @@
 -- what a history keeps
 use Rattle.std.proofs.Common.{◌≡◌, ℕ, get_or, Bool, true, false, Some, refl, ◌+◌, ◌-◌, ◌≤◌, ◌<◌, ◌^◌, ◌∙◌, List, [], ◌∷◌, ◌++◌, length, length-append, add-zero, count_by, Vec, Global, vec_capacity, IsTrue, nat_eq, ◌↔◌, sym, ap, subst, arith}
+use Rattle.std.specs.Prelude.{IfSome}
 use Rattle.partition_charge.specs.declared.costs.Costs.{Costs}
 use Rattle.partition_charge.specs.declared.view.View.{View}
 use Rattle.partition_charge.specs.Cost.{Charge, cost_of_charges}
@@ -22,12 +23,15 @@ use Rattle.budget_core.specs.Ledger.{returned_by}
 use Rattle.budget_core.specs.Legal.{IsReservationAfter, IsOpen, IsSettlementAfter, IsGrantAfter, IsHistory}
 use Rattle.budget_core.specs.Answers.{is_answered, is_exhausted}
 use Rattle.budget_core.specs.Counts.{reservations_of, grants_of}
-use Rattle.budget_core.specs.Entries.{Entry, HasView, budget_limit}
-use Rattle.budget_core.specs.Kept.{IsRowOf, HasRows, HasRoomFor, IsTotalOf}
+use Rattle.budget_core.specs.Entries.{Entry, HasView, budget_limit, limit_of}
+use Rattle.budget_core.specs.Kept.{IsRowOf, HasRows, HasRoomFor, HasShares, IsTotalOf}
+use Rattle.budget_core.specs.Mine.{spent_by, spent_after}
 use Rattle.budget_core.proofs.Charging.{rises, view-valid}
 use Rattle.budget_core.proofs.Costs.{counts-unsettled, cost_of-charges, cost_of-append-Reserve, cost_of-append-returned, cost_of-le-Settle, cost_of-append-Grant, budget_of-append, charges_in-append-Grant, charges_in-append-Reserve, charges_in-append-Settle, returned-is}
 use Rattle.budget_core.proofs.Backs.{back-rest}
 use Rattle.budget_core.proofs.Histories.{history-append}
+use Rattle.budget_core.proofs.MineKept.{shares-Grant}
+use Rattle.budget_core.proofs.MineLemmas.{spent-mine}
 use Rattle.budget_core.proofs.Numbers.{one_if, outcome_past, reserved_below, grants-append}
 use Rattle.budget_core.proofs.Standings.{reservations-within, new-row, rows-Reserve, rows-Grant}
 
@@ -55,11 +59,23 @@ with-one entry records r charge after h numbered is cost =
     cost_of-append-Reserve entry records r (next-counts entry records r h numbered)
     ∙ ap (λ (n : ℕ). cost_of_charges (charges_in entry records ++ record { view = r.view; amount = n } ∷ [])) (sym is) ∙ sym cost
 
--- Whether a reservation within its budget may follow goes by what it says of the cost.
+-- what its analyst has spent with it
+with-mine : (entry : Entry) (records : List Record) (r : Reservation) (charge : ℕ) → IsHistory entry records → r.number ≡ length (reservations_of records) → charge ≡ charge_of r.e r.p r.q
+    → spent_by entry (records ++ Reserve r ∷ []) r.analyst ≡ spent_after entry records r.analyst (record { view = r.view; amount = charge })
+with-mine entry records r charge h numbered is = spent-mine entry records r charge (next-counts entry records r h numbered) is
+
+-- A reservation that may follow keeps its analyst's limit.
+pub may-share : (entry : Entry) (records : List Record) (r : Reservation) (charge : ℕ) → IsHistory entry records → charge ≡ charge_of r.e r.p r.q → IsReservationAfter entry records r
+    → IfSome (limit_of entry r.analyst) (λ limit. spent_after entry records r.analyst (record { view = r.view; amount = charge }) ≤ limit)
+may-share entry records r charge h is may =
+    subst (λ (n : ℕ). IfSome (limit_of entry r.analyst) (λ limit. n ≤ limit)) (with-mine entry records r charge h may.numbered is) may.limited
+
+-- Whether a reservation within its budget and its analyst's limit may follow goes by what it says of the cost.
 pub may-reserve : (entry : Entry) (records : List Record) (r : Reservation) (charge after spent : ℕ) → IsHistory entry records → r.number ≡ length (reservations_of records) → r.analyst < entry.analysts → HasView entry r.view
     → charge ≡ charge_of r.e r.p r.q → after ≡ cost_of_charges (charges_in entry records ++ record { view = r.view; amount = charge } ∷ [])
-    → cost_of entry records ≤ after → spent ≡ cost_of entry records → after ≤ budget_of entry records → IsTrue (nat_eq (after - spent) r.taken) ↔ IsReservationAfter entry records r
-may-reserve entry records r charge after spent h numbered asked viewed is cost grows was within =
+    → cost_of entry records ≤ after → spent ≡ cost_of entry records → IfSome (limit_of entry r.analyst) (λ limit. spent_after entry records r.analyst (record { view = r.view; amount = charge }) ≤ limit)
+    → after ≤ budget_of entry records → IsTrue (nat_eq (after - spent) r.taken) ↔ IsReservationAfter entry records r
+may-reserve entry records r charge after spent h numbered asked viewed is cost grows was limited within =
     let now : cost_of entry (records ++ Reserve r ∷ []) ≡ after = with-one entry records r charge after h numbered is cost in (
       λ yes. record {
         numbered = numbered;
@@ -67,6 +83,7 @@ may-reserve entry records r charge after spent h numbered asked viewed is cost g
         looks_at = viewed;
         rise = omega (arith, now, eqb-true (after - spent) r.taken yes);
         within = omega (arith, now, budget_of-append entry records (Reserve r));
+        limited = subst (λ (n : ℕ). IfSome (limit_of entry r.analyst) (λ limit. n ≤ limit)) (sym (with-mine entry records r charge h numbered is)) limited;
       },
       λ may. eq-eqb (after - spent) r.taken (omega (arith, now, may.rise)),
     )
@@ -78,11 +95,11 @@ may-not-reserve entry records r charge after h is cost over may =
     omega (arith, with-one entry records r charge after h may.numbered is cost, may.within, budget_of-append entry records (Reserve r))
 
 -- after a reservation
-pub kept-Reserve : (entry : Entry) (records : List Record) (totals : Totals) (r : Reservation) (charge : ℕ) (costs : Costs) (rows : Vec Row Global) → IsTotalOf entry records totals
+pub kept-Reserve : (entry : Entry) (records : List Record) (totals : Totals) (r : Reservation) (charge : ℕ) (costs : Costs) (shares : Vec Costs Global) (rows : Vec Row Global) → IsTotalOf entry records totals
     → IsReservationAfter entry records r → charge ≡ charge_of r.e r.p r.q → length records < entry.capacity → AreTotalsOf costs (charges_in entry records ++ record { view = r.view; amount = charge } ∷ [])
-    → rows.items ≡ totals.rows.items ++ new-row r ∷ [] → vec_capacity rows ≡ vec_capacity totals.rows → HasRoomFor costs entry.keys
-    → IsTotalOf entry (records ++ Reserve r ∷ []) (record totals { costs = costs; rows = rows })
-kept-Reserve entry records totals r charge costs rows k may is short stand lines broad roomy =
+    → HasShares entry (records ++ Reserve r ∷ []) shares.items → rows.items ≡ totals.rows.items ++ new-row r ∷ [] → vec_capacity rows ≡ vec_capacity totals.rows → HasRoomFor costs entry.keys
+    → IsTotalOf entry (records ++ Reserve r ∷ []) (record totals { costs = costs; shares = shares; rows = rows })
+kept-Reserve entry records totals r charge costs shares rows k may is short stand own lines broad roomy =
     let all : List Record = records ++ Reserve r ∷ [] in
     let charged : charges_in entry records ++ record { view = r.view; amount = charge } ∷ [] ≡ charges_in entry all
     = ap (λ (n : ℕ). charges_in entry records ++ record { view = r.view; amount = n } ∷ []) is
@@ -93,6 +110,7 @@ kept-Reserve entry records totals r charge costs rows k may is short stand lines
       within = may.within;
       limited = omega (arith, k.limited, budget_of-append entry records (Reserve r));
       costs = subst (AreTotalsOf costs) charged stand;
+      shares = own;
       rows = subst (λ (ys : List Row). HasRows ys all) (sym lines) (rows-Reserve entry records totals.rows.items r k.history may k.rows);
       answered = k.answered ∙ sym (sum_by_push (λ x. one_if (is_answered x)) records (Reserve r) ∙ add-zero (count_by is_answered records));
       exhausted = k.exhausted ∙ sym (sum_by_push (λ x. one_if (is_exhausted x)) records (Reserve r) ∙ add-zero (count_by is_exhausted records));
@@ -104,17 +122,18 @@ kept-Reserve entry records totals r charge costs rows k may is short stand lines
     }
 
 -- after a settlement
-pub kept-Settle : (entry : Entry) (records : List Record) (totals : Totals) (settlement : Settlement) (costs : Costs) (rows : Vec Row Global) (one other : ℕ) → IsTotalOf entry records totals
+pub kept-Settle : (entry : Entry) (records : List Record) (totals : Totals) (settlement : Settlement) (costs : Costs) (shares : Vec Costs Global) (rows : Vec Row Global) (one other : ℕ) → IsTotalOf entry records totals
     → IsSettlementAfter entry records settlement → length records < entry.capacity → AreTotalsOf costs (charges_in entry (records ++ Settle settlement ∷ []))
-    → HasRows rows.items (records ++ Settle settlement ∷ []) → vec_capacity rows ≡ vec_capacity totals.rows
+    → HasShares entry (records ++ Settle settlement ∷ []) shares.items → HasRows rows.items (records ++ Settle settlement ∷ []) → vec_capacity rows ≡ vec_capacity totals.rows
     → one ≡ one_if (is_answered (Settle settlement)) → other ≡ one_if (is_exhausted (Settle settlement)) → HasRoomFor costs entry.keys
-    → IsTotalOf entry (records ++ Settle settlement ∷ []) (record totals { costs = costs; rows = rows; answered = totals.answered + one; exhausted = totals.exhausted + other })
-kept-Settle entry records totals settlement costs rows one other k may short stand has broad answers exhausts roomy = record {
+    → IsTotalOf entry (records ++ Settle settlement ∷ []) (record totals { costs = costs; shares = shares; rows = rows; answered = totals.answered + one; exhausted = totals.exhausted + other })
+kept-Settle entry records totals settlement costs shares rows one other k may short stand own has broad answers exhausts roomy = record {
   valid = k.valid;
   history = history-append entry records (Settle settlement) k.history may;
   within = omega (arith, k.within, may.fall, budget_of-append entry records (Settle settlement));
   limited = omega (arith, k.limited, budget_of-append entry records (Settle settlement));
   costs = stand;
+  shares = own;
   rows = has;
   answered = omega (arith, k.answered, answers, sum_by_push (λ x. one_if (is_answered x)) records (Settle settlement));
   exhausted = omega (arith, k.exhausted, exhausts, sum_by_push (λ x. one_if (is_exhausted x)) records (Settle settlement));
@@ -135,6 +154,7 @@ kept-Grant entry records totals grant k may short = record {
   within = omega (arith, k.within, cost_of-append-Grant entry records grant, budget_of-append entry records (Grant grant));
   limited = may.within;
   costs = subst (AreTotalsOf totals.costs) (sym (charges_in-append-Grant entry records grant)) k.costs;
+  shares = shares-Grant entry records totals.shares.items grant k.shares;
   rows = rows-Grant records totals.rows.items grant k.rows;
   answered = k.answered ∙ sym (sum_by_push (λ x. one_if (is_answered x)) records (Grant grant) ∙ add-zero (count_by is_answered records));
   exhausted = k.exhausted ∙ sym (sum_by_push (λ x. one_if (is_exhausted x)) records (Grant grant) ∙ add-zero (count_by is_exhausted records));

@@ -18,7 +18,7 @@ use Rattle.budget_core.proofs.LegalLemmas.{legal-nil, legal-append}
 
 -- An entry at the least and at the greatest of its numbers, and just past each of them.
 abbrev entry_of : ℕ → ℕ → ℕ → List ℕ → Entry
-entry_of budget capacity analysts keys = record { budget = budget; capacity = capacity; analysts = analysts; keys = keys; version = 2 }
+entry_of budget capacity analysts keys = record { budget = budget; capacity = capacity; analysts = analysts; keys = keys; version = 2; limits = [] }
 
 abbrev IsKeyCount : ℕ → Type 0
 IsKeyCount n = (1 ≤ n) × (n ≤ 4000)
@@ -42,6 +42,7 @@ least_entry = record {
   analysts = omega arith;
   partitions = omega arith;
   keys = All-nil IsKeyCount;
+  limits = omega arith;
 }
 
 -- eight partitions, with 1 and 4,000 keys among them
@@ -62,6 +63,7 @@ greatest_entry =
       analysts = omega arith;
       partitions = omega arith;
       keys = keys_of_eight;
+      limits = omega arith;
     }
 
 no_budget : IsEntry (entry_of 0 2 1 []) → ⊥
@@ -140,11 +142,11 @@ settled = left_open ++ settling 0 Exhausted ∷ []
 -- The first reservation has number 0, the second number 1.
 first_may : MayFollow small [] (made 0 Whole 10 10 1)
 unfolding cost_of cost_of_charges partition_cost budget_of
-first_may = record { numbered = refl; asked_by = omega arith; looks_at = tt; rise = refl; within = omega arith }
+first_may = record { numbered = refl; asked_by = omega arith; looks_at = tt; rise = refl; within = omega arith; limited = tt }
 
 second_may : MayFollow small settled (made 1 (Part 0 1) 6 0 0)
 unfolding cost_of cost_of_charges partition_cost budget_of
-second_may = record { numbered = refl; asked_by = omega arith; looks_at = omega arith; rise = refl; within = omega arith }
+second_may = record { numbered = refl; asked_by = omega arith; looks_at = omega arith; rise = refl; within = omega arith; limited = tt }
 
 number_again : MayFollow small settled (made 0 Whole 1 1 0) → ⊥
 number_again may = omega (arith, may.numbered)
@@ -202,7 +204,7 @@ no_epsilon_reserved terms = omega (arith, terms.above)
 fits : IsLegal (entry_of 10 2 2 (2 ∷ [])) [] left_open
 unfolding cost_of cost_of_charges partition_cost budget_of
 fits = legal-append (entry_of 10 2 2 (2 ∷ [])) [] [] (made 0 (Part 0 0) 6 6 0) (legal-nil (entry_of 10 2 2 (2 ∷ [])))
-    (record { numbered = refl; asked_by = omega arith; looks_at = omega arith; rise = refl; within = omega arith })
+    (record { numbered = refl; asked_by = omega arith; looks_at = omega arith; rise = refl; within = omega arith; limited = tt })
     (ask-from (entry_of 10 2 2 (2 ∷ [])) (record { analyst = 0; view = Whole; e = 6; p = 1; q = 1; digest = digest }) refl).terms
     (λ settlement other. cc) (λ within. omega arith)
 

@@ -1,5 +1,6 @@
 -- legal records with one record more
-use Rattle.std.proofs.Common.{◌≡◌, ◌≢◌, ℕ, ◌+◌, ◌≤◌, ◌<◌, Bool, true, false, cond, ◌==◌, nat_lt, List, [], ◌∷◌, ◌++◌, length, take, drop, Some, None, is_some, Ok, Err, refl, sym, ◌∙◌, ap, subst, arith, length-append}
+use Rattle.std.proofs.Common.{◌≡◌, ◌≢◌, ℕ, ◌+◌, ◌≤◌, ◌<◌, Bool, true, false, cond, ◌==◌, nat_lt, List, [], ◌∷◌, ◌++◌, length, take, drop, Option, Some, None, is_some, Ok, Err, refl, sym, ◌∙◌, ap, subst, arith, length-append}
+use Rattle.std.specs.Prelude.{IfSome}
 use Rattle.std.proofs.lemmas.Bool.{cases_lt, ltb-true, ltb-false, cond-false, ne_eqb}
 use Rattle.std.proofs.lemmas.List.{take-append-le, length-take, take_all}
 use Rattle.std.specs.Option.{option_or}
@@ -12,18 +13,19 @@ use Rattle.journal_records.specs.declared.records.Record.{Record}
 use Rattle.journal_records.specs.declared.records.Record.TheVariants.{Reserve, Settle, Grant as Granted}
 use Rattle.journal_records.specs.declared.records.Settlement.{Settlement}
 use Rattle.journal_records.specs.declared.records.BudgetGrant.{BudgetGrant}
-use Rattle.journal_records.specs.Records.{reservation_in, settlement_in, settling_back, number_or_zero}
+use Rattle.journal_records.specs.Records.{reservation_in, settlement_in, settling_back, is_some_and, number_or_zero}
 use Rattle.budget_core.specs.declared.entry.Ask.{Ask}
 use Rattle.budget_core.specs.declared.entry.Grant.{Grant}
 use Rattle.budget_core.specs.declared.entry.ReserveFault.TheVariants.{OverBudget, Full}
 use Rattle.budget_core.specs.Cost.{cost_of, budget_of}
 use Rattle.budget_core.specs.Counts.{reservations_of, open_from}
-use Rattle.budget_core.specs.Entries.{Entry}
+use Rattle.budget_core.specs.Entries.{Entry, limit_of}
 use Rattle.budget_core.specs.Legal.{MayFollow, IsSettlementAfter, HasTerms, IsHistory, IsLegal}
 use Rattle.budget_core.specs.Granting.{MayGrant}
-use Rattle.budget_core.specs.Ledger.{Ledger, start_of, next_number, reservation_numbered, reservation_for, cost_with, rise_of, money_verdict, settlement_of, IsAskOf, MayReserve, MaySettle, IsUnsettled}
+use Rattle.budget_core.specs.Ledger.{Ledger, start_of, next_number, reservation_numbered, reservation_for, cost_with, rise_of, spent_with, is_over_share, over_share, grant_for, money_verdict, settlement_of, IsAskOf, MayReserve, MaySettle, IsUnsettled}
 use Rattle.budget_core.proofs.Costs.{cost_of-append-taken, cost_of-le-append, cost_of-append-Grant, budget_of-append, returned-falls}
 use Rattle.budget_core.proofs.Histories.{push_cases, follows-push, prefix_split, legal-induction}
+use Rattle.budget_core.proofs.MineLemmas.{spent-taken}
 use Rattle.budget_core.proofs.Numbers.{reserved_below, outcome_past, outcome_of-append-Reserve, outcome_of-append-Settle, open_from-append-Grant, outcome_of-append-Grant, reserved-append, reservation_of-next, open_from-append-Reserve, open_from-Settle}
 
 -- Legal records cost at most the budget, where the found ones do.
@@ -67,24 +69,37 @@ legal-append entry found records next l may terms ours room = record {
   terms = λ k other past at. elim (push_cases records next k other at) [ inl before ↦ l.terms k other past before.1 | inr seam ↦ subst HasTerms seam.1 terms ];
 }
 
--- which way two tests went
-pub chosen : {T E : Type 0} → (over full : Bool) (e f : E) (v w : T) → cond over (Err e) (cond full (Err f) (Ok v)) ≡ Ok w → (over ≡ false) × (full ≡ false) × (w ≡ v)
-chosen true full e f v w h = absurd cc
-chosen false true e f v w h = absurd cc
-chosen false false e f v w h = (refl, refl, cc)
+-- which way three tests went
+pub chosen : {T E : Type 0} → (over full beyond : Bool) (e f g : E) (v w : T) → cond over (Err e) (cond full (Err f) (cond beyond (Err g) (Ok v))) ≡ Ok w
+    → (over ≡ false) × (full ≡ false) × (beyond ≡ false) × (w ≡ v)
+chosen true full beyond e f g v w h = absurd cc
+chosen false true beyond e f g v w h = absurd cc
+chosen false false true e f g v w h = absurd cc
+chosen false false false e f g v w h = (refl, refl, refl, cc)
+
+-- what isn't over a share
+pub not-over : (limit : Option ℕ) (after : ℕ) → is_some_and (λ most. nat_lt most after) limit ≡ false → IfSome limit (λ most. after ≤ most)
+not-over None after is = tt
+not-over (Some most) after is = ltb-false most after is
 
 -- what a grant says
 pub record IsGranted (ledger : Ledger) (ask : Ask) (grant : Grant) : Type 0 where
   pub within : cost_with ledger.entry ledger.records ask ≤ budget_of ledger.entry ledger.records
   pub fits : length ledger.records + open_from (start_of ledger) ledger.records + 2 ≤ ledger.entry.capacity
-  pub is : grant ≡ record { number = next_number ledger.records; taken = rise_of ledger.entry ledger.records ask; seen = length ledger.records + 1 }
+  pub limited : IfSome (limit_of ledger.entry ask.analyst) (λ limit. spent_with ledger.entry ledger.records ask ≤ limit)
+  pub is : grant ≡ grant_for ledger.entry ledger.records ask
 
 pub granted : (ledger : Ledger) (ask : Ask) (grant : Grant) → money_verdict ledger.entry (start_of ledger) ledger.records ask ≡ Ok grant → IsGranted ledger ask grant
 granted ledger ask grant is =
     let records : List Record = ledger.records in
     let used : ℕ = open_from (start_of ledger) records in
-    let parts = chosen (nat_lt (budget_of ledger.entry records) (cost_with ledger.entry records ask)) (nat_lt ledger.entry.capacity (length records + used + 2)) (OverBudget (cost_of ledger.entry records) (cost_with ledger.entry records ask) (budget_of ledger.entry records) (length records)) (Full (length records) used ledger.entry.capacity) (record { number = next_number records; taken = rise_of ledger.entry records ask; seen = length records + 1 }) grant is in
-    record { within = ltb-false (budget_of ledger.entry records) (cost_with ledger.entry records ask) parts.0; fits = ltb-false ledger.entry.capacity (length records + used + 2) parts.1; is = parts.2 }
+    let parts = chosen (nat_lt (budget_of ledger.entry records) (cost_with ledger.entry records ask)) (nat_lt ledger.entry.capacity (length records + used + 2)) (is_over_share ledger.entry records ask) (OverBudget (cost_of ledger.entry records) (cost_with ledger.entry records ask) (budget_of ledger.entry records) (length records)) (Full (length records) used ledger.entry.capacity) (over_share ledger.entry records ask) (grant_for ledger.entry records ask) grant is in
+    record {
+      within = ltb-false (budget_of ledger.entry records) (cost_with ledger.entry records ask) parts.0;
+      fits = ltb-false ledger.entry.capacity (length records + used + 2) parts.1;
+      limited = not-over (limit_of ledger.entry ask.analyst) (spent_with ledger.entry records ask) parts.2;
+      is = parts.3;
+    }
 
 -- what a granted reservation costs
 pub cost-granted : (ledger : Ledger) (ask : Ask) (taken : ℕ) → cost_of ledger.entry (ledger.records ++ reservation_for ledger.records ask taken ∷ []) ≡ cost_with ledger.entry ledger.records ask
@@ -99,7 +114,15 @@ may-grant ledger ask grant asked is =
     let grows : cost_of ledger.entry ledger.records ≤ cost_with ledger.entry ledger.records ask = cost_of-le-append ledger.entry ledger.records (reservation_numbered (next_number ledger.records) ask 0) in
     let taken : grant.taken ≡ rise_of ledger.entry ledger.records ask = ap (λ (x : Grant). x.taken) g.is in
     record {
-      follows = record { numbered = refl; asked_by = asked.analyst; looks_at = asked.view; rise = omega arith; within = omega (arith, g.within, budget_of-append ledger.entry ledger.records (Reserve (reservation_numbered (next_number ledger.records) ask grant.taken))) };
+      follows = record {
+        numbered = refl;
+        asked_by = asked.analyst;
+        looks_at = asked.view;
+        rise = omega arith;
+        within = omega (arith, g.within, budget_of-append ledger.entry ledger.records (Reserve (reservation_numbered (next_number ledger.records) ask grant.taken)));
+        limited = subst (λ (n : ℕ). IfSome (limit_of ledger.entry ask.analyst) (λ limit. n ≤ limit))
+            (sym (spent-taken ledger.entry ledger.records ask.analyst (reservation_numbered (next_number ledger.records) ask grant.taken) 0)) g.limited;
+      };
       terms = asked.terms;
       room = g.fits;
     }

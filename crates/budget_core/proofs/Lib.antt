@@ -4,6 +4,10 @@ pub mod Histories
 pub mod Numbers
 pub mod Standings
 pub mod Backs
+pub mod MineLemmas
+pub mod MineTotals
+pub mod MineKept
+pub mod MineShares
 pub mod BareLemmas
 pub mod LegalLemmas
 pub mod KeptLemmas

@@ -25,7 +25,7 @@ pub sum_by-parts : {X : Type 0} → (f g h : X → ℕ) → ((x : X) → f x + g
 sum_by-parts f g h parts [] = refl
 sum_by-parts f g h parts (x ∷ xs) = omega (arith, sum_by-parts f g h parts xs, parts x, sum_by-cons f x xs, sum_by-cons g x xs, sum_by-cons h x xs)
 
-sum_by-same : {X : Type 0} → (f g : X → ℕ) → ((x : X) → f x ≡ g x) → (xs : List X) → sum_by f xs ≡ sum_by g xs
+pub sum_by-same : {X : Type 0} → (f g : X → ℕ) → ((x : X) → f x ≡ g x) → (xs : List X) → sum_by f xs ≡ sum_by g xs
 sum_by-same f g same [] = refl
 sum_by-same f g same (x ∷ xs) = omega (arith, sum_by-same f g same xs, same x, sum_by-cons f x xs, sum_by-cons g x xs)
 

@@ -1,5 +1,6 @@
 -- a sound ledger with one record more
-use Rattle.std.proofs.Common.{◌≡◌, ℕ, ◌+◌, ◌-◌, ◌≤◌, ◌<◌, Bool, true, false, cond, IsOk, nat_lt, refl, List, [], ◌∷◌, ◌++◌, length, length-append, Ok, Err, sym, ◌∙◌, ap, arith}
+use Rattle.std.proofs.Common.{◌≡◌, ℕ, ◌+◌, ◌-◌, ◌≤◌, ◌<◌, Bool, true, false, cond, IsOk, nat_lt, refl, List, [], ◌∷◌, ◌++◌, length, length-append, Option, Some, None, unwrap_or, Result, Ok, Err, if◌then◌else◌, sym, ◌∙◌, ap, arith}
+use Rattle.std.specs.Prelude.{IfSome}
 use Rattle.std.proofs.lemmas.Bool.{cond-true, cond-false, lt-ltb, le-ltb, ltb-false}
 use Rattle.std.proofs.lemmas.Option.{slice_get_within}
 use Rattle.std.proofs.Math.Seq.{take-length}
@@ -11,28 +12,37 @@ use Rattle.journal_records.specs.declared.records.Settlement.{Settlement}
 use Rattle.journal_records.specs.declared.records.BudgetGrant.{BudgetGrant}
 use Rattle.journal_records.specs.declared.records.Record.{Record}
 use Rattle.journal_records.specs.declared.records.Record.TheVariants.{Reserve, Settle, Grant as Granted}
-use Rattle.journal_records.specs.Records.{settling_back}
+use Rattle.journal_records.specs.Records.{settling_back, is_some_and}
 use Rattle.budget_core.specs.declared.entry.Ask.{Ask}
 use Rattle.budget_core.specs.declared.entry.Grant.{Grant}
-use Rattle.budget_core.specs.declared.entry.ReserveFault.TheVariants.{OverBudget, Full}
+use Rattle.budget_core.specs.declared.entry.ReserveFault.{ReserveFault}
+use Rattle.budget_core.specs.declared.entry.ReserveFault.TheVariants.{OverBudget, Full, OverShare}
 use Rattle.budget_core.specs.Cost.{charge_of, charges_in, cost_of, budget_of}
 use Rattle.budget_core.specs.Counts.{open_from}
-use Rattle.budget_core.specs.Entries.{Entry, IsEntry, budget_limit}
+use Rattle.budget_core.specs.Entries.{Entry, IsEntry, budget_limit, limit_of}
 use Rattle.budget_core.specs.Legal.{IsHistory, IsLegal}
 use Rattle.budget_core.specs.declared.answers.GrantRefusal.TheVariants.{TooLarge, Full as IsFull}
 use Rattle.budget_core.specs.declared.answers.Left.{Left}
 use Rattle.budget_core.specs.Answers.{left_by}
 use Rattle.budget_core.specs.Granting.{grant_behind, with_grant, grant_verdict, IsAmount, MayGrant}
-use Rattle.budget_core.specs.Ledger.{Ledger, start_of, next_number, reservation_numbered, reservation_for, cost_with, money_verdict, IsAskOf, MayReserve, MaySettle, IsUnsettled}
+use Rattle.budget_core.specs.Ledger.{Ledger, start_of, next_number, reservation_numbered, reservation_for, cost_with, spent_with, is_over_share, over_share, grant_for, money_verdict, IsAskOf, MayReserve, MaySettle, IsUnsettled}
+use Rattle.budget_core.specs.Mine.{spent_by, spent_after}
 use Rattle.budget_core.specs.Sound.{IsSound}
 use Rattle.budget_core.proofs.Costs.{cost_of-append-Reserve, cost_of-append-Grant, budget_of-append, counts-unsettled}
 use Rattle.budget_core.proofs.Histories.{legal-history}
+use Rattle.budget_core.proofs.MineLemmas.{spent-mine, stays_within_limits}
 use Rattle.budget_core.proofs.Numbers.{open_from-Settle, open_from-append-Grant, outcome_past}
-use Rattle.budget_core.proofs.LegalLemmas.{chosen, may-grant, may-settle, open-reserved, legal-reserved, legal-granted, legal-Settle}
+use Rattle.budget_core.proofs.LegalLemmas.{may-grant, may-settle, open-reserved, legal-reserved, legal-granted, legal-Settle}
 use Rattle.budget_core.proofs.Standings.{open-past}
 
 pub sound-history : (ledger : Ledger) → IsSound ledger → IsHistory ledger.entry ledger.records
 sound-history ledger s = legal-history ledger.entry ledger.found ledger.records s.found s.legal
+
+-- What an analyst has spent is within its limit.
+pub mine-limited : (ledger : Ledger) (analyst : ℕ) (limit : Option ℕ) (spent : ℕ) → IsSound ledger → limit ≡ limit_of ledger.entry analyst → spent ≡ spent_by ledger.entry ledger.records analyst
+    → IfSome limit (λ most. spent ≤ most)
+mine-limited ledger analyst None spent s is was = tt
+mine-limited ledger analyst (Some most) spent s is was = omega (arith, was, stays_within_limits ledger.entry ledger.records analyst most (sound-history ledger s) (sym is))
 
 -- one reservation more
 pub sound-reserved : (ledger : Ledger) (reservation : Reservation) → IsSound ledger → MayReserve ledger reservation → IsSound (record ledger { records = ledger.records ++ Reserve reservation ∷ [] })
@@ -115,6 +125,33 @@ with-ask entry records ask charge after h is cost =
     ∙ sym (cost_of-append-Reserve entry records (reservation_numbered (next_number records) ask 0)
     (counts-unsettled entry records (reservation_numbered (next_number records) ask 0) (outcome_past entry records h (next_number records) (omega arith))))
 
+-- what is said of an ask, by its analyst's limit
+module _ (entry : Entry) (records : List Record) (ask : Ask) where
+  abbrev pub Said : Option ReserveFault → Type 0
+  Said said = said ≡ (if is_over_share entry records ask then Some (over_share entry records ask) else None)
+
+  abbrev said_by : Option ℕ → Option ReserveFault
+  said_by limit =
+      if is_some_and (λ most. nat_lt most (spent_with entry records ask)) limit
+      then Some (OverShare (spent_by entry records ask.analyst) (spent_with entry records ask) (unwrap_or limit 0) (length records)) else None
+
+  pub share-unlimited : limit_of entry ask.analyst ≡ None → Said None
+  share-unlimited is = sym (ap said_by is)
+
+  module _ (charge after limit : ℕ) (h : IsHistory entry records) (charged : charge ≡ charge_of ask.e ask.p ask.q)
+      (is_after : after ≡ spent_after entry records ask.analyst (record { view = ask.view; amount = charge })) (is : limit_of entry ask.analyst ≡ Some limit) where
+    with : after ≡ spent_with entry records ask
+    with = is_after ∙ sym (spent-mine entry records (reservation_numbered (next_number records) ask 0) charge
+        (counts-unsettled entry records (reservation_numbered (next_number records) ask 0) (outcome_past entry records h (next_number records) (omega arith))) charged)
+
+    pub share-within : after ≤ limit → Said None
+    share-within low = sym (ap said_by is ∙ cond-false (nat_lt limit (spent_with entry records ask)) _ _ (le-ltb limit (spent_with entry records ask) (omega (arith, low, with))))
+
+    pub share-over : limit < after → (spent used : ℕ) → spent ≡ spent_by entry records ask.analyst → used ≡ length records → Said (Some (OverShare spent after limit used))
+    share-over high spent used is_spent is_used =
+        sym (ap said_by is ∙ cond-true (nat_lt limit (spent_with entry records ask)) _ _ (lt-ltb limit (spent_with entry records ask) (omega (arith, high, with)))
+        ∙ (λ i. Some (OverShare (sym is_spent i) (sym with i) limit (sym is_used i))))
+
 module _ (entry : Entry) (start : ℕ) (records : List Record) (ask : Ask) (spent after budget used open_now : ℕ)
     (is_spent : spent ≡ cost_of entry records) (is_after : after ≡ cost_with entry records ask) (is_budget : budget ≡ budget_of entry records) (is_used : used ≡ length records) (is_open : open_now ≡ open_from start records) where
   pub verdict-over : budget < after → money_verdict entry start records ask ≡ Err (OverBudget spent after budget used)
@@ -128,12 +165,30 @@ module _ (entry : Entry) (start : ℕ) (records : List Record) (ask : Ask) (spen
       ∙ cond-true (nat_lt entry.capacity (length records + open_from start records + 2)) _ _ (lt-ltb entry.capacity (length records + open_from start records + 2) (omega (arith, over, is_used, is_open)))
       ∙ (λ i. Err (Full (sym is_used i) (sym is_open i) entry.capacity))
 
-  pub verdict-grant : (number : ℕ) → number ≡ next_number records → after ≤ budget → used + open_now + 2 ≤ entry.capacity
-      → money_verdict entry start records ask ≡ Ok (record { number = number; taken = after - spent; seen = used + 1 })
-  verdict-grant number numbered within fits =
-      cond-false (nat_lt (budget_of entry records) (cost_with entry records ask)) _ _ (le-ltb (budget_of entry records) (cost_with entry records ask) (omega (arith, within, is_after, is_budget)))
-      ∙ cond-false (nat_lt entry.capacity (length records + open_from start records + 2)) _ _ (le-ltb entry.capacity (length records + open_from start records + 2) (omega (arith, fits, is_used, is_open)))
-      ∙ (λ i. Ok (record { number = sym numbered i; taken = sym is_after i - sym is_spent i; seen = sym is_used i + 1 }))
+  module _ (within : after ≤ budget) (fits : used + open_now + 2 ≤ entry.capacity) where
+    past : money_verdict entry start records ask ≡ (if is_over_share entry records ask then Err (over_share entry records ask) else Ok (grant_for entry records ask))
+    past =
+        cond-false (nat_lt (budget_of entry records) (cost_with entry records ask)) _ _ (le-ltb (budget_of entry records) (cost_with entry records ask) (omega (arith, within, is_after, is_budget)))
+        ∙ cond-false (nat_lt entry.capacity (length records + open_from start records + 2)) _ _ (le-ltb entry.capacity (length records + open_from start records + 2) (omega (arith, fits, is_used, is_open)))
+
+    pub verdict-share : (fault : ReserveFault) → Some fault ≡ (if is_over_share entry records ask then Some (over_share entry records ask) else None) → money_verdict entry start records ask ≡ Err fault
+    verdict-share fault said = past ∙ by (is_over_share entry records ask) said
+      where
+        by : (b : Bool) → Some fault ≡ (if b then Some (over_share entry records ask) else None)
+            → ◌≡◌ {A = Result Grant ReserveFault} (if b then Err (over_share entry records ask) else Ok (grant_for entry records ask)) (Err fault)
+        by true is = cc is
+        by false is = absurd cc
+
+    pub verdict-grant : None ≡ (if is_over_share entry records ask then Some (over_share entry records ask) else None) → (number : ℕ) → number ≡ next_number records
+        → money_verdict entry start records ask ≡ Ok (record { number = number; taken = after - spent; seen = used + 1 })
+    verdict-grant unsaid number numbered =
+        past ∙ by (is_over_share entry records ask) unsaid
+        ∙ (λ i. Ok (record { number = sym numbered i; taken = sym is_after i - sym is_spent i; seen = sym is_used i + 1 }))
+      where
+        by : (b : Bool) → ◌≡◌ {A = Option ReserveFault} None (if b then Some (over_share entry records ask) else None)
+            → ◌≡◌ {A = Result Grant ReserveFault} (if b then Err (over_share entry records ask) else Ok (grant_for entry records ask)) (Ok (grant_for entry records ask))
+        by true is = absurd cc
+        by false is = refl
 
 -- ---- grants
 
@@ -158,6 +213,11 @@ module _ (entry : Entry) (start : ℕ) (records : List Record) (amount budget us
       ∙ (λ i. Ok (record { spent = sym is_spent i; budget = sym is_budget i + amount; seen = sym is_used i + 1 }))
 
 -- which way two tests went
+taken : {T E : Type 0} → (over full : Bool) (e f : E) (v w : T) → cond over (Err e) (cond full (Err f) (Ok v)) ≡ Ok w → w ≡ v
+taken true full e f v w h = absurd cc
+taken false true e f v w h = absurd cc
+taken false false e f v w h = cc
+
 passed : {T E : Type 0} → (over full : Bool) (e f : E) (v : T) → IsOk (cond over (Err e) (cond full (Err f) (Ok v))) → (over ≡ false) × (full ≡ false)
 passed true full e f v h = absurd cc
 passed false true e f v h = absurd cc
@@ -187,8 +247,8 @@ may-raise ledger amount valid ok =
 pub grant-left : (entry : Entry) (start : ℕ) (records : List Record) (amount : ℕ) (left : Left) → grant_verdict entry start records amount ≡ Ok left → left ≡ left_by entry (with_grant records amount)
 grant-left entry start records amount left is =
     let used : ℕ = open_from start records in
-    let parts = chosen (nat_lt budget_limit (budget_of entry records + amount)) (nat_lt entry.capacity (length records + used + 1)) (TooLarge (budget_of entry records) amount) (IsFull (length records) used entry.capacity) (record { spent = cost_of entry records; budget = budget_of entry records + amount; seen = length records + 1 }) left is in
-    parts.2 ∙ (λ i. record {
+    let is_left = taken (nat_lt budget_limit (budget_of entry records + amount)) (nat_lt entry.capacity (length records + used + 1)) (TooLarge (budget_of entry records) amount) (IsFull (length records) used entry.capacity) (record { spent = cost_of entry records; budget = budget_of entry records + amount; seen = length records + 1 }) left is in
+    is_left ∙ (λ i. record {
       spent = sym (cost_of-append-Grant entry records (grant_behind records amount)) i;
       budget = sym (budget_of-append entry records (Granted (grant_behind records amount))) i;
       seen = sym (length-append records (Granted (grant_behind records amount) ∷ [])) i;

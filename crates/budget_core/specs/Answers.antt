@@ -7,15 +7,17 @@ use Rattle.journal_records.specs.Records.{outcome_in}
 use Rattle.budget_core.specs.declared.answers.Recall.{Recall}
 use Rattle.budget_core.specs.declared.answers.Recall.TheVariants.{Unknown, NotYours, Answer, Open, Lost as IsLost, Exhausted as IsExhausted}
 use Rattle.budget_core.specs.declared.answers.Left.{Left}
+use Rattle.budget_core.specs.declared.answers.Mine.{Mine}
 use Rattle.budget_core.specs.declared.answers.Counts.{Counts}
 use Rattle.budget_core.specs.declared.answers.FoundFault.{FoundFault}
 use Rattle.budget_core.specs.declared.answers.FoundFault.TheVariants.{NoMemory, Astray}
 use Rattle.budget_core.specs.Cost.{cost_of, budget_of}
 use Rattle.budget_core.specs.Counts.{reservations_of, outcome_of, is_exhaustion, asker_of}
-use Rattle.budget_core.specs.Entries.{Entry}
+use Rattle.budget_core.specs.Entries.{Entry, limit_of}
 use Rattle.budget_core.specs.Events.{is_answer}
 use Rattle.budget_core.specs.Ledger.{Ledger, start_of}
 use Rattle.budget_core.specs.Legal.{IsFirstAstray}
+use Rattle.budget_core.specs.Mine.{spent_by}
 
 -- How a reservation stands: by its settlement; without one it is open where it is of this run, and lost otherwise.
 abbrev pub standing : (start number seen : ℕ) → Option Outcome → Recall
@@ -47,6 +49,14 @@ left_by entry records = record { spent = cost_of entry records; budget = budget_
 -- what a ledger has left
 abbrev pub left_of : Ledger → Left
 left_of ledger = left_by ledger.entry ledger.records
+
+-- what these records say that an analyst has spent, what it may spend at most, and how many they are
+abbrev pub mine_by : Entry → List Record → (analyst : ℕ) → Mine
+mine_by entry records analyst = record { spent = spent_by entry records analyst; limit = limit_of entry analyst; seen = length records }
+
+-- what a ledger tells an analyst of its own spending
+abbrev pub mine_of : Ledger → (analyst : ℕ) → Mine
+mine_of ledger analyst = mine_by ledger.entry ledger.records analyst
 
 -- the record settles a number with an answer
 abbrev pub is_answered : Record → Bool

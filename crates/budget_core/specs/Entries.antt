@@ -1,18 +1,20 @@
 -- What the catalog says of an owner's budget.
-use Rattle.std.specs.Prelude.{ℕ, ◌^◌, ◌≤◌, ◌<◌, List, length, All, slice_get, IsSomeAnd, ⊤}
+use Rattle.std.specs.Prelude.{ℕ, ◌^◌, ◌≤◌, ◌<◌, List, length, All, slice_get, Option, None, unwrap_or, IsSomeAnd, ⊤}
 use Rattle.partition_charge.specs.Views.{partition_limit, part_limit}
 use Rattle.journal_records.specs.Encoding.{epsilon_limit}
 use Rattle.partition_charge.specs.declared.view.View.{View}
 use Rattle.partition_charge.specs.declared.view.View.TheVariants.{Whole, Part}
 
 -- an owner's budget in millionths of epsilon, the greatest number of records, how many analysts may ask,
--- how many keys each partition has, and the version of the owner's journal, whose rule of the cost its records keep
+-- how many keys each partition has, the version of the owner's journal, whose rule of the cost its records keep,
+-- and what each analyst may spend at most, where it has a limit: an analyst past the list's end has none
 pub record Entry : Type 0 where
   pub budget : ℕ
   pub capacity : ℕ
   pub analysts : ℕ
   pub keys : List ℕ
   pub version : ℕ
+  pub limits : List (Option ℕ)
 
 abbrev pub budget_limit : ℕ
 budget_limit = 10 ^ 18
@@ -33,6 +35,11 @@ pub record IsEntry (entry : Entry) : Type 0 where
   pub analysts : entry.analysts ≤ analyst_limit
   pub partitions : length entry.keys ≤ partition_limit
   pub keys : All (λ keys. (1 ≤ keys) × (keys ≤ part_limit)) entry.keys
+  pub limits : length entry.limits ≤ entry.analysts
+
+-- what this analyst may spend at most, where it has a limit
+abbrev pub limit_of : Entry → (analyst : ℕ) → Option ℕ
+limit_of entry analyst = unwrap_or (slice_get entry.limits analyst) None
 
 -- the entry has this view: the whole, or a part of one of its partitions
 abbrev pub HasView : Entry → View → Type 0

@@ -68,7 +68,7 @@ is_answer None = false
 
 -- What an event does. One that isn't enabled leaves the world as it was, and a machine that was stopped does nothing
 -- but open.
--- Reserve: an ask of the entry that is neither over budget nor full adds its reservation.
+-- Reserve: an ask of the entry that is neither over budget nor full, nor above its analyst's limit, adds its reservation.
 -- Settle: a number of this run that is reserved and unsettled is settled, and its record says by how much the cost falls.
 -- Grant: an amount that may be granted at once, and is neither too large nor finds the journal full, adds its grant.
 -- Send: a number that is settled with an answer is sent, once.

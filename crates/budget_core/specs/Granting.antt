@@ -1,11 +1,12 @@
 -- What a book of records answers where its owner grants more of the budget.
-use Rattle.std.specs.Prelude.{ℕ, ◌+◌, ◌≤◌, nat_lt, List, [], ◌∷◌, ◌++◌, length, Result, Ok, Err, if◌then◌else◌}
+use Rattle.std.specs.Prelude.{ℕ, ◌+◌, ◌≤◌, nat_lt, Bool, List, [], ◌∷◌, ◌++◌, length, Result, Ok, Err}
 use Rattle.journal_records.specs.declared.records.BudgetGrant.{BudgetGrant}
 use Rattle.journal_records.specs.declared.records.Record.{Record}
 use Rattle.journal_records.specs.declared.records.Record.TheVariants.{Grant}
 use Rattle.budget_core.specs.declared.answers.Left.{Left}
 use Rattle.budget_core.specs.declared.answers.GrantRefusal.{GrantRefusal}
 use Rattle.budget_core.specs.declared.answers.GrantRefusal.TheVariants.{TooLarge, Full}
+use Rattle.budget_core.specs.Bars.{first_bar}
 use Rattle.budget_core.specs.Cost.{cost_of, budget_of}
 use Rattle.budget_core.specs.Counts.{grants_of, open_from}
 use Rattle.budget_core.specs.Entries.{Entry, budget_limit}
@@ -25,15 +26,17 @@ grant_behind records amount = record { number = length (grants_of records); amou
 abbrev pub with_grant : List Record → (amount : ℕ) → List Record
 with_grant records amount = records ++ Grant (grant_behind records amount) ∷ []
 
--- A grant is too large where the budget with it exceeds the limit; else the journal is full where its records, a
--- settlement for each open reservation and this record exceed its capacity; else it is made.
+-- What stands against a grant: it is too large, as the budget with it exceeds the limit; and the journal is full, as its records,
+-- a settlement for each open reservation and this record exceed its capacity.
+abbrev pub bars_on_grant : Entry → (start : ℕ) → List Record → (amount : ℕ) → List (Bool × GrantRefusal)
+bars_on_grant entry start records amount =
+    (nat_lt budget_limit (budget_of entry records + amount), TooLarge (budget_of entry records) amount)
+    ∷ (nat_lt entry.capacity (length records + open_from start records + 1), Full (length records) (open_from start records) entry.capacity)
+    ∷ []
+
 abbrev pub grant_verdict : Entry → (start : ℕ) → List Record → (amount : ℕ) → Result Left GrantRefusal
-grant_verdict entry start records amount =
-    if nat_lt budget_limit (budget_of entry records + amount)
-    then Err (TooLarge (budget_of entry records) amount)
-    else if nat_lt entry.capacity (length records + open_from start records + 1)
-    then Err (Full (length records) (open_from start records) entry.capacity)
-    else Ok (record { spent = cost_of entry records; budget = budget_of entry records + amount; seen = length records + 1 })
+grant_verdict entry start records amount = first_bar (bars_on_grant entry start records amount)
+    (record { spent = cost_of entry records; budget = budget_of entry records + amount; seen = length records + 1 })
 
 -- the records after this amount was to be granted
 abbrev pub records_granted : List Record → (amount : ℕ) → Result Left GrantRefusal → List Record

@@ -1,6 +1,6 @@
 -- What a history keeps beside its records.
-use Rattle.std.specs.Prelude.{◌≡◌, ℕ, ◌<◌, ◌≤◌, List, [], ◌∷◌, ◌++◌, length, All, count_by, slice_get, Some, option_map, vec_capacity}
-use Rattle.partition_charge.specs.Totals.{AreTotalsOf, HasRoomBelow}
+use Rattle.std.specs.Prelude.{◌≡◌, ◌⊎◌, ℕ, ◌-◌, ◌<◌, ◌≤◌, List, [], ◌∷◌, ◌++◌, length, All, count_by, slice_get, Some, option_map, vec_capacity}
+use Rattle.partition_charge.specs.Totals.{AreTotalsOf, HasPlaces, HasRoomBelow}
 use Rattle.partition_charge.specs.declared.costs.Costs.{Costs}
 use Rattle.journal_records.specs.declared.records.Record.{Record}
 use Rattle.budget_core.specs.declared.totals.Row.{Row}
@@ -11,6 +11,7 @@ use Rattle.budget_core.specs.Cost.{charge_by, charges_in, cost_of, budget_of}
 use Rattle.budget_core.specs.Counts.{reservations_of, reservation_of, asker_of, outcome_of, grants_of}
 use Rattle.budget_core.specs.Entries.{Entry, IsEntry, budget_limit}
 use Rattle.budget_core.specs.Legal.{MayFollow, IsOpen, IsHistory}
+use Rattle.budget_core.specs.Mine.{charges_by}
 
 -- The row says who reserved the number, what it charged which view, and how it was settled.
 pub record IsRowOf (records : List Record) (number : ℕ) (row : Row) : Type 0 where
@@ -27,6 +28,20 @@ pub record HasRows (rows : List Row) (records : List Record) : Type 0 where
 abbrev pub HasRoomFor : Costs → (keys : List ℕ) → Type 0
 HasRoomFor costs keys = (n : ℕ) × HasRoomBelow costs n × All (λ count. count ≤ n) keys
 
+-- There is room for as many parts as records may still come, or as there are keys: one is enough.
+abbrev pub HasShareRoom : Entry → List Record → Costs → Type 0
+HasShareRoom entry records costs = HasRoomFor costs entry.keys ⊎ HasPlaces costs (entry.capacity - length records)
+
+-- The totals are those of what this analyst was charged.
+pub record IsShareOf (entry : Entry) (records : List Record) (analyst : ℕ) (costs : Costs) : Type 0 where
+  pub totals : AreTotalsOf costs (charges_by entry records analyst)
+  pub room : HasShareRoom entry records costs
+
+-- Each analyst has totals of its own.
+pub record HasShares (entry : Entry) (records : List Record) (shares : List Costs) : Type 0 where
+  pub count : length shares ≡ entry.analysts
+  pub each : (analyst : ℕ) (costs : Costs) → slice_get shares analyst ≡ Some costs → IsShareOf entry records analyst costs
+
 -- The totals are those of these records, each of which may follow those before it.
 pub record IsTotalOf (entry : Entry) (records : List Record) (totals : Totals) : Type 0 where
   pub valid : IsEntry entry
@@ -34,6 +49,7 @@ pub record IsTotalOf (entry : Entry) (records : List Record) (totals : Totals) :
   pub within : cost_of entry records ≤ budget_of entry records
   pub limited : budget_of entry records ≤ budget_limit
   pub costs : AreTotalsOf totals.costs (charges_in entry records)
+  pub shares : HasShares entry records totals.shares.items
   pub rows : HasRows totals.rows.items records
   pub answered : totals.answered ≡ count_by is_answered records
   pub exhausted : totals.exhausted ≡ count_by is_exhausted records

@@ -1,19 +1,21 @@
 -- What a book of records answers.
-use Rattle.std.specs.Prelude.{◌≡◌, ℕ, ◌+◌, ◌-◌, ◌<◌, ◌≤◌, nat_lt, List, [], ◌∷◌, ◌++◌, length, Result, Ok, Err, if◌then◌else◌, None, IsSome}
+use Rattle.std.specs.Prelude.{◌≡◌, ℕ, ◌+◌, ◌-◌, ◌<◌, ◌≤◌, nat_lt, Bool, List, [], ◌∷◌, ◌++◌, length, unwrap_or, Result, Ok, Err, None, IsSome}
 use Rattle.journal_records.specs.declared.records.Outcome.{Outcome}
 use Rattle.journal_records.specs.declared.records.Reservation.{Reservation}
 use Rattle.journal_records.specs.declared.records.Settlement.{Settlement}
 use Rattle.journal_records.specs.declared.records.Record.{Record}
 use Rattle.journal_records.specs.declared.records.Record.TheVariants.{Reserve, Settle}
-use Rattle.journal_records.specs.Records.{settling}
+use Rattle.journal_records.specs.Records.{settling, is_some_and}
 use Rattle.budget_core.specs.declared.entry.Ask.{Ask}
 use Rattle.budget_core.specs.declared.entry.Grant.{Grant}
 use Rattle.budget_core.specs.declared.entry.ReserveFault.{ReserveFault}
-use Rattle.budget_core.specs.declared.entry.ReserveFault.TheVariants.{OverBudget, Full}
+use Rattle.budget_core.specs.declared.entry.ReserveFault.TheVariants.{OverBudget, Full, OverShare}
+use Rattle.budget_core.specs.Bars.{first_bar}
 use Rattle.budget_core.specs.Cost.{cost_of, budget_of}
 use Rattle.budget_core.specs.Counts.{reservations_of, reservation_of, outcome_of, open_from}
-use Rattle.budget_core.specs.Entries.{Entry, HasView}
+use Rattle.budget_core.specs.Entries.{Entry, HasView, limit_of}
 use Rattle.budget_core.specs.Legal.{IsReservationAfter}
+use Rattle.budget_core.specs.Mine.{spent_by}
 use Rattle.journal_records.specs.Encoding.{IsByteList, AreChargeTerms}
 
 -- an owner's entry, the records found when the book was opened, and all records
@@ -47,15 +49,39 @@ cost_with entry records ask = cost_of entry (records ++ reservation_for records 
 abbrev pub rise_of : Entry → List Record → Ask → ℕ
 rise_of entry records ask = cost_with entry records ask - cost_of entry records
 
--- An ask is over budget where the cost with it exceeds the budget; else the journal is full where its
--- records, a settlement for each open reservation and these two records exceed its capacity; else it is granted.
+-- what an ask's analyst would have spent with it
+abbrev pub spent_with : Entry → List Record → Ask → ℕ
+spent_with entry records ask = spent_by entry (records ++ reservation_for records ask 0 ∷ []) ask.analyst
+
+-- what an ask's analyst would have spent with it exceeds that one's limit
+abbrev pub is_over_share : Entry → List Record → Ask → Bool
+is_over_share entry records ask = is_some_and (λ limit. nat_lt limit (spent_with entry records ask)) (limit_of entry ask.analyst)
+
+abbrev pub over_share : Entry → List Record → Ask → ReserveFault
+over_share entry records ask =
+    OverShare (spent_by entry records ask.analyst) (spent_with entry records ask) (unwrap_or (limit_of entry ask.analyst) 0) (length records)
+
+-- What stands against an ask, in the order of the codes: the cost with it exceeds the budget; the journal is full, as its records, a
+-- settlement for each open reservation and these two records exceed its capacity; then what shuts the journal, where anything does;
+-- and it is over its analyst's share. What is above says in its own words what is refused.
+abbrev pub bars_with : {F : Type 0} → (told : ReserveFault → F) → (shut : List (Bool × F)) → Entry → (start : ℕ) → List Record → Ask → List (Bool × F)
+bars_with told shut entry start records ask =
+    (
+      nat_lt (budget_of entry records) (cost_with entry records ask),
+      told (OverBudget (cost_of entry records) (cost_with entry records ask) (budget_of entry records) (length records)),
+    )
+    ∷ (nat_lt entry.capacity (length records + open_from start records + 2), told (Full (length records) (open_from start records) entry.capacity))
+    ∷ shut
+    ++ (is_over_share entry records ask, told (over_share entry records ask))
+    ∷ []
+
+-- what an ask is granted where nothing stands against it
+abbrev pub grant_for : Entry → List Record → Ask → Grant
+grant_for entry records ask = record { number = next_number records; taken = rise_of entry records ask; seen = length records + 1 }
+
+-- the verdict of the budget, as long as nothing shuts the journal
 abbrev pub money_verdict : Entry → (start : ℕ) → List Record → Ask → Result Grant ReserveFault
-money_verdict entry start records ask =
-    if nat_lt (budget_of entry records) (cost_with entry records ask)
-    then Err (OverBudget (cost_of entry records) (cost_with entry records ask) (budget_of entry records) (length records))
-    else if nat_lt entry.capacity (length records + open_from start records + 2)
-    then Err (Full (length records) (open_from start records) entry.capacity)
-    else Ok (record { number = next_number records; taken = rise_of entry records ask; seen = length records + 1 })
+money_verdict entry start records ask = first_bar (bars_with (λ fault. fault) [] entry start records ask) (grant_for entry records ask)
 
 -- by how much settling a number so lowers the cost
 abbrev pub returned_by : Entry → List Record → ℕ → Outcome → ℕ

@@ -8,17 +8,19 @@ use Rattle.journal_records.specs.declared.records.Record.TheVariants.{Reserve, S
 use Rattle.journal_records.specs.Records.{reservation_in, settlement_in, grant_in}
 use Rattle.budget_core.specs.Cost.{cost_of, budget_of}
 use Rattle.budget_core.specs.Counts.{reservations_of, reservation_of, outcome_of, grants_of, open_from}
-use Rattle.budget_core.specs.Entries.{Entry, HasView, budget_limit}
+use Rattle.budget_core.specs.Entries.{Entry, HasView, budget_limit, limit_of}
+use Rattle.budget_core.specs.Mine.{spent_by}
 use Rattle.journal_records.specs.Encoding.{AreChargeTerms}
 
 -- A reservation is numbered by those before it, names an analyst and a view of the entry, says by how much
--- the cost rose, and keeps to the budget.
+-- the cost rose, and keeps to the budget and to its analyst's limit, where that one has one.
 pub record IsReservationAfter (entry : Entry) (records : List Record) (reservation : Reservation) : Type 0 where
   pub numbered : reservation.number ≡ length (reservations_of records)
   pub asked_by : reservation.analyst < entry.analysts
   pub looks_at : HasView entry reservation.view
   pub rise : cost_of entry (records ++ Reserve reservation ∷ []) ≡ cost_of entry records + reservation.taken
   pub within : cost_of entry (records ++ Reserve reservation ∷ []) ≤ budget_of entry (records ++ Reserve reservation ∷ [])
+  pub limited : IfSome (limit_of entry reservation.analyst) (λ limit. spent_by entry (records ++ Reserve reservation ∷ []) reservation.analyst ≤ limit)
 
 -- The number is reserved, and isn't settled.
 pub record IsOpen (records : List Record) (number : ℕ) : Type 0 where

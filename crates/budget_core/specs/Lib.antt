@@ -1,7 +1,9 @@
 pub mod Cost
 pub mod Entries
 pub mod Counts
+pub mod Mine
 pub mod Legal
+pub mod Bars
 pub mod Ledger
 pub mod Granting
 pub mod Answers
@@ -14,3 +16,4 @@ pub mod Safe
 pub mod Machine
 pub mod Bare
 pub mod Laws
+pub mod MineLaws

@@ -26,6 +26,15 @@ pub struct Left {
     pub seen: u32,
 }
 
+/// What one analyst has spent, in millionths of epsilon, and what it may spend at most, where it has a limit.
+#[derive(Clone, Copy, Debug, Drop, PartialEq, Eq)]
+pub struct Mine {
+    pub spent: u64,
+    pub limit: Option<u64>,
+    /// The number of records.
+    pub seen: u32,
+}
+
 /// How many reservations there are, and how they ended.
 #[derive(Clone, Copy, Debug, Drop, PartialEq, Eq)]
 pub struct Counts {

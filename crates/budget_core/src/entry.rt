@@ -1,9 +1,9 @@
 //! What the catalog says of an owner's budget, and what is asked of it.
 
-ghost use Rattle.std.specs.Prelude.{◌≡◌, ◌≤◌, ◌↔◌, [], All, IsTrue};
+ghost use Rattle.std.specs.Prelude.{◌≡◌, ◌≤◌, ◌↔◌, [], length, All, IsTrue};
 ghost use Rattle.partition_charge.specs.Views.{part_limit};
 ghost use Rattle.journal_records.specs.Encoding.{newest_version, IsByteList};
-ghost use Rattle.budget_core.specs.Entries.{IsEntry, HasView};
+ghost use Rattle.budget_core.specs.Entries.{IsEntry, HasView, limit_of};
 ghost use Rattle.budget_core.specs.Ledger.{IsAskOf};
 
 use journal_records::decoding::are_terms;
@@ -13,8 +13,9 @@ use std::marker::Model;
 
 /// An owner's entry: the budget in millionths of epsilon (1 to 10^18), the greatest number of
 /// records (2 to 262,144), how many analysts may ask (1 to 64), how many keys each of its
-/// partitions has (up to 8 partitions, 1 to 4,000 keys), and the version of its journal, whose rule of
-/// the cost its records keep.
+/// partitions has (up to 8 partitions, 1 to 4,000 keys), the version of its journal, whose rule of
+/// the cost its records keep, and what each analyst may spend at most, where it has a limit: an analyst
+/// past the list's end has none.
 #[derive(Drop)]
 pub struct Entry {
     budget: u64,
@@ -22,6 +23,7 @@ pub struct Entry {
     analysts: u16,
     keys: Vec<u16>,
     version: u8,
+    limits: Vec<Option<u64>>,
 }
 
 impl Model for Entry {
@@ -29,9 +31,9 @@ impl Model for Entry {
 
     ghost Value = { Terms };
 
-    ghost view = { λ a. record { budget = a.budget; capacity = a.capacity; analysts = a.analysts; keys = a.keys.items; version = a.version } };
+    ghost view = { λ a. record { budget = a.budget; capacity = a.capacity; analysts = a.analysts; keys = a.keys.items; version = a.version; limits = a.limits.items } };
 
-    ghost invariant = { λ a. IsEntry (record { budget = a.budget; capacity = a.capacity; analysts = a.analysts; keys = a.keys.items; version = a.version }) };
+    ghost invariant = { λ a. IsEntry (record { budget = a.budget; capacity = a.capacity; analysts = a.analysts; keys = a.keys.items; version = a.version; limits = a.limits.items }) };
 }
 
 /// What a query asks of the budget.
@@ -76,6 +78,13 @@ pub enum ReserveFault {
         unsettled: u32,
         capacity: u32,
     },
+    /// What its analyst would have spent with this ask exceeds that one's limit.
+    OverShare {
+        spent: u64,
+        after: u64,
+        limit: u64,
+        seen: u32,
+    },
 }
 
 /// The greatest budget, and the greatest amount that may be granted at once, in millionths of epsilon.
@@ -89,10 +98,30 @@ fn are_bytes(digest: [u8; 32])
 }
 
 impl Entry {
-    /// An owner's entry, for a new journal.
-    pub fn new(budget: u64, capacity: u32, analysts: u16, keys: Vec<u16>) -> Entry
-        requires { IsEntry (record { budget = budget; capacity = capacity; analysts = analysts; keys = keys.items; version = newest_version }) }
-        ensures { result ≡ record { budget = budget; capacity = capacity; analysts = analysts; keys = keys.items; version = newest_version } }
+    /// An owner's entry, for a new journal. Where the list of limits is empty no analyst has one.
+    pub fn new(
+        budget: u64,
+        capacity: u32,
+        analysts: u16,
+        keys: Vec<u16>,
+        limits: Vec<Option<u64>>,
+    ) -> Entry
+        requires { IsEntry (record {
+          budget = budget;
+          capacity = capacity;
+          analysts = analysts;
+          keys = keys.items;
+          version = newest_version;
+          limits = limits.items;
+        }) }
+        ensures { result ≡ record {
+          budget = budget;
+          capacity = capacity;
+          analysts = analysts;
+          keys = keys.items;
+          version = newest_version;
+          limits = limits.items;
+        } }
     {
         Entry {
             budget,
@@ -100,6 +129,7 @@ impl Entry {
             analysts,
             keys,
             version: NEWEST_VERSION,
+            limits,
         }
     }
 
@@ -144,6 +174,23 @@ impl Entry {
         ensures { result.now ≡ self.now.keys }
     {
         &self.keys
+    }
+
+    /// How many analysts the list of limits goes over.
+    pub fn limits(&self) -> u16
+        ensures { result ≡ length self.now.limits }
+    {
+        self.limits.len() as u16
+    }
+
+    /// What this analyst may spend at most, where it has a limit.
+    pub fn limit(&self, analyst: u16) -> Option<u64>
+        ensures { result ≡ limit_of self.now analyst }
+    {
+        match self.limits.get(analyst as usize) {
+            Some(limit) => *limit,
+            None => None,
+        }
     }
 
     /// The greatest number of keys that a partition has.

@@ -9,6 +9,7 @@ ghost use Rattle.budget_core.specs.Cost.{charges_in, cost_of, budget_of};
 ghost use Rattle.budget_core.specs.Counts.{reservations_of, asker_of, outcome_of, grants_of};
 ghost use Rattle.budget_core.specs.Entries.{IsEntry, HasView, budget_limit};
 ghost use Rattle.budget_core.specs.Ledger.{returned_by};
+ghost use Rattle.budget_core.specs.Mine.{spent_by, spent_after};
 ghost use Rattle.budget_core.specs.Legal.{MayFollow, HasTerms, IsOpen, IsHistory};
 
 use crate::answers::{Counts, FoundFault};
@@ -140,6 +141,23 @@ impl History {
         ensures grows { cost_of self.now.entry self.now.records ≤ result }
     {
         self.totals.costs.after(view, charge)
+    }
+
+    /// What an analyst has spent.
+    pub fn spent_by(&self, analyst: u16) -> u64
+        ensures { result ≡ spent_by self.now.entry self.now.records analyst }
+    {
+        self.totals.spent_by(analyst)
+    }
+
+    /// What an analyst would have spent with one charge more.
+    pub fn spent_after(&self, analyst: u16, view: View, charge: u64) -> u64
+        requires analyst { analyst < self.now.entry.analysts }
+        requires view { HasView self.now.entry view }
+        requires bounded { charge ≤ 2 ^ 62 }
+        ensures { result ≡ spent_after self.now.entry self.now.records analyst (record { view = view; amount = charge }) }
+    {
+        self.totals.spent_after(&self.entry, analyst, view, charge)
     }
 
     /// By how much settling this number so would lower the cost. It is reserved, and isn't settled.

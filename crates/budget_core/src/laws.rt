@@ -3,6 +3,7 @@
 ghost use Rattle.budget_core.specs.Laws.{StaysWithinBudget, StaysHistory, NumbersInOrder, NumbersNeverShared, NumbersGrow};
 ghost use Rattle.budget_core.specs.Laws.{SettlesOnce, AddsUp, OnlyExhaustedGiveBack, SettlementsNeverRaise};
 ghost use Rattle.budget_core.specs.Laws.{GrantsRaise, GrantsInOrder, BudgetsAreLimited, GrantsTellWhatIsLeft};
+ghost use Rattle.budget_core.specs.MineLaws.{SpentIsCost, SpentIsWithin, SettlementsNeverRaiseSpent, SpentGoesByOwn, StaysWithinLimits, GivesBackToItsAnalyst, SettlesForItsAnalyst, SharesCover};
 ghost use Rattle.budget_core.specs.Laws.{KeepsRoom, IgnoresAnswers, AsksAreTested, EventsAreSafe};
 
 /// Legal records cost at most the budget, where those found at the start do.
@@ -89,4 +90,16 @@ pub fn asks_are_tested()
 /// at most once, what was sent is answered, and there is room for what is open.
 pub fn events_are_safe()
     ensures { EventsAreSafe }
+{}
+
+/// What an analyst has spent goes by its own records, is what these cost, and stays within its limit.
+pub fn analysts_have_limits()
+    ensures cost { SpentIsCost }
+    ensures within { SpentIsWithin }
+    ensures falls { SettlementsNeverRaiseSpent }
+    ensures own { SpentGoesByOwn }
+    ensures limited { StaysWithinLimits }
+    ensures back { GivesBackToItsAnalyst }
+    ensures others { SettlesForItsAnalyst }
+    ensures shares { SharesCover }
 {}

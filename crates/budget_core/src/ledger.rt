@@ -1,20 +1,20 @@
 //! One owner's records in memory: what may be reserved and settled, and what is told of it.
 
-ghost use Rattle.std.specs.Prelude.{◌≡◌, ℕ, ◌<◌, ◌≤◌, ◌∷◌, ◌++◌, [], ◌↔◌, length, IsTrue, IsOk, IfOk, IfErr, Ok};
+ghost use Rattle.std.specs.Prelude.{◌≡◌, ℕ, ◌<◌, ◌≤◌, ◌∷◌, ◌++◌, [], ◌↔◌, length, if◌then◌else◌, IsTrue, IsOk, IfOk, IfErr, IfSome, Ok, Some, None};
 ghost use Rattle.std.specs.List.{All};
 ghost use Rattle.journal_records.specs.declared.records.Record.TheVariants.{Reserve, Settle, Grant as Granted};
 ghost use Rattle.journal_records.specs.Encoding.{IsReservation, IsSettlement, IsGrant, IsValid};
-ghost use Rattle.budget_core.specs.Answers.{standing, recalled, left_of, counts_of, IsFoundFault};
+ghost use Rattle.budget_core.specs.Answers.{standing, recalled, left_of, mine_of, counts_of, IsFoundFault};
 ghost use Rattle.budget_core.specs.Cost.{cost_of};
 ghost use Rattle.budget_core.specs.Counts.{outcome_of};
 ghost use Rattle.budget_core.specs.Entries.{IsEntry, budget_limit};
 ghost use Rattle.budget_core.specs.Events.{is_answer};
 ghost use Rattle.budget_core.specs.Granting.{grant_behind, grant_verdict, IsAmount, MayGrant};
-ghost use Rattle.budget_core.specs.Ledger.{start_of, money_verdict, next_number, reservation_numbered};
+ghost use Rattle.budget_core.specs.Ledger.{start_of, is_over_share, over_share, money_verdict, next_number, reservation_numbered};
 ghost use Rattle.budget_core.specs.Ledger.{settlement_of, IsAskOf, MayReserve, MaySettle, IsUnsettled};
 ghost use Rattle.budget_core.specs.Sound.{IsSound};
 
-use crate::answers::{Counts, FoundFault, GrantRefusal, Left, Recall};
+use crate::answers::{Counts, FoundFault, GrantRefusal, Left, Mine, Recall};
 use crate::entry::{Ask, BUDGET_LIMIT, Entry, Grant, ReserveFault};
 use crate::history::History;
 use crate::totals::charge_for;
@@ -81,7 +81,26 @@ impl Ledger {
         })
     }
 
-    /// Whether an ask is granted: over budget comes first, then full.
+    // What is said of an ask that is over its analyst's share.
+    fn over_share(&self, ask: &Ask) -> Option<ReserveFault>
+        requires { IsAskOf self.now.entry ask.now }
+        ensures { result ≡ if is_over_share self.now.entry self.now.records ask.now then Some (over_share self.now.entry self.now.records ask.now) else None }
+    {
+        let limit = self.history.entry().limit(ask.analyst)?;
+        let charge = charge_for(ask.e, ask.p, ask.q);
+        let after = self.history.spent_after(ask.analyst, ask.view, charge);
+        if after <= limit {
+            return None;
+        }
+        Some(ReserveFault::OverShare {
+            spent: self.history.spent_by(ask.analyst),
+            after,
+            limit,
+            seen: self.history.len(),
+        })
+    }
+
+    /// Whether an ask is granted: over budget comes first, then full, then over its analyst's share.
     pub fn verdict(&self, ask: &Ask) -> Result<Grant, ReserveFault>
         requires { IsAskOf self.now.entry ask.now }
         ensures verdict { result ≡ money_verdict self.now.entry (start_of self.now) self.now.records ask.now }
@@ -109,12 +128,14 @@ impl Ledger {
                 capacity,
             });
         }
-        let number = self.history.reservations();
-        Ok(Grant {
-            number,
-            taken: after - spent,
-            seen: seen + 1,
-        })
+        match self.over_share(ask) {
+            Some(fault) => Err(fault),
+            None => Ok(Grant {
+                number: self.history.reservations(),
+                taken: after - spent,
+                seen: seen + 1,
+            }),
+        }
     }
 
     /// The reservation of a granted ask.
@@ -258,6 +279,20 @@ impl Ledger {
         Left {
             spent: self.history.spent(),
             budget: self.history.budget(),
+            seen: self.history.len(),
+        }
+    }
+
+    /// What an analyst has spent, and what it may spend at most.
+    pub fn mine(&self, analyst: u16) -> Mine
+        ensures mine { result ≡ mine_of self.now analyst }
+        ensures limited { IfSome result.limit (λ limit. result.spent ≤ limit) }
+    {
+        // The look at a field tells the proof what a ledger keeps.
+        let _start = self.start;
+        Mine {
+            spent: self.history.spent_by(analyst),
+            limit: self.history.entry().limit(analyst),
             seen: self.history.len(),
         }
     }

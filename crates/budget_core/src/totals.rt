@@ -1,6 +1,6 @@
 //! What is known of records without going over them: what they cost, and a row for each number.
 
-ghost use Rattle.std.specs.Prelude.{◌≡◌, ℕ, ◌<◌, ◌≤◌, ◌∷◌, ◌++◌, [], ◌↔◌, ◌^◌, List, length, slice_get, Some, true, false, IsTrue, IfOk, IfErr};
+ghost use Rattle.std.specs.Prelude.{◌≡◌, ℕ, ◌<◌, ◌≤◌, ◌∷◌, ◌++◌, [], ◌↔◌, ◌^◌, List, length, slice_get, Some, true, false, IsTrue, IfSome, IfOk, IfErr};
 ghost use Rattle.std.specs.List.{All};
 ghost use Rattle.journal_records.specs.Encoding.{AreChargeTerms, IsReservation, IsGrant, IsValid};
 ghost use Rattle.journal_records.specs.declared.records.Record.{Record as Entered};
@@ -11,10 +11,11 @@ ghost use Rattle.budget_core.specs.Events.{is_answer};
 ghost use Rattle.budget_core.specs.Cost.{charge_of, comes_back};
 ghost use Rattle.budget_core.specs.Ledger.{returned_by};
 ghost use Rattle.partition_charge.specs.Cost.{Charge as Charged};
-ghost use Rattle.partition_charge.specs.Totals.{AreTotalsOf, HasCharged, HasRoomBelow, IsRest};
+ghost use Rattle.partition_charge.specs.Totals.{AreTotalsOf, HasCharged, HasPlaces, HasRoomBelow, IsRest};
 ghost use Rattle.partition_charge.specs.Views.{IsView};
-ghost use Rattle.budget_core.specs.Entries.{Entry as Terms};
-ghost use Rattle.budget_core.specs.Kept.{IsTotalOf, IsTotal, IsOpenIn, MayCount, HasCounted};
+ghost use Rattle.budget_core.specs.Entries.{Entry as Terms, HasView, limit_of};
+ghost use Rattle.budget_core.specs.Kept.{HasShares, IsTotalOf, IsTotal, IsOpenIn, MayCount, HasCounted};
+ghost use Rattle.budget_core.specs.Mine.{spent_by, spent_after};
 ghost use Rattle.budget_core.specs.Legal.{MayFollow, HasTerms, IsReservationAfter, IsOpen, IsSettlementAfter, IsGrantAfter, IsFirstAstray};
 
 use crate::entry::{BUDGET_LIMIT, Entry};
@@ -37,6 +38,8 @@ pub(crate) struct Row {
 #[derive(Drop)]
 pub(crate) struct Totals {
     pub(crate) costs: Costs,
+    /// What each analyst is charged.
+    pub(crate) shares: Vec<Costs>,
     pub(crate) rows: Vec<Row>,
     pub(crate) answered: u32,
     pub(crate) exhausted: u32,
@@ -83,6 +86,7 @@ fn take_back(costs: &mut Costs, entry: &Entry, row: Row, outcome: Outcome)
     ensures given { (charges rest : List Charged) → AreTotalsOf costs.old charges → comes_back entry.now (Some outcome) ≡ true
         → IsRest charges row.view row.charge rest → AreTotalsOf costs.new rest }
     ensures kept { (charges : List Charged) → AreTotalsOf costs.old charges → comes_back entry.now (Some outcome) ≡ false → AreTotalsOf costs.new charges }
+    ensures places { (n : ℕ) → HasPlaces costs.old n → HasPlaces costs.new n }
     ensures room { (n : ℕ) → HasRoomBelow costs.old n → HasRoomBelow costs.new n }
 {
     if comes_back(entry, outcome) {
@@ -99,6 +103,18 @@ fn settle_row(rows: &mut [Row], number: u32, outcome: Outcome)
     rows[number as usize].outcome = Some(outcome);
 }
 
+// The totals of no charges of each analyst, with room for as many parts as there are keys, or as records may come.
+fn new_shares(alloc: Global, entry: &Entry) -> Result<Vec<Costs>, AllocError>
+    ensures { IfOk result (λ shares. HasShares entry.now [] shares.items) }
+{
+    let room = entry.capacity().min(u32::from(entry.most_keys()));
+    let mut shares = Vec::with_capacity(alloc, entry.analysts() as usize)?;
+    for _analyst in 0..entry.analysts() {
+        shares.push_reserved(Costs::new(alloc, room)?);
+    }
+    Ok(shares)
+}
+
 impl Totals {
     /// The totals of no records, with room for a row for each record and for a charge of each of the entry's parts.
     pub fn new(alloc: Global, entry: &Entry) -> Result<Totals, AllocError>
@@ -106,14 +122,55 @@ impl Totals {
     {
         let rows = Vec::with_capacity(alloc, entry.capacity() as usize)?;
         let costs = Costs::new(alloc, u32::from(entry.most_keys()))?;
+        let shares = new_shares(alloc, entry)?;
         Ok(Totals {
             costs,
+            shares,
             rows,
             answered: 0,
             exhausted: 0,
             grants: 0,
             budget: entry.budget(),
         })
+    }
+
+    /// What an analyst has spent.
+    pub fn spent_by(&self, analyst: u16) -> u64
+        ensures { (entry : Terms) (records : List Entered) → IsTotalOf entry records self.now → result ≡ spent_by entry records analyst }
+    {
+        if analyst as usize >= self.shares.len() {
+            return 0;
+        }
+        self.shares[analyst as usize].spent()
+    }
+
+    /// What an analyst would have spent with one charge more.
+    pub fn spent_after(&self, entry: &Entry, analyst: u16, view: View, charge: u64) -> u64
+        requires total { IsTotal entry.now self.now }
+        requires analyst { analyst < entry.now.analysts }
+        requires view { HasView entry.now view }
+        requires bounded { charge ≤ 2 ^ 62 }
+        ensures { (records : List Entered) → IsTotalOf entry.now records self.now
+            → result ≡ spent_after entry.now records analyst (record { view = view; amount = charge }) }
+    {
+        // The look at the entry tells the proof what it keeps.
+        let _capacity = entry.capacity();
+        self.shares[analyst as usize].after(view, charge)
+    }
+
+    // Whether an analyst keeps to its limit, where it has one, with one charge more.
+    fn keeps_limit(&self, entry: &Entry, analyst: u16, view: View, charge: u64) -> bool
+        requires total { IsTotal entry.now self.now }
+        requires analyst { analyst < entry.now.analysts }
+        requires view { HasView entry.now view }
+        requires bounded { charge ≤ 2 ^ 62 }
+        ensures { (records : List Entered) → IsTotalOf entry.now records self.now → (IsTrue result ↔ IfSome (limit_of entry.now analyst)
+            (λ limit. spent_after entry.now records analyst (record { view = view; amount = charge }) ≤ limit)) }
+    {
+        match entry.limit(analyst) {
+            Some(limit) => self.spent_after(entry, analyst, view, charge) <= limit,
+            None => true,
+        }
     }
 
     // Whether this reservation may follow.
@@ -130,6 +187,9 @@ impl Totals {
             return false;
         }
         let charge = charge_for(reservation.e, reservation.p, reservation.q);
+        if !self.keeps_limit(entry, reservation.analyst, reservation.view, charge) {
+            return false;
+        }
         let spent = self.costs.spent();
         let after = self.costs.after(reservation.view, charge);
         after <= self.budget && after - spent == reservation.taken
@@ -202,6 +262,7 @@ impl Totals {
     {
         let charge = charge_for(reservation.e, reservation.p, reservation.q);
         self.costs.add(reservation.view, charge);
+        self.shares[reservation.analyst as usize].add(reservation.view, charge);
         self.rows.push_reserved(Row {
             analyst: reservation.analyst,
             view: reservation.view,
@@ -217,6 +278,12 @@ impl Totals {
     {
         let row = self.rows[settlement.number as usize];
         take_back(&mut self.costs, entry, row, settlement.outcome);
+        take_back(
+            &mut self.shares[row.analyst as usize],
+            entry,
+            row,
+            settlement.outcome,
+        );
         settle_row(&mut self.rows, settlement.number, settlement.outcome);
         self.answered += u32::from(is_answer(settlement.outcome));
         self.exhausted += u32::from(is_exhaustion(settlement.outcome));

@@ -40,7 +40,7 @@ abbrev left_open : List Record
 left_open = Reserve (record { number = 0; view = Whole; e = 6; p = 1; q = 1; taken = 6; analyst = 0; digest = [] }) ∷ []
 
 abbrev small : Entry
-small = record { budget = 20; capacity = 10; analysts = 1; keys = []; version = 2 }
+small = record { budget = 20; capacity = 10; analysts = 1; keys = []; version = 2; limits = [] }
 
 -- ---- closed or not
 

@@ -5,3 +5,4 @@ pub mod Opens
 pub mod Standing
 pub mod Wents
 pub mod Writes
+pub mod Verdicts

@@ -14,6 +14,7 @@ use Rattle.budget_core.specs.Ledger.{Ledger, start_of, reservation_for, money_ve
 use Rattle.budget_core.proofs.Asks.{ask-test}
 use Rattle.budget_core.proofs.EventLemmas.{if-left, reserved-step, granted-step, refused-step}
 use Rattle.budget_ledger.specs.Account.{Account}
+use Rattle.budget_ledger.proofs.Verdicts.{says-granted, says-refused}
 use Rattle.budget_ledger.specs.Machine.{world_by, ReservesAsTheMachine, RefusesAsTheMachine, SettlesAsTheMachine, GrantsAsTheMachine, RefusesGrantsAsTheMachine, OpensAsTheMachine}
 
 -- the world of a book with one record more
@@ -23,7 +24,7 @@ with_record old ledger next sent is = ap (λ (l : Ledger). record { records = l.
 
 pub reserves : ReservesAsTheMachine
 reserves old new ask grant sent of (verdict, gained, unsettled) =
-    sym (reserved-step old.ledger.entry (world_by old sent) ask grant refl (ask-test old.ledger.entry ask of) verdict)
+    sym (reserved-step old.ledger.entry (world_by old sent) ask grant refl (ask-test old.ledger.entry ask of) (says-granted old ask grant verdict))
     ∙ with_record old new.ledger (reservation_for old.ledger.records ask grant.taken) sent gained.ledger
 
 pub refuses : RefusesAsTheMachine
@@ -32,7 +33,7 @@ refuses old new ask fault sent of (verdict, same) =
     if-left true (is_ask_of old.ledger.entry ask)
     (record world { records = records_after world.records ask (money_verdict old.ledger.entry world.start world.records ask) }) world refl
     (ask-test old.ledger.entry ask of)
-    ∙ ap (λ (v : Result Grant ReserveFault). record world { records = records_after world.records ask v }) verdict
+    ∙ ap (λ (v : Result Grant ReserveFault). record world { records = records_after world.records ask v }) (says-refused old ask fault verdict)
     ∙ ap (λ (a : Account). world_by a sent) (sym same)
 
 unsettled_test : (ledger : Ledger) (number : ℕ) → IsUnsettled ledger number → is_unsettled (start_of ledger) ledger.records number ≡ true

@@ -1,15 +1,16 @@
 -- What a book answers, and what it is afterwards.
-use Rattle.std.specs.Prelude.{◌≡◌, ℕ, [], ◌∷◌, ◌++◌, length, Result, Ok, Err, None, Some}
+use Rattle.std.specs.Prelude.{◌≡◌, ℕ, Bool, true, List, [], ◌∷◌, ◌++◌, length, Result, Ok, Err, Option, None, Some}
 use Rattle.journal_records.specs.declared.records.Outcome.{Outcome}
 use Rattle.journal_records.specs.declared.records.Record.{Record}
 use Rattle.journal_records.specs.declared.records.Record.TheVariants.{Grant as Granted}
 use Rattle.budget_core.specs.declared.answers.Left.{Left}
 use Rattle.budget_core.specs.declared.answers.GrantRefusal.{GrantRefusal}
+use Rattle.budget_core.specs.Bars.{first_bar}
+use Rattle.budget_core.specs.Entries.{Entry}
 use Rattle.budget_core.specs.Granting.{grant_behind, grant_verdict}
 use Rattle.budget_core.specs.declared.entry.Ask.{Ask}
 use Rattle.budget_core.specs.declared.entry.Grant.{Grant}
-use Rattle.budget_core.specs.declared.entry.ReserveFault.{ReserveFault}
-use Rattle.budget_core.specs.Ledger.{start_of, money_verdict, reservation_for, settlement_for, IsUnsettled}
+use Rattle.budget_core.specs.Ledger.{start_of, bars_with, grant_for, reservation_for, settlement_for, IsUnsettled}
 use Rattle.budget_ledger.specs.Account.{Failure, Account}
 use Rattle.budget_ledger.specs.declared.book.AppendFault.{AppendFault}
 use Rattle.budget_ledger.specs.declared.book.AppendFault.TheVariants.{Closed, DiskFault}
@@ -35,17 +36,28 @@ abbrev pub IsUnwritten : Account → Record → AppendFault → Account → Type
 IsUnwritten old next (Closed failed_at) new = (failure : Failure) × (old.storage.closed ≡ Some failure) × (failed_at ≡ failure.failed_at) × (new ≡ old)
 IsUnwritten old next DiskFault new = HasClosed old next new
 
--- the verdict on an ask
-abbrev pub HasVerdict : Account → Ask → Result Grant ReserveFault → Type 0
-HasVerdict account ask verdict = money_verdict account.ledger.entry (start_of account.ledger) account.ledger.records ask ≡ verdict
+-- what an append that failed says to every later one, which it bars
+abbrev pub shut_bars : Option Failure → List (Bool × BookFault)
+shut_bars None = []
+shut_bars (Some failure) = (true, Unwritten (Closed failure.failed_at)) ∷ []
 
--- An ask is answered by its verdict. A grant is answered where its reservation was written, which a closed book doesn't do.
+-- what a book that is closed so, or isn't, says to an ask on these records, before anything is written
+abbrev pub book_verdict : Entry → (start : ℕ) → List Record → Option Failure → Ask → Result Grant BookFault
+book_verdict entry start records closed ask = first_bar (bars_with Refused (shut_bars closed) entry start records ask) (grant_for entry records ask)
+
+-- the verdict on an ask
+abbrev pub HasVerdict : Account → Ask → Result Grant BookFault → Type 0
+HasVerdict account ask verdict =
+    book_verdict account.ledger.entry (start_of account.ledger) account.ledger.records account.storage.closed ask ≡ verdict
+
+-- An ask is answered by its verdict. A grant is answered where its reservation was written; where the disk fails, it was granted.
 abbrev pub IsReserved : Account → Ask → Result Grant BookFault → Account → Type 0
 IsReserved old ask (Ok grant) new = HasVerdict old ask (Ok grant)
     × HasGained old (reservation_for old.ledger.records ask grant.taken) new × IsUnsettled new.ledger grant.number
-IsReserved old ask (Err (Refused fault)) new = HasVerdict old ask (Err fault) × (new ≡ old)
-IsReserved old ask (Err (Unwritten fault)) new = (grant : Grant) × HasVerdict old ask (Ok grant)
-    × IsUnwritten old (reservation_for old.ledger.records ask grant.taken) fault new
+IsReserved old ask (Err (Refused fault)) new = HasVerdict old ask (Err (Refused fault)) × (new ≡ old)
+IsReserved old ask (Err (Unwritten (Closed failed_at))) new = HasVerdict old ask (Err (Unwritten (Closed failed_at))) × (new ≡ old)
+IsReserved old ask (Err (Unwritten DiskFault)) new = (grant : Grant) × HasVerdict old ask (Ok grant)
+    × HasClosed old (reservation_for old.ledger.records ask grant.taken) new
 
 -- A settlement is written, but to a closed book. Its record says by how much the cost falls.
 abbrev pub IsSettlementOf : Account → (number : ℕ) → Outcome → Result ℕ AppendFault → Account → Type 0

@@ -6,14 +6,25 @@ use Rattle.journal_records.specs.declared.records.Record.{Record}
 use Rattle.journal_records.specs.declared.records.Header.{Header}
 use Rattle.budget_journal.specs.declared.journal.Journal.{Journal}
 use Rattle.budget_journal.specs.Journals.{disk_of, used, is_closed, capacity_of, mark_of, IsMarked, Appended, AppendFailed}
+use Rattle.budget_core.specs.declared.entry.ReserveFault.{ReserveFault}
+use Rattle.budget_core.specs.declared.entry.ReserveFault.TheVariants.{OverBudget, Full, OverShare}
 use Rattle.budget_core.specs.Ledger.{Ledger}
 use Rattle.budget_ledger.specs.Account.{Failure, Account, IsBook}
 use Rattle.budget_ledger.specs.declared.book.AppendFault.{AppendFault}
 use Rattle.budget_ledger.specs.declared.book.AppendFault.TheVariants.{Closed, DiskFault}
+use Rattle.budget_ledger.specs.declared.book.BookFault.{BookFault}
+use Rattle.budget_ledger.specs.declared.book.BookFault.TheVariants.{Refused, Unwritten}
 
 abbrev pub account_by : Ledger → Header → Option Trace → ℕ → Option Failure → Account
 account_by ledger header trace faults closed
     = record { ledger = ledger; storage = record { header = header; trace = trace; faults = faults; closed = closed } }
+
+-- what a refusal on the records becomes, where an append may have failed
+abbrev pub refusal_with : ReserveFault → Option Failure → BookFault
+refusal_with (OverShare spent after limit seen) (Some failure) = Unwritten (Closed failure.failed_at)
+refusal_with (OverShare spent after limit seen) None = Refused (OverShare spent after limit seen)
+refusal_with (OverBudget spent after budget seen) closed = Refused (OverBudget spent after budget seen)
+refusal_with (Full used unsettled capacity) closed = Refused (Full used unsettled capacity)
 
 module _ {D : Type 0} (trace : D → Option Trace) (faults : D → ℕ) where
   -- what contracts see of a book, by what its disk shows

@@ -1,23 +1,23 @@
 //! A book: an owner's ledger, whose records are kept in a journal.
 
-ghost use Rattle.std.specs.Prelude.{◌≡◌, ◌<◌, None, false, IfOk, IfErr, IfSome, IsTrue, ◌↔◌, IsSome};
+ghost use Rattle.std.specs.Prelude.{◌≡◌, ◌<◌, ◌≤◌, None, false, IfOk, IfErr, IfSome, IsTrue, ◌↔◌, IsSome};
 ghost use Rattle.fz_outside.specs.Faults.{HasCause};
 ghost use Rattle.outside_disks.specs.Disks.{Trace, WhereTold, seen_of};
 ghost use Rattle.journal_records.specs.Encoding.{IsValid, IsHeader};
 ghost use Rattle.budget_journal.specs.Journals.{disk_of, used, is_closed, capacity_of, Found, MayHaveSynced};
 ghost use Rattle.budget_journal.specs.declared.opening.OpenFault.TheVariants.{DiskFault};
-ghost use Rattle.budget_core.specs.Answers.{recalled, left_of, counts_of};
+ghost use Rattle.budget_core.specs.Answers.{recalled, left_of, mine_of, counts_of};
 ghost use Rattle.budget_core.specs.Cost.{cost_of};
 ghost use Rattle.budget_core.specs.Granting.{IsAmount};
 ghost use Rattle.budget_core.specs.Ledger.{IsAskOf, IsUnsettled};
 ghost use Rattle.budget_core.specs.Sound.{IsSound};
 ghost use Rattle.budget_ledger.specs.Account.{IsKeptNow, IsBook, Went};
 ghost use Rattle.budget_ledger.specs.Booked.{IsReserved, IsSettlementOf, IsRaised};
-ghost use Rattle.budget_ledger.specs.Kept.{HasWritten, IsUnappended};
+ghost use Rattle.budget_ledger.specs.Kept.{HasWritten, IsUnappended, refusal_with};
 ghost use Rattle.budget_ledger.specs.Opened.{IsBookFault};
 
 use crate::failure::Failure;
-use budget_core::answers::{Counts, GrantRefusal, Left, Recall};
+use budget_core::answers::{Counts, GrantRefusal, Left, Mine, Recall};
 use budget_core::entry::{Ask, Grant, ReserveFault};
 use budget_core::ledger::Ledger;
 use budget_journal::journal::Journal;
@@ -37,7 +37,7 @@ pub enum AppendFault {
 /// Why no reservation was made.
 #[derive(Clone, Copy, Debug, Drop, PartialEq, Eq)]
 pub enum BookFault {
-    /// The budget or the room doesn't allow it.
+    /// The budget, the room or the analyst's limit doesn't allow it.
     Refused(ReserveFault),
     /// It was granted, and its record wasn't appended.
     Unwritten(AppendFault),
@@ -103,6 +103,20 @@ fn write_down<D: Disk>(
     }
 }
 
+// What is said of an ask that is refused: an append that has failed is said before it is over its analyst's share.
+fn refused_by(fault: ReserveFault, failure: &Option<Failure>) -> BookFault
+    ensures { result ≡ refusal_with fault failure.now }
+{
+    match (fault, failure) {
+        (ReserveFault::OverShare { .. }, Some(failure)) => {
+            BookFault::Unwritten(AppendFault::Closed {
+                failed_at: failure.failed_at,
+            })
+        }
+        _ => BookFault::Refused(fault),
+    }
+}
+
 impl<D: Disk> Book<D> {
     /// Reserves for an ask, or says why not. After Ok a stop at any moment leaves the reservation.
     pub fn reserve(&mut self, ask: &Ask) -> Result<Grant, BookFault>
@@ -113,7 +127,7 @@ impl<D: Disk> Book<D> {
     {
         let grant = match self.ledger.verdict(ask) {
             Ok(grant) => grant,
-            Err(fault) => return Err(BookFault::Refused(fault)),
+            Err(fault) => return Err(refused_by(fault, &self.failure)),
         };
         let reservation = self.ledger.reservation(ask, &grant);
         let next = Record::Reserve(reservation);
@@ -175,6 +189,14 @@ impl<D: Disk> Book<D> {
         ensures { result ≡ left_of self.now.ledger }
     {
         self.ledger.left()
+    }
+
+    /// What an analyst has spent, and what it may spend at most.
+    pub fn mine(&self, analyst: u16) -> Mine
+        ensures mine { result ≡ mine_of self.now.ledger analyst }
+        ensures limited { IfSome result.limit (λ limit. result.spent ≤ limit) }
+    {
+        self.ledger.mine(analyst)
     }
 
     /// How many reservations there are, and how they ended.

@@ -54,7 +54,7 @@ fn opened<D: Disk>(alloc: Global, disk: D, capacity: u32) -> Result<Book<D>, (D,
     requires least { 2 ≤ capacity }
     requires most { capacity ≤ 100 }
 {
-    let entry = Entry::new(10_000_000, capacity, 2, Vec::new(alloc));
+    let entry = Entry::new(10_000_000, capacity, 2, Vec::new(alloc), Vec::new(alloc));
     Book::open(alloc, disk, entry, &header_of(capacity))
 }
 

@@ -160,7 +160,7 @@ fn asked<D: Disk + Drop + Send, R: Threads + Wait + Sync>(
 ) -> Option<Book<D>>
     requires { (1 ≤ e) × (e ≤ 1000000000) }
 {
-    let entry = Entry::new(10_000_000, 300, 2, Vec::new(alloc));
+    let entry = Entry::new(10_000_000, 300, 2, Vec::new(alloc), Vec::new(alloc));
     let book = Book::open(alloc, disk, entry, &header_in(2, 300)).ok()?;
     asked_by_four(rt, alloc, book, &asking(e)).ok()
 }

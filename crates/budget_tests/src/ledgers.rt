@@ -32,7 +32,7 @@ const ASK: Ask = Ask {
 
 // A budget of 10, room for 6 records, two analysts, and a partition with two keys.
 fn small_entry(alloc: Global) -> Result<Entry, AllocError> {
-    Ok(Entry::new(10, 6, 2, Vec::from_array(alloc, [2])?))
+    Ok(Entry::new(10, 6, 2, Vec::from_array(alloc, [2])?, Vec::new(alloc)))
 }
 
 // How many records these events lead to, the first number of the last run, and how many answers were sent.

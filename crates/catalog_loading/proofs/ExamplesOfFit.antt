@@ -25,7 +25,7 @@ abbrev table : (name file : List ℕ) → List NamedColumn → TableEntry
 table name file columns = record { name = name; file = file; columns = columns }
 
 abbrev owner : (budget : ℕ) → List PartitionEntry → List TableEntry → OwnerEntry
-owner budget partitions tables = record { name = a; budget = budget; capacity = 2; tables = tables; partitions = partitions; text = [] }
+owner budget partitions tables = record { name = a; budget = budget; capacity = 2; tables = tables; partitions = partitions; limits = []; text = [] }
 
 -- an owner of two tables, and another of these
 abbrev fit_with : List TableEntry → Result OwnerEntry (List ℕ)

@@ -1,5 +1,5 @@
 -- A journal that was just made has no records and is of the version that it was made in, so the book has the entry and nothing else.
-use Rattle.std.proofs.Common.{◌≡◌, ℕ, zero, suc, ◌^◌, ◌<◌, ◌≤◌, List, [], slice_index, Option, Some, None, refl, sym, ◌∙◌, ap, subst, arith}
+use Rattle.std.proofs.Common.{◌≡◌, ℕ, zero, suc, ◌^◌, ◌<◌, ◌≤◌, List, [], ◌∷◌, slice_index, Option, Some, None, refl, sym, ◌∙◌, ap, subst, arith}
 use Rattle.std.specs.Prelude.{replicate}
 use Rattle.outside_disks.specs.Disks.{Trace, WhereTold, seen_of}
 use Rattle.journal_records.specs.Encoding.{IsHeader, IsVersion}
@@ -56,17 +56,20 @@ header_lawful budget capacity version budget_fits capacity_fits known = record {
 }
 
 -- the entry in some version, by whatever names its parts have
-abbrev pub entry_with : (budget capacity : ℕ) (keys : List ℕ) (version : ℕ) → Entry
-entry_with budget capacity keys version = record { budget = budget; capacity = capacity; analysts = 1; keys = keys; version = version }
+abbrev pub entry_with : (budget capacity : ℕ) (keys : List ℕ) (limits : List (Option ℕ)) (version : ℕ) → Entry
+entry_with budget capacity keys limits version =
+    record { budget = budget; capacity = capacity; analysts = 1; keys = keys; version = version; limits = limits }
 
-pub entry_is : (asks budget capacity : ℕ) (keys : List ℕ) (version : ℕ) → budget ≡ budget_for asks → capacity ≡ capacity_for asks → keys ≡ []
-    → entry_with budget capacity keys version ≡ record (entry_for asks) { version = version }
-entry_is asks budget capacity keys version budget_is capacity_is none = λ i. entry_with (budget_is i) (capacity_is i) (none i) version
+pub entry_is : (asks budget capacity : ℕ) (keys : List ℕ) (limits : List (Option ℕ)) (version : ℕ) → budget ≡ budget_for asks
+    → capacity ≡ capacity_for asks → keys ≡ [] → limits ≡ None ∷ [] → entry_with budget capacity keys limits version ≡ record (entry_for asks) { version = version }
+entry_is asks budget capacity keys limits version budget_is capacity_is none no_limit =
+    λ i. entry_with (budget_is i) (capacity_is i) (none i) (no_limit i) version
 
-pub entry_lawful_with : (asks budget capacity : ℕ) (keys : List ℕ) (version : ℕ) → 1 ≤ asks → asks ≤ most_asks → budget ≡ budget_for asks → capacity ≡ capacity_for asks → keys ≡ []
-    → IsEntry (entry_with budget capacity keys version)
-entry_lawful_with asks budget capacity keys version some few budget_is capacity_is none =
-    subst IsEntry (sym (entry_is asks budget capacity keys version budget_is capacity_is none)) (entry_lawful asks version some few)
+pub entry_lawful_with : (asks budget capacity : ℕ) (keys : List ℕ) (limits : List (Option ℕ)) (version : ℕ) → 1 ≤ asks → asks ≤ most_asks
+    → budget ≡ budget_for asks → capacity ≡ capacity_for asks → keys ≡ [] → limits ≡ None ∷ []
+    → IsEntry (entry_with budget capacity keys limits version)
+entry_lawful_with asks budget capacity keys limits version some few budget_is capacity_is none no_limit =
+    subst IsEntry (sym (entry_is asks budget capacity keys limits version budget_is capacity_is none no_limit)) (entry_lawful asks version some few)
 
 abbrev ledger_with : Entry → List Record → Ledger
 ledger_with entry records = record { entry = entry; found = records; records = records }

@@ -1,5 +1,5 @@
 -- Worked examples, computed.
-use Rattle.std.proofs.Common.{◌≡◌, ◌++◌, [], ◌∷◌, slice_get, Some, false, refl, codes}
+use Rattle.std.proofs.Common.{◌≡◌, ◌++◌, [], ◌∷◌, slice_get, Some, None, false, refl, codes}
 use Rattle.std.specs.Prelude.{pos, replicate}
 use Rattle.journal_records.specs.declared.records.Outcome.TheVariants.{Exhausted}
 use Rattle.budget_core.specs.Cost.{comes_back}
@@ -22,7 +22,7 @@ versions = refl
 owners : (slice_get (house_for 7 3).owners 0 ≡ Some (the_owner 7 3)) × ((the_owner 7 3).entry ≡ entry_for 3)
 owners = (refl, refl)
 
-entry : entry_for 3 ≡ record { budget = 2000000; capacity = 6; analysts = 1; keys = []; version = 2 }
+entry : entry_for 3 ≡ record { budget = 2000000; capacity = 6; analysts = 1; keys = []; version = 2; limits = None ∷ [] }
 entry = refl
 
 -- so what an exhausted number was charged stays

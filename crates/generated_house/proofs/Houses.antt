@@ -15,7 +15,7 @@ use Rattle.metric_values.specs.Values.{NumF}
 use Rattle.budget_core.specs.Entries.{IsEntry}
 use Rattle.owner_catalog.specs.Entries.{Catalog, owner_signature}
 use Rattle.owner_catalog.specs.Forms.{is_catalog_name, is_file_byte, is_file_name, is_reserved, is_table_name}
-use Rattle.owner_catalog.specs.Lawful.{HasName, IsCatalog, IsCatalogName, IsOwner, IsTableEntry}
+use Rattle.owner_catalog.specs.Lawful.{HasLimitsFor, HasName, IsCatalog, IsCatalogName, IsOwner, IsTableEntry}
 use Rattle.generated_house.specs.Sizes.{budget_for, capacity_for, most_asks, paid_of, row_count}
 use Rattle.generated_house.specs.House.{catalog_for, entry_for, numbers_below, owner_for, people, rows_of_seed}
 
@@ -53,6 +53,9 @@ owner_lawful asks some few = record {
   few_partitions = omega arith;
   partitions = λ k d less. absurd (omega (arith, less));
   distinct_partitions = tt;
+  few_limits = omega arith;
+  limits = λ k d less. absurd (omega (arith, less));
+  distinct_limits = tt;
 }
 
 pub lawful : (asks : ℕ) → 1 ≤ asks → asks ≤ most_asks → IsCatalog (catalog_for asks)
@@ -65,6 +68,7 @@ lawful asks some few = record {
   some_owners = omega arith;
   few_owners = omega arith;
   owners = one_in IsOwner (owner_for asks) (owner_lawful asks some few);
+  limits = one_in (HasLimitsFor (codes "ann" ∷ [])) (owner_for asks) (λ k d less. absurd (omega (arith, less)));
   distinct_owners = (tt, tt);
 }
 
@@ -72,7 +76,7 @@ lawful asks some few = record {
 abbrev pub catalog_with : (budget capacity : ℕ) → Catalog
 catalog_with budget capacity = record {
   analysts = codes "ann" ∷ [];
-  owners = record { name = codes "gen"; budget = budget; capacity = capacity; tables = people ∷ []; partitions = []; text = [] } ∷ [];
+  owners = record { name = codes "gen"; budget = budget; capacity = capacity; tables = people ∷ []; partitions = []; limits = []; text = [] } ∷ [];
   text = [];
 }
 
@@ -91,6 +95,7 @@ entry_lawful asks version some few = record {
   analysts = omega arith;
   partitions = omega arith;
   keys = λ k d less. absurd (omega (arith, less));
+  limits = omega arith;
 }
 
 -- the rows grow number by number

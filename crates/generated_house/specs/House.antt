@@ -30,6 +30,7 @@ owner_for asks = record {
   capacity = capacity_for asks;
   tables = people ∷ [];
   partitions = [];
+  limits = [];
   text = [];
 }
 

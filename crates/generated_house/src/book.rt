@@ -34,11 +34,14 @@ pub fn generated_book(alloc: Global, asks: u32) -> Result<Book<MemDisk<'static>>
     ensures fresh { IfOk result (λ book. book.storage.closed ≡ None) }
     ensures book { IfOk result IsBook }
 {
+    let keys = Vec::new(alloc);
+    let limits = vec![in alloc; None]?;
     let entry = Entry::new(
         u64::from(paid_of(asks)) * PRICE,
         2 * asks,
         1,
-        Vec::new(alloc),
+        keys,
+        limits,
     )
     .with_version(VERSION);
     let header = Header {

@@ -28,7 +28,8 @@ abbrev a_table : TableEntry
 a_table = record { name = codes "t"; file = codes "f"; columns = a_column ∷ [] }
 
 abbrev an_owner : (budget capacity : ℕ) → List ℕ → OwnerEntry
-an_owner budget capacity compact = record { name = codes "o"; budget = budget; capacity = capacity; tables = a_table ∷ []; partitions = []; text = compact }
+an_owner budget capacity compact =
+    record { name = codes "o"; budget = budget; capacity = capacity; tables = a_table ∷ []; partitions = []; limits = []; text = compact }
 
 -- ---- a column: column 2 of table 1 of owner 3
 
@@ -344,7 +345,7 @@ key_double = refl
 -- ---- an owner: owner 3
 
 -- the compact text has the members in the order of their bytes
-owner : read_as (owner_in 3) (codes "{\"name\":\"o\",\"budget\":1,\"capacity\":2,\"tables\":[{\"name\":\"t\",\"file\":\"f\",\"columns\":[{\"na"
+owner : read_as (owner_in (codes "ann" ∷ []) 3) (codes "{\"name\":\"o\",\"budget\":1,\"capacity\":2,\"tables\":[{\"name\":\"t\",\"file\":\"f\",\"columns\":[{\"na"
     ++ codes "me\":\"a\",\"type\":\"num\"}]}],\"partitions\":[]}")
     ≡ Ok (an_owner (1) (2) (codes "{\"budget\":1,\"capacity\":2,\"name\":\"o\",\"partitions\":[],\"tables\":[{\"columns\":[{\"name\":\"a\","
     ++ codes "\"type\":\"num\"}],\"file\":\"f\",\"name\":\"t\"}]}"))
@@ -352,135 +353,135 @@ unfolding on_literals
 owner = refl
 
 -- blanks and the order of members in the file change nothing of it
-owner_with_blanks : read_as (owner_in 3) (codes "{\"name\": \"o\",\n \"budget\": 1,\n \"capacity\": 2,\n \"tables\": [{\"name\": \"t\",\n \"file\": \"f\","
+owner_with_blanks : read_as (owner_in (codes "ann" ∷ []) 3) (codes "{\"name\": \"o\",\n \"budget\": 1,\n \"capacity\": 2,\n \"tables\": [{\"name\": \"t\",\n \"file\": \"f\","
     ++ codes "\n \"columns\": [{\"name\": \"a\",\n \"type\": \"num\"}]}],\n \"partitions\": []}")
     ≡ Ok (an_owner (1) (2) (codes "{\"budget\":1,\"capacity\":2,\"name\":\"o\",\"partitions\":[],\"tables\":[{\"columns\":[{\"name\":\"a\","
     ++ codes "\"type\":\"num\"}],\"file\":\"f\",\"name\":\"t\"}]}"))
 unfolding on_literals
 owner_with_blanks = refl
 
-owner_kind : read_as (owner_in 3) (codes "null") ≡ bad Kind (place at.Owner 3 0 0)
+owner_kind : read_as (owner_in (codes "ann" ∷ []) 3) (codes "null") ≡ bad Kind (place at.Owner 3 0 0)
 unfolding on_literals
 owner_kind = refl
 
-owner_missing : read_as (owner_in 3) (codes "{\"name\":7,\"capacity\":7,\"tables\":7,\"a\":7}") ≡ bad Missing (place at.Budget 3 0 0)
+owner_missing : read_as (owner_in (codes "ann" ∷ []) 3) (codes "{\"name\":7,\"capacity\":7,\"tables\":7,\"a\":7}") ≡ bad Missing (place at.Budget 3 0 0)
 unfolding on_literals
 owner_missing = refl
 
-owner_missing_last : read_as (owner_in 3) (codes "{\"name\":7,\"budget\":7,\"capacity\":7,\"tables\":7,\"a\":7}")
+owner_missing_last : read_as (owner_in (codes "ann" ∷ []) 3) (codes "{\"name\":7,\"budget\":7,\"capacity\":7,\"tables\":7,\"a\":7}")
     ≡ bad Missing (place at.Partitions 3 0 0)
 unfolding on_literals
 owner_missing_last = refl
 
-owner_unknown : read_as (owner_in 3) (codes "{\"name\":7,\"budget\":7,\"capacity\":7,\"tables\":7,\"partitions\":7,\"a\":7}")
+owner_unknown : read_as (owner_in (codes "ann" ∷ []) 3) (codes "{\"name\":7,\"budget\":7,\"capacity\":7,\"tables\":7,\"partitions\":7,\"a\":7}")
     ≡ bad (Unknown (codes "a")) (place at.Owner 3 0 0)
 unfolding on_literals
 owner_unknown = refl
 
-owner_name : read_as (owner_in 3) (codes "{\"name\":\"o-o\",\"budget\":0,\"capacity\":2,\"tables\":[{\"name\":\"t\",\"file\":\"f\",\"columns\":[{\""
+owner_name : read_as (owner_in (codes "ann" ∷ []) 3) (codes "{\"name\":\"o-o\",\"budget\":0,\"capacity\":2,\"tables\":[{\"name\":\"t\",\"file\":\"f\",\"columns\":[{\""
     ++ codes "name\":\"a\",\"type\":\"num\"}]}],\"partitions\":[]}") ≡ bad Form (place at.OwnerName 3 0 0)
 unfolding on_literals
 owner_name = refl
 
-budget_none : read_as (owner_in 3) (codes "{\"name\":\"o\",\"budget\":0,\"capacity\":0,\"tables\":[{\"name\":\"t\",\"file\":\"f\",\"columns\":[{\"na"
+budget_none : read_as (owner_in (codes "ann" ∷ []) 3) (codes "{\"name\":\"o\",\"budget\":0,\"capacity\":0,\"tables\":[{\"name\":\"t\",\"file\":\"f\",\"columns\":[{\"na"
     ++ codes "me\":\"a\",\"type\":\"num\"}]}],\"partitions\":[]}") ≡ bad Range (place at.Budget 3 0 0)
 unfolding on_literals
 budget_none = refl
 
-budget_most : read_as (owner_in 3) (codes "{\"name\":\"o\",\"budget\":1000000000000000000,\"capacity\":2,\"tables\":[{\"name\":\"t\",\"file\":\"f\","
+budget_most : read_as (owner_in (codes "ann" ∷ []) 3) (codes "{\"name\":\"o\",\"budget\":1000000000000000000,\"capacity\":2,\"tables\":[{\"name\":\"t\",\"file\":\"f\","
     ++ codes "\"columns\":[{\"name\":\"a\",\"type\":\"num\"}]}],\"partitions\":[]}")
     ≡ Ok (an_owner (10 ^ 18) (2) (codes "{\"budget\":1000000000000000000,\"capacity\":2,\"name\":\"o\",\"partitions\":[],\"tables\":[{\"columns\":"
     ++ codes "[{\"name\":\"a\",\"type\":\"num\"}],\"file\":\"f\",\"name\":\"t\"}]}"))
 unfolding on_literals
 budget_most = refl
 
-budget_over : read_as (owner_in 3) (codes "{\"name\":\"o\",\"budget\":1000000000000000001,\"capacity\":2,\"tables\":[{\"name\":\"t\",\"file\":\"f\","
+budget_over : read_as (owner_in (codes "ann" ∷ []) 3) (codes "{\"name\":\"o\",\"budget\":1000000000000000001,\"capacity\":2,\"tables\":[{\"name\":\"t\",\"file\":\"f\","
     ++ codes "\"columns\":[{\"name\":\"a\",\"type\":\"num\"}]}],\"partitions\":[]}") ≡ bad Range (place at.Budget 3 0 0)
 unfolding on_literals
 budget_over = refl
 
 -- a number of 64 bits is a whole one, and no other is
-budget_greatest_whole : read_as (owner_in 3) (codes "{\"name\":\"o\",\"budget\":18446744073709551615,\"capacity\":2,\"tables\":[{\"name\":\"t\",\"file\":\"f\""
+budget_greatest_whole : read_as (owner_in (codes "ann" ∷ []) 3) (codes "{\"name\":\"o\",\"budget\":18446744073709551615,\"capacity\":2,\"tables\":[{\"name\":\"t\",\"file\":\"f\""
     ++ codes ",\"columns\":[{\"name\":\"a\",\"type\":\"num\"}]}],\"partitions\":[]}") ≡ bad Range (place at.Budget 3 0 0)
 unfolding on_literals
 budget_greatest_whole = refl
 
-budget_negative : read_as (owner_in 3) (codes "{\"name\":\"o\",\"budget\":-1,\"capacity\":2,\"tables\":[{\"name\":\"t\",\"file\":\"f\",\"columns\":[{\"n"
+budget_negative : read_as (owner_in (codes "ann" ∷ []) 3) (codes "{\"name\":\"o\",\"budget\":-1,\"capacity\":2,\"tables\":[{\"name\":\"t\",\"file\":\"f\",\"columns\":[{\"n"
     ++ codes "ame\":\"a\",\"type\":\"num\"}]}],\"partitions\":[]}") ≡ bad Kind (place at.Budget 3 0 0)
 unfolding on_literals
 budget_negative = refl
 
-budget_text : read_as (owner_in 3) (codes "{\"name\":\"o\",\"budget\":\"1\",\"capacity\":2,\"tables\":[{\"name\":\"t\",\"file\":\"f\",\"columns\":[{"
+budget_text : read_as (owner_in (codes "ann" ∷ []) 3) (codes "{\"name\":\"o\",\"budget\":\"1\",\"capacity\":2,\"tables\":[{\"name\":\"t\",\"file\":\"f\",\"columns\":[{"
     ++ codes "\"name\":\"a\",\"type\":\"num\"}]}],\"partitions\":[]}") ≡ bad Kind (place at.Budget 3 0 0)
 unfolding on_literals
 budget_text = refl
 
-capacity_one : read_as (owner_in 3) (codes "{\"name\":\"o\",\"budget\":1,\"capacity\":1,\"tables\":0,\"partitions\":[]}")
+capacity_one : read_as (owner_in (codes "ann" ∷ []) 3) (codes "{\"name\":\"o\",\"budget\":1,\"capacity\":1,\"tables\":0,\"partitions\":[]}")
     ≡ bad Range (place at.Capacity 3 0 0)
 unfolding on_literals
 capacity_one = refl
 
-capacity_most : read_as (owner_in 3) (codes "{\"name\":\"o\",\"budget\":1,\"capacity\":262144,\"tables\":[{\"name\":\"t\",\"file\":\"f\",\"columns\":["
+capacity_most : read_as (owner_in (codes "ann" ∷ []) 3) (codes "{\"name\":\"o\",\"budget\":1,\"capacity\":262144,\"tables\":[{\"name\":\"t\",\"file\":\"f\",\"columns\":["
     ++ codes "{\"name\":\"a\",\"type\":\"num\"}]}],\"partitions\":[]}")
     ≡ Ok (an_owner (1) (262144) (codes "{\"budget\":1,\"capacity\":262144,\"name\":\"o\",\"partitions\":[],\"tables\":[{\"columns\":[{\"name\":\""
     ++ codes "a\",\"type\":\"num\"}],\"file\":\"f\",\"name\":\"t\"}]}"))
 unfolding on_literals
 capacity_most = refl
 
-capacity_over : read_as (owner_in 3) (codes "{\"name\":\"o\",\"budget\":1,\"capacity\":262145,\"tables\":[{\"name\":\"t\",\"file\":\"f\",\"columns\":["
+capacity_over : read_as (owner_in (codes "ann" ∷ []) 3) (codes "{\"name\":\"o\",\"budget\":1,\"capacity\":262145,\"tables\":[{\"name\":\"t\",\"file\":\"f\",\"columns\":["
     ++ codes "{\"name\":\"a\",\"type\":\"num\"}]}],\"partitions\":[]}") ≡ bad Range (place at.Capacity 3 0 0)
 unfolding on_literals
 capacity_over = refl
 
-tables_kind : read_as (owner_in 3) (codes "{\"name\":\"o\",\"budget\":1,\"capacity\":2,\"tables\":{},\"partitions\":{}}")
+tables_kind : read_as (owner_in (codes "ann" ∷ []) 3) (codes "{\"name\":\"o\",\"budget\":1,\"capacity\":2,\"tables\":{},\"partitions\":{}}")
     ≡ bad Kind (place at.Tables 3 0 0)
 unfolding on_literals
 tables_kind = refl
 
-tables_none : read_as (owner_in 3) (codes "{\"name\":\"o\",\"budget\":1,\"capacity\":2,\"tables\":[],\"partitions\":[]}")
+tables_none : read_as (owner_in (codes "ann" ∷ []) 3) (codes "{\"name\":\"o\",\"budget\":1,\"capacity\":2,\"tables\":[],\"partitions\":[]}")
     ≡ bad Count (place at.Tables 3 0 0)
 unfolding on_literals
 tables_none = refl
 
-tables_nine : read_as (owner_in 3) (codes "{\"name\":\"o\",\"budget\":1,\"capacity\":2,\"tables\":[0,0,0,0,0,0,0,0,0],\"partitions\":[]}")
+tables_nine : read_as (owner_in (codes "ann" ∷ []) 3) (codes "{\"name\":\"o\",\"budget\":1,\"capacity\":2,\"tables\":[0,0,0,0,0,0,0,0,0],\"partitions\":[]}")
     ≡ bad Count (place at.Tables 3 0 0)
 unfolding on_literals
 tables_nine = refl
 
 -- eight are not too many, so the first of them counts
-tables_eight : read_as (owner_in 3) (codes "{\"name\":\"o\",\"budget\":1,\"capacity\":2,\"tables\":[0,0,0,0,0,0,0,0],\"partitions\":[]}")
+tables_eight : read_as (owner_in (codes "ann" ∷ []) 3) (codes "{\"name\":\"o\",\"budget\":1,\"capacity\":2,\"tables\":[0,0,0,0,0,0,0,0],\"partitions\":[]}")
     ≡ bad Kind (place at.Table 3 0 0)
 unfolding on_literals
 tables_eight = refl
 
-table_double : read_as (owner_in 3) (codes "{\"name\":\"o\",\"budget\":1,\"capacity\":2,\"tables\":[{\"name\":\"t\",\"file\":\"f\",\"columns\":[{\"na"
+table_double : read_as (owner_in (codes "ann" ∷ []) 3) (codes "{\"name\":\"o\",\"budget\":1,\"capacity\":2,\"tables\":[{\"name\":\"t\",\"file\":\"f\",\"columns\":[{\"na"
     ++ codes "me\":\"a\",\"type\":\"num\"}]},{\"name\":\"t\",\"file\":\"g\",\"columns\":[{\"name\":\"a\",\"type\":\"num"
     ++ codes "\"}]}],\"partitions\":[]}") ≡ bad Double (place at.Table 3 1 0)
 unfolding on_literals
 table_double = refl
 
-partitions_kind : read_as (owner_in 3) (codes "{\"name\":\"o\",\"budget\":1,\"capacity\":2,\"tables\":[{\"name\":\"t\",\"file\":\"f\",\"columns\":[{\"na"
+partitions_kind : read_as (owner_in (codes "ann" ∷ []) 3) (codes "{\"name\":\"o\",\"budget\":1,\"capacity\":2,\"tables\":[{\"name\":\"t\",\"file\":\"f\",\"columns\":[{\"na"
     ++ codes "me\":\"a\",\"type\":\"num\"}]}],\"partitions\":0}") ≡ bad Kind (place at.Partitions 3 0 0)
 unfolding on_literals
 partitions_kind = refl
 
-partitions_nine : read_as (owner_in 3) (codes "{\"name\":\"o\",\"budget\":1,\"capacity\":2,\"tables\":[{\"name\":\"t\",\"file\":\"f\",\"columns\":[{\"na"
+partitions_nine : read_as (owner_in (codes "ann" ∷ []) 3) (codes "{\"name\":\"o\",\"budget\":1,\"capacity\":2,\"tables\":[{\"name\":\"t\",\"file\":\"f\",\"columns\":[{\"na"
     ++ codes "me\":\"a\",\"type\":\"num\"}]}],\"partitions\":[0,0,0,0,0,0,0,0,0]}") ≡ bad Count (place at.Partitions 3 0 0)
 unfolding on_literals
 partitions_nine = refl
 
-partitions_eight : read_as (owner_in 3) (codes "{\"name\":\"o\",\"budget\":1,\"capacity\":2,\"tables\":[{\"name\":\"t\",\"file\":\"f\",\"columns\":[{\"na"
+partitions_eight : read_as (owner_in (codes "ann" ∷ []) 3) (codes "{\"name\":\"o\",\"budget\":1,\"capacity\":2,\"tables\":[{\"name\":\"t\",\"file\":\"f\",\"columns\":[{\"na"
     ++ codes "me\":\"a\",\"type\":\"num\"}]}],\"partitions\":[0,0,0,0,0,0,0,0]}") ≡ bad Kind (place at.Partition 3 0 0)
 unfolding on_literals
 partitions_eight = refl
 
-partition_double : read_as (owner_in 3) (codes "{\"name\":\"o\",\"budget\":1,\"capacity\":2,\"tables\":[{\"name\":\"t\",\"file\":\"f\",\"columns\":[{\"na"
+partition_double : read_as (owner_in (codes "ann" ∷ []) 3) (codes "{\"name\":\"o\",\"budget\":1,\"capacity\":2,\"tables\":[{\"name\":\"t\",\"file\":\"f\",\"columns\":[{\"na"
     ++ codes "me\":\"a\",\"type\":\"text\"}]}],\"partitions\":[{\"name\":\"p\",\"table\":\"t\",\"column\":\"a\",\"keys"
     ++ codes "\":[\"A\"]},{\"name\":\"p\",\"table\":\"t\",\"column\":\"a\",\"keys\":[\"A\"]}]}") ≡ bad Double (place at.Partition 3 1 0)
 unfolding on_literals
 partition_double = refl
 
-owner_with_partition : read_as (owner_in 3) (codes "{\"name\":\"o\",\"budget\":1,\"capacity\":2,\"tables\":[{\"name\":\"t\",\"file\":\"f\",\"columns\":[{\"na"
+owner_with_partition : read_as (owner_in (codes "ann" ∷ []) 3) (codes "{\"name\":\"o\",\"budget\":1,\"capacity\":2,\"tables\":[{\"name\":\"t\",\"file\":\"f\",\"columns\":[{\"na"
     ++ codes "me\":\"a\",\"type\":\"text\"}]}],\"partitions\":[{\"name\":\"p\",\"table\":\"t\",\"column\":\"a\",\"keys"
     ++ codes "\":[\"A\"]}]}") ≡ Ok (record {
       name = codes "o";
@@ -488,6 +489,7 @@ owner_with_partition : read_as (owner_in 3) (codes "{\"name\":\"o\",\"budget\":1
       capacity = 2;
       tables = record { name = codes "t"; file = codes "f"; columns = text (codes "a") ∷ [] } ∷ [];
       partitions = record { name = codes "p"; table = 0; column = 0; keys = codes "A" ∷ [] } ∷ [];
+      limits = [];
       text = codes "{\"budget\":1,\"capacity\":2,\"name\":\"o\",\"partitions\":[{\"column\":\"a\",\"keys\":[\"A\"],\"name\":"
           ++ codes "\"p\",\"table\":\"t\"}],\"tables\":[{\"columns\":[{\"name\":\"a\",\"type\":\"text\"}],\"file\":\"f\",\"na"
           ++ codes "me\":\"t\"}]}";

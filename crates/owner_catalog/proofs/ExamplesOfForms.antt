@@ -95,7 +95,7 @@ partition_named_fun : (read_as (partition_in 3 tables 1) (partition_of (codes "f
 unfolding on_literals
 partition_named_fun = refl
 
-owner_named_fun : (read_as (owner_in 3) (codes "{\"name\":\"fun\",\"budget\":1,\"capacity\":2,\"tables\":[" ++ table_of (codes "t") (codes "f") ++ codes "],\"partitions\":[]}")
+owner_named_fun : (read_as (owner_in [] 3) (codes "{\"name\":\"fun\",\"budget\":1,\"capacity\":2,\"tables\":[" ++ table_of (codes "t") (codes "f") ++ codes "],\"partitions\":[]}")
     >>= λ (owner : OwnerEntry). Ok owner.name) ≡ Ok (codes "fun")
 unfolding on_literals
 owner_named_fun = refl
@@ -166,7 +166,7 @@ a_table_s_name_is_a_token text h =
 -- ---- what a digest is taken of
 
 abbrev an_owner : OwnerEntry
-an_owner = record { name = codes "o"; budget = 1; capacity = 2; tables = tables ++ tables; partitions = []; text = codes "{o}" }
+an_owner = record { name = codes "o"; budget = 1; capacity = 2; tables = tables ++ tables; partitions = []; limits = []; text = codes "{o}" }
 
 abbrev two_owners : Catalog
 two_owners = record { analysts = codes "ann" ∷ []; owners = record an_owner { text = codes "{n}" } ∷ an_owner ∷ []; text = codes "[a]" }

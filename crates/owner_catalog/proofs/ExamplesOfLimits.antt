@@ -91,21 +91,21 @@ keys_4001 = refl
 abbrev named_in : OwnerEntry → List (List ℕ) × List (List ℕ)
 named_in owner = (map table_name owner.tables, map partition_name owner.partitions)
 
-eight_tables_and_partitions : read_as (λ d. owner_in 3 d >>= λ owner. Ok (named_in owner)) (owner_text (codes "o") (names 8) (names 8))
+eight_tables_and_partitions : read_as (λ d. owner_in [] 3 d >>= λ owner. Ok (named_in owner)) (owner_text (codes "o") (names 8) (names 8))
     ≡ Ok (names 8, names 8)
 unfolding on_literals
 eight_tables_and_partitions = refl
 
-nine_tables : read_as (owner_in 3) (owner_text (codes "o") (names 9) []) ≡ bad Count (place at.Tables 3 0 0)
+nine_tables : read_as (owner_in [] 3) (owner_text (codes "o") (names 9) []) ≡ bad Count (place at.Tables 3 0 0)
 unfolding on_literals
 nine_tables = refl
 
-nine_partitions : read_as (owner_in 3) (owner_text (codes "o") (names 1) (names 9)) ≡ bad Count (place at.Partitions 3 0 0)
+nine_partitions : read_as (owner_in [] 3) (owner_text (codes "o") (names 1) (names 9)) ≡ bad Count (place at.Partitions 3 0 0)
 unfolding on_literals
 nine_partitions = refl
 
 -- a number of more than 64 bits is no whole one
-budget_of_65_bits : read_as (owner_in 3) (codes "{\"name\":\"o\",\"budget\":18446744073709551616,\"capacity\":2,\"tables\":[],\"partitions\":[]}")
+budget_of_65_bits : read_as (owner_in [] 3) (codes "{\"name\":\"o\",\"budget\":18446744073709551616,\"capacity\":2,\"tables\":[],\"partitions\":[]}")
     ≡ bad Kind (place at.Budget 3 0 0)
 unfolding on_literals
 budget_of_65_bits = refl

@@ -1,8 +1,9 @@
 -- What is read keeps the rules of a catalog.
-use Rattle.std.proofs.Common.{◌≡◌, ◌≤◌, ◌<◌, ◌+◌, ◌^◌, ◌&&◌, ℕ, Bool, true, false, List, [], ◌∷◌, ◌++◌, map, length, length-append, position, get_or, nat_le, nat_lt, suc, cond, if◌then◌else◌, Option, Some, None, option_and_then, option_map, Result, Ok, Err, bytes_eq, refl, sym, ap, subst, arith, true≢false}
+use Rattle.std.proofs.Common.{◌≡◌, ◌≤◌, ◌<◌, ◌+◌, ◌^◌, ◌&&◌, ◌||◌, ℕ, Bool, true, false, List, [], ◌∷◌, ◌++◌, map, length, length-append, position, get_or, nat_le, nat_lt, zero, suc, cond, if◌then◌else◌, Option, Some, None, option_and_then, option_map, Result, Ok, Err, bytes_eq, refl, sym, ap, subst, arith, true≢false}
 use Rattle.std.specs.List.{All, list_any, IsDistinct, position_or_len}
 use Rattle.std.proofs.lemmas.Option.{slice_get-get_or}
 use Rattle.std.proofs.lemmas.Bool.{leb-true, ltb-true}
+use Rattle.std.proofs.lemmas.Slice.Eq.{bytes_eq-Decides}
 use Rattle.std.proofs.lemmas.List.Elements.{All-nil, All-push}
 use Rattle.serde_json.specs.Data.{Data}
 use Rattle.partition_charge.specs.Views.{part_limit}
@@ -16,14 +17,15 @@ use Rattle.owner_catalog.specs.declared.fault.CatalogFault.TheVariants.{Bad}
 use Rattle.owner_catalog.specs.declared.fault.Member.TheVariants as at
 use Rattle.owner_catalog.specs.declared.fault.Place.{Place}
 use Rattle.owner_catalog.specs.declared.reading.Labels.TheVariants.{Analysts, Keys}
-use Rattle.serde_json.specs.Find.{as_array, as_number, as_str, as_u64}
+use Rattle.serde_json.specs.Find.{as_array, as_number, as_str, as_u64, get}
 use Rattle.owner_catalog.specs.Limits.{owner_limit}
-use Rattle.owner_catalog.specs.Members.{catalog_members, owner_members, table_members, column_members, partition_members}
-use Rattle.owner_catalog.specs.Entries.{TableEntry, PartitionEntry, OwnerEntry, Catalog, table_name, table_columns, partition_name, owner_name}
+use Rattle.owner_catalog.specs.Members.{catalog_members, owner_members, table_members, column_members, partition_members, limit_members, member_name}
+use Rattle.owner_catalog.specs.Entries.{TableEntry, PartitionEntry, LimitEntry, OwnerEntry, Catalog, table_name, table_columns}
+use Rattle.owner_catalog.specs.Entries.{partition_name, limit_analyst, owner_name}
 use Rattle.owner_catalog.specs.Forms.{is_catalog_name, is_table_name, is_file_name, is_key}
-use Rattle.owner_catalog.specs.Fault.{◌>>=◌, bad, or_bad, formed_text_in, bounded_number_in, object_in, data_of, counted_in, items_from, list_in, place, the}
-use Rattle.owner_catalog.specs.Catalog.{catalog_in_file, catalog_in, json_in, owner_in, partition_in, table_in, column_in, kind_in, label_in, label_place, one_in, is_text_column}
-use Rattle.owner_catalog.specs.Lawful.{HasName, IsCatalogName, IsKey, IsTableEntry, IsPartition, IsOwner, IsCatalog}
+use Rattle.owner_catalog.specs.Fault.{◌>>=◌, bad, or_bad, formed_text_in, bounded_number_in, object_in, data_of, counted_in, items_from, list_in, optional_in, place, the}
+use Rattle.owner_catalog.specs.Catalog.{catalog_in_file, catalog_in, json_in, owner_in, limit_in, partition_in, table_in, column_in, kind_in, label_in, label_place, one_in, is_text_column}
+use Rattle.owner_catalog.specs.Lawful.{HasName, IsCatalogName, IsKey, IsTableEntry, IsPartition, IsLimit, IsOwner, HasLimitsFor, IsCatalog}
 use Rattle.owner_catalog.proofs.Lists.{distinct_none, distinct_more}
 
 -- both parts of a chain went well
@@ -199,9 +201,43 @@ partition_ok o tables p d x is =
       distinct = rw (map-id keys) at all.3;
     }))))))
 
-owner_ok : (o : ℕ) (d : Data) (x : OwnerEntry) → owner_in o d ≡ Ok x → IsOwner x
+or_true : (a b : Bool) → b ≡ true → (a || b) ≡ true
+or_true true b h = refl
+or_true false b h = h
+
+-- what stands in a list is one of it
+is_in : (names : List (List ℕ)) (n : ℕ) → n < length names → list_any (bytes_eq (get_or names n [])) names ≡ true
+is_in [] n low = absurd (omega arith)
+is_in (name ∷ names) zero low = rw ((bytes_eq-Decides name name).1 refl) refl
+is_in (name ∷ names) (suc n) low = or_true _ _ (is_in names n (omega arith))
+
+-- a limit that keeps the rules, for one of some analysts
+abbrev IsLimitFor : (analysts : List (List ℕ)) → LimitEntry → Type 0
+IsLimitFor analysts limit = IsLimit limit × (list_any (bytes_eq limit.analyst) analysts ≡ true)
+
+limit_ok : (o : ℕ) (analysts : List (List ℕ)) (l : ℕ) (d : Data) (x : LimitEntry) → limit_in o analysts l d ≡ Ok x → IsLimitFor analysts x
+unfolding limit_in
+limit_ok o analysts l d x is =
+    went_well (object_in limit_members at.Limit (λ m. place m o l 0) d) _ x is (λ _ _ is.
+    went_well (one_in bytes_eq analysts (place at.LimitAnalyst o l 0) (the at.LimitAnalyst d)) _ x is (λ analyst found is.
+    went_well (bounded_number_in 1 (10 ^ 18) (place at.LimitBudget o l 0) (the at.LimitBudget d)) _ x is (λ budget budgeted is.
+    let money = number_ok _ _ _ _ budget budgeted in
+    let there = one_ok bytes_eq analysts _ _ analyst [] found in
+    subst (IsLimitFor analysts) (same_ok _ x is) (record { least = money.0; most = money.1 }, is_in analysts analyst there.0))))
+
+limits_ok : (o : ℕ) (analysts : List (List ℕ)) (there : Option Data) (xs : List LimitEntry)
+    → optional_in [] (list_in 0 64 (place at.Limits o 0 0) limit_analyst (λ l. place at.Limit o l 0) (limit_in o analysts)) there ≡ Ok xs
+    → (length xs ≤ 64) × All (IsLimitFor analysts) xs × IsDistinct bytes_eq (map limit_analyst xs)
+limits_ok o analysts None xs is =
+    subst (λ ys. (length ys ≤ 64) × All (IsLimitFor analysts) ys × IsDistinct bytes_eq (map limit_analyst ys)) (same_ok [] xs is)
+    (omega arith, All-nil (IsLimitFor analysts), distinct_none _)
+limits_ok o analysts (Some d) xs is =
+    let all = list_ok limit_analyst _ _ (IsLimitFor analysts) (limit_ok o analysts) _ _ _ _ xs is in
+    (all.1, all.2, all.3)
+
+owner_ok : (analysts : List (List ℕ)) (o : ℕ) (d : Data) (x : OwnerEntry) → owner_in analysts o d ≡ Ok x → IsOwner x × HasLimitsFor analysts x
 unfolding owner_in
-owner_ok o d x is =
+owner_ok analysts o d x is =
     went_well (object_in owner_members at.Owner (λ m. place m o 0 0) d) _ x is (λ _ _ is.
     went_well (formed_text_in is_catalog_name (place at.OwnerName o 0 0) (the at.OwnerName d)) _ x is (λ name named is.
     went_well (bounded_number_in 1 (10 ^ 18) (place at.Budget o 0 0) (the at.Budget d)) _ x is (λ budget budgeted is.
@@ -209,11 +245,14 @@ owner_ok o d x is =
     went_well (list_in 1 8 (place at.Tables o 0 0) table_name (λ t. place at.Table o t 0) (table_in o) (the at.Tables d)) _ x is (λ tables listed is.
     went_well (list_in 0 8 (place at.Partitions o 0 0) partition_name
     (λ p. place at.Partition o p 0) (partition_in o tables) (the at.Partitions d)) _ x is (λ partitions parted is.
+    went_well (optional_in [] (list_in 0 64 (place at.Limits o 0 0) limit_analyst (λ l. place at.Limit o l 0) (limit_in o analysts))
+    (get (member_name at.Limits) d)) _ x is (λ limits limited is.
     let all = list_ok table_name _ _ IsTableEntry (table_ok o) _ _ _ _ tables listed in
     let parts = list_ok partition_name _ _ (IsPartition tables) (partition_ok o tables) _ _ _ _ partitions parted in
     let money = number_ok _ _ _ _ budget budgeted in
     let room = number_ok _ _ _ _ capacity sized in
-    subst IsOwner (same_ok _ x is) (record {
+    let bounds = limits_ok o analysts _ limits limited in
+    subst (λ owner. IsOwner owner × HasLimitsFor analysts owner) (same_ok _ x is) (record {
       name = text_ok is_catalog_name _ _ name named;
       least_budget = money.0;
       most_budget = money.1;
@@ -226,17 +265,20 @@ owner_ok o d x is =
       few_partitions = parts.1;
       partitions = parts.2;
       distinct_partitions = parts.3;
-    })))))))
+      few_limits = bounds.0;
+      limits = λ l limit low. (bounds.1 l limit low).0;
+      distinct_limits = bounds.2;
+    }, λ l limit low. (bounds.1 l limit low).1))))))))
 
 -- analysts and owners that were read are a catalog's
 pub parts_ok : (analysts : List (List ℕ)) (owners : List OwnerEntry) (text : List ℕ) (d : Data)
     → list_in 1 64 (place at.Analysts 0 0 0) (λ name. name) (label_place Analysts) (label_in Analysts) (the at.Analysts d) ≡ Ok analysts
-    → list_in 1 owner_limit (place at.Owners 0 0 0) owner_name (λ o. place at.Owner o 0 0) owner_in (the at.Owners d) ≡ Ok owners
+    → list_in 1 owner_limit (place at.Owners 0 0 0) owner_name (λ o. place at.Owner o 0 0) (owner_in analysts) (the at.Owners d) ≡ Ok owners
     → IsCatalog (record { analysts = analysts; owners = owners; text = text })
 parts_ok analysts owners text d listed owned =
     let all = list_ok (λ name. name) (label_place Analysts) (label_in Analysts) IsCatalogName (λ a d s reads. text_ok is_catalog_name
     (place at.Analyst 0 a 0) d s reads) _ _ _ _ analysts listed in
-    let each = list_ok owner_name _ _ IsOwner owner_ok _ _ _ _ owners owned in
+    let each = list_ok owner_name _ _ (λ owner. IsOwner owner × HasLimitsFor analysts owner) (owner_ok analysts) _ _ _ _ owners owned in
     record {
       some_analysts = all.0;
       few_analysts = all.1;
@@ -244,7 +286,8 @@ parts_ok analysts owners text d listed owned =
       distinct_analysts = rw (map-id analysts) at all.3;
       some_owners = each.0;
       few_owners = each.1;
-      owners = each.2;
+      owners = λ o owner low. (each.2 o owner low).0;
+      limits = λ o owner low. (each.2 o owner low).1;
       distinct_owners = each.3;
     }
 
@@ -256,5 +299,5 @@ every_catalog_keeps_the_rules bytes catalog is =
     went_well (object_in catalog_members at.Catalog (λ m. place m 0 0 0) d) _ catalog is (λ _ _ is.
     went_well (list_in 1 64 (place at.Analysts 0 0 0) (λ name. name) (label_place Analysts) (label_in Analysts) (the at.Analysts d)) _ catalog is
     (λ analysts listed is.
-    went_well (list_in 1 owner_limit (place at.Owners 0 0 0) owner_name (λ o. place at.Owner o 0 0) owner_in (the at.Owners d)) _ catalog is (λ owners owned is.
+    went_well (list_in 1 owner_limit (place at.Owners 0 0 0) owner_name (λ o. place at.Owner o 0 0) (owner_in analysts) (the at.Owners d)) _ catalog is (λ owners owned is.
     subst IsCatalog (same_ok _ catalog is) (parts_ok analysts owners _ d listed owned)))))

@@ -1,3 +1,4 @@
+mod ExamplesOfAnalysts
 mod ExamplesOfFaults
 mod ExamplesOfForms
 mod ExamplesOfLimits

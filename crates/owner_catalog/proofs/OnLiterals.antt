@@ -10,7 +10,7 @@ use Rattle.fz_lexer.specs.Words.{spelling}
 use Rattle.owner_catalog.specs.Forms.{is_reserved, is_catalog_name, is_table_name, is_file_byte, is_file_name, is_key_byte, is_key}
 use Rattle.owner_catalog.specs.Members.{member_name}
 use Rattle.owner_catalog.specs.Fault.{formed_text_in, bounded_number_in, object_in, counted_in, items_from, list_in}
-use Rattle.owner_catalog.specs.Catalog.{kind_in, column_in, table_in, one_in, partition_in, owner_in, catalog_in, json_in, catalog_in_file}
+use Rattle.owner_catalog.specs.Catalog.{kind_in, column_in, table_in, one_in, partition_in, limit_in, owner_in, catalog_in, json_in, catalog_in_file}
 
 unfoldable json_on_literals : ⊤
 unfolding serde_json_on_literals is_utf8 chars encode digits scan_numeral
@@ -25,5 +25,5 @@ unfolding member_name formed_text_in bounded_number_in object_in counted_in item
 parts_on_literals = tt
 
 unfoldable pub on_literals : ⊤
-unfolding json_on_literals forms_on_literals parts_on_literals kind_in column_in table_in one_in partition_in owner_in catalog_in json_in catalog_in_file
+unfolding json_on_literals forms_on_literals parts_on_literals kind_in column_in table_in one_in partition_in limit_in owner_in catalog_in json_in catalog_in_file
 on_literals = tt

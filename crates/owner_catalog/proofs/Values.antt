@@ -18,7 +18,7 @@ use Rattle.serde_json.specs.declared.value.Value.{Value}
 use Rattle.serde_json.proofs.Views.{Entry, member_here, member_later}
 use Rattle.owner_catalog.specs.Plain.{HasNoFloat}
 use Rattle.owner_catalog.specs.Members.{member_name}
-use Rattle.owner_catalog.specs.Fault.{the, bad, data_of, counted_in, first_missing, first_unknown, is_known}
+use Rattle.owner_catalog.specs.Fault.{the, bad, data_of, counted_in, first_missing, first_unknown, has_or_may_lack, is_known}
 use Rattle.owner_catalog.specs.declared.fault.FaultKind.TheVariants.{Count}
 use Rattle.owner_catalog.specs.declared.fault.Member.{Member}
 use Rattle.owner_catalog.specs.declared.fault.Place.{Place}
@@ -49,16 +49,15 @@ plain_as_array (object ms) ds is h = cc
 pub plain_array : (d : Data) (vs : List Value) → Some (items_view vs) ≡ as_array d → AllByRecursion HasNoFloat vs → has_float d ≡ false
 plain_array d vs is h = plain_as_array d _ is (plain_items vs h)
 
--- nothing is missing, so each is there
-there_at : (m : Member) (ms : List Member) (d : Data) (o : Option Data) → get (member_name m) d ≡ o
-    → (None ≡ first_missing ms d → AllByRecursion (λ m. IsSome (get (member_name m) d)) ms)
-    → None ≡ first_missing (m ∷ ms) d → AllByRecursion (λ m. IsSome (get (member_name m) d)) (m ∷ ms)
-there_at m ms d None e rest none = absurd (grind arith)
-there_at m ms d (Some x) e rest none = (ap is_some e, rest (rw e at none))
-
-pub all_there : (expected : List Member) (d : Data) → None ≡ first_missing expected d → AllByRecursion (λ m. IsSome (get (member_name m) d)) expected
+-- nothing is missing, so each is there that an object may not lack
+pub all_there : (expected : List Member) (d : Data) → None ≡ first_missing expected d → AllByRecursion (λ m. has_or_may_lack d m ≡ true) expected
 all_there [] d none = tt
-all_there (m ∷ ms) d none = there_at m ms d _ refl (all_there ms d) none
+all_there (m ∷ ms) d none = by (has_or_may_lack d m) refl (all_there ms d) none
+  where
+    by : (b : Bool) → has_or_may_lack d m ≡ b → (None ≡ first_missing ms d → AllByRecursion (λ m. has_or_may_lack d m ≡ true) ms)
+        → None ≡ cond (not b) (Some m) (first_missing ms d) → AllByRecursion (λ m. has_or_may_lack d m ≡ true) (m ∷ ms)
+    by true e rest none = (e, rest none)
+    by false e rest none = absurd cc
 
 one_more : (b : Bool) (k : String Global) (names : Option (List ℕ)) (keys : Option (String Global)) → names ≡ option_map string_bytes keys
     → cond b (Some (string_bytes k)) names ≡ option_map string_bytes (cond b (Some k) keys)

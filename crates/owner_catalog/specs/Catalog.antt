@@ -1,11 +1,12 @@
 -- The catalog that the bytes of a file hold, or the first fault in them.
-pub use Rattle.owner_catalog.specs.Entries.{TableEntry, PartitionEntry, OwnerEntry, Catalog, table_name, table_columns, partition_name, owner_name}
+pub use Rattle.owner_catalog.specs.Entries.{TableEntry, PartitionEntry, LimitEntry, OwnerEntry, Catalog, table_name, table_columns}
+pub use Rattle.owner_catalog.specs.Entries.{partition_name, limit_analyst, owner_name}
 pub use Rattle.owner_catalog.specs.Entries.{owner_signature}
 pub use Rattle.owner_catalog.specs.Lawful.{IsCatalog}
 use Rattle.std.specs.Prelude.{ℕ, List, [], map, get_or, codes, bytes_eq, Bool, false, true, ◌&&◌, position, Option, Some, None, Result, Ok, if◌then◌else◌}
 use Rattle.std.specs.Str.{is_utf8}
 use Rattle.serde_json.specs.Data.{Data}
-use Rattle.serde_json.specs.Find.{as_str}
+use Rattle.serde_json.specs.Find.{as_str, get}
 use Rattle.serde_json.specs.Read.{read}
 use Rattle.serde_json.specs.Written.{compact_text}
 use Rattle.fz_ast.specs.declared.row.Column.{Column}
@@ -23,8 +24,8 @@ use Rattle.owner_catalog.specs.declared.text.Form.{Form}
 use Rattle.owner_catalog.specs.declared.text.Form.TheVariants.{Name, Key}
 use Rattle.owner_catalog.specs.Limits.{owner_limit, table_limit}
 use Rattle.owner_catalog.specs.Forms.{has_form, is_catalog_name, is_table_name, is_file_name}
-use Rattle.owner_catalog.specs.Members.{catalog_members, owner_members, table_members, column_members, partition_members}
-use Rattle.owner_catalog.specs.Fault.{◌>>=◌, bad, or_bad, place, the, object_in, formed_text_in, bounded_number_in, list_in}
+use Rattle.owner_catalog.specs.Members.{catalog_members, owner_members, table_members, column_members, partition_members, limit_members, member_name}
+use Rattle.owner_catalog.specs.Fault.{◌>>=◌, bad, or_bad, place, the, object_in, formed_text_in, bounded_number_in, list_in, optional_in}
 
 -- a column's type
 abbrev pub kind_named : List ℕ → Option Column
@@ -84,8 +85,17 @@ partition_in o tables p d = do
   keys ← list_in 1 part_limit (place at.Keys o p 0) (λ key. key) (label_place (Keys o p)) (label_in (Keys o p)) (the at.Keys d)
   Ok (record { name = name; table = table; column = column; keys = keys })
 
-unfoldable pub owner_in : (owner : ℕ) → Data → Result OwnerEntry CatalogFault
-owner_in o d = do
+-- a limit, of one of the analysts
+unfoldable pub limit_in : (owner : ℕ) → (analysts : List (List ℕ)) → (limit : ℕ) → Data → Result LimitEntry CatalogFault
+limit_in o analysts l d = do
+  object ← object_in limit_members at.Limit (λ m. place m o l 0) d
+  analyst ← one_in bytes_eq analysts (place at.LimitAnalyst o l 0) (the at.LimitAnalyst d)
+  budget ← bounded_number_in 1 budget_limit (place at.LimitBudget o l 0) (the at.LimitBudget d)
+  Ok (record { analyst = get_or analysts analyst []; budget = budget })
+
+-- an owner of a catalog of these analysts, each of whom may have a limit
+unfoldable pub owner_in : (analysts : List (List ℕ)) → (owner : ℕ) → Data → Result OwnerEntry CatalogFault
+owner_in analysts o d = do
   object ← object_in owner_members at.Owner (λ m. place m o 0 0) d
   name ← formed_text_in is_catalog_name (place at.OwnerName o 0 0) (the at.OwnerName d)
   budget ← bounded_number_in 1 budget_limit (place at.Budget o 0 0) (the at.Budget d)
@@ -93,13 +103,23 @@ owner_in o d = do
   tables ← list_in 1 table_limit (place at.Tables o 0 0) table_name (λ t. place at.Table o t 0) (table_in o) (the at.Tables d)
   partitions ← list_in 0 partition_limit (place at.Partitions o 0 0) partition_name (λ p. place at.Partition o p 0) (partition_in o tables)
       (the at.Partitions d)
-  Ok (record { name = name; budget = budget; capacity = capacity; tables = tables; partitions = partitions; text = compact_text d })
+  limits ← optional_in [] (list_in 0 analyst_limit (place at.Limits o 0 0) limit_analyst (λ l. place at.Limit o l 0) (limit_in o analysts))
+      (get (member_name at.Limits) d)
+  Ok (record {
+    name = name;
+    budget = budget;
+    capacity = capacity;
+    tables = tables;
+    partitions = partitions;
+    limits = limits;
+    text = compact_text d;
+  })
 
 unfoldable pub catalog_in : Data → Result Catalog CatalogFault
 catalog_in d = do
   object ← object_in catalog_members at.Catalog (λ m. place m 0 0 0) d
   analysts ← list_in 1 analyst_limit (place at.Analysts 0 0 0) (λ name. name) (label_place Analysts) (label_in Analysts) (the at.Analysts d)
-  owners ← list_in 1 owner_limit (place at.Owners 0 0 0) owner_name (λ o. place at.Owner o 0 0) owner_in (the at.Owners d)
+  owners ← list_in 1 owner_limit (place at.Owners 0 0 0) owner_name (λ o. place at.Owner o 0 0) (owner_in analysts) (the at.Owners d)
   Ok (record { analysts = analysts; owners = owners; text = compact_text (the at.Analysts d) })
 
 -- the JSON value of some bytes

@@ -1,5 +1,6 @@
 -- What a catalog holds.
-use Rattle.std.specs.Prelude.{ℕ, List, [], map, get_or}
+use Rattle.std.specs.Prelude.{ℕ, List, [], map, get_or, Option, option_map, bytes_eq}
+use Rattle.std.specs.List.{find}
 use Rattle.fz_ast.specs.Signature.{Signature, TableType}
 use Rattle.table_store.specs.Schema.{NamedColumn, row_of_schema}
 
@@ -16,6 +17,11 @@ pub record PartitionEntry : Type 0 where
   pub column : ℕ
   pub keys : List (List ℕ)
 
+-- the name of an analyst, and the most that what it asks may cost, in millionths
+pub record LimitEntry : Type 0 where
+  pub analyst : List ℕ
+  pub budget : ℕ
+
 -- An owner: the budget in millionths, the capacity in records, and the compact text of the object that it was read from.
 pub record OwnerEntry : Type 0 where
   pub name : List ℕ
@@ -23,6 +29,7 @@ pub record OwnerEntry : Type 0 where
   pub capacity : ℕ
   pub tables : List TableEntry
   pub partitions : List PartitionEntry
+  pub limits : List LimitEntry
   pub text : List ℕ
 
 -- the names of the analysts, the owners, and the compact text of the list of analysts
@@ -33,7 +40,8 @@ pub record Catalog : Type 0 where
 
 -- the owner of a number, its table of a number, and its partition of a number, where each is there
 abbrev pub owner_entry_at : Catalog → ℕ → OwnerEntry
-owner_entry_at catalog o = get_or catalog.owners o (record { name = []; budget = 0; capacity = 0; tables = []; partitions = []; text = [] })
+owner_entry_at catalog o =
+    get_or catalog.owners o (record { name = []; budget = 0; capacity = 0; tables = []; partitions = []; limits = []; text = [] })
 
 abbrev pub table_entry_at : Catalog → (owner table : ℕ) → TableEntry
 table_entry_at catalog o t = get_or (owner_entry_at catalog o).tables t (record { name = []; file = []; columns = [] })
@@ -52,6 +60,16 @@ partition_name partition = partition.name
 
 abbrev pub owner_name : OwnerEntry → List ℕ
 owner_name owner = owner.name
+
+abbrev pub limit_analyst : LimitEntry → List ℕ
+limit_analyst limit = limit.analyst
+
+abbrev pub limit_budget : LimitEntry → ℕ
+limit_budget limit = limit.budget
+
+-- an owner's limit for the analyst of this name, if there is one
+abbrev pub limit_for : OwnerEntry → (analyst : List ℕ) → Option ℕ
+limit_for owner analyst = option_map limit_budget (find (λ limit. bytes_eq analyst limit.analyst) owner.limits)
 
 -- a table as programs see it: its name and the type of its rows
 abbrev pub table_type_of : TableEntry → TableType

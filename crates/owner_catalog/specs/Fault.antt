@@ -1,10 +1,10 @@
 -- How the parts of a catalog are read from JSON, and which of several faults counts.
 use Rattle.std.specs.Prelude.{ℕ, List, [], ◌∷◌, ◌++◌, length, Bool, not, ◌&&◌, nat_le, bytes_eq, if◌then◌else◌, Option, Some, None, option_and_then}
-use Rattle.std.specs.Prelude.{option_map, is_none, unwrap_or, Result, Ok, Err, ⊤}
+use Rattle.std.specs.Prelude.{option_map, ◌||◌, is_some, unwrap_or, Result, Ok, Err, ⊤}
 use Rattle.std.specs.List.{find, list_any}
 use Rattle.serde_json.specs.Data.{Data, null, Items, no_items, item, Members, no_members, member}
 use Rattle.serde_json.specs.Find.{get, as_array, as_number, as_object, as_str, as_u64}
-use Rattle.owner_catalog.specs.Members.{member_name}
+use Rattle.owner_catalog.specs.Members.{may_lack, member_name}
 use Rattle.owner_catalog.specs.declared.fault.CatalogFault.{CatalogFault}
 use Rattle.owner_catalog.specs.declared.fault.CatalogFault.TheVariants.{Bad}
 use Rattle.owner_catalog.specs.declared.fault.FaultKind.{FaultKind}
@@ -51,9 +51,13 @@ bounded_number_in least most at d = do
 abbrev pub the : Member → Data → Data
 the m d = unwrap_or (get (member_name m) d) null
 
--- the first of some members that an object lacks
+-- an object has a member, or may lack it
+abbrev pub has_or_may_lack : Data → Member → Bool
+has_or_may_lack d m = may_lack m || is_some (get (member_name m) d)
+
+-- the first of some members that an object lacks, and may not lack
 abbrev pub first_missing : List Member → Data → Option Member
-first_missing expected d = find (λ m. is_none (get (member_name m) d)) expected
+first_missing expected d = find (λ m. not (has_or_may_lack d m)) expected
 
 -- the names of an object's members, in the order of their bytes
 abbrev pub names_of : Members → List (List ℕ)
@@ -77,8 +81,8 @@ abbrev pub none_unknown : Place → Option (List ℕ) → Result ⊤ CatalogFaul
 none_unknown at None = Ok tt
 none_unknown at (Some name) = bad (Unknown name) at
 
--- An object with just these members: it is an object, then lacks none of them in the order of the table, then has none beyond
--- them in the order of their names' bytes.
+-- An object with just these members: it is an object, then lacks none of them that it may not lack in the order of the table, then
+-- has none beyond them in the order of their names' bytes.
 unfoldable pub object_in : List Member → (whole : Member) → (Member → Place) → Data → Result ⊤ CatalogFault
 object_in expected whole at d = do
   members ← or_bad Kind (at whole) (as_object d)
@@ -109,3 +113,8 @@ unfoldable pub list_in : {A : Type 0} → (least most : ℕ) → Place → (A �
 list_in least most whole name at read d = do
   items ← counted_in least most whole d
   items_from name at read [] items
+
+-- what a member holds that an object may lack: what is read of its value, and something else where the object lacks it
+abbrev pub optional_in : {A : Type 0} → A → (Data → Result A CatalogFault) → Option Data → Result A CatalogFault
+optional_in without read None = Ok without
+optional_in without read (Some d) = read d

@@ -21,6 +21,7 @@ owner_of_one one = record {
   capacity = one.capacity;
   tables = table_of_one one ∷ [];
   partitions = [];
+  limits = [];
   text = [];
 }
 

@@ -1,15 +1,16 @@
 -- The members of each object of a catalog.
-use Rattle.std.specs.Prelude.{ℕ, List, [], ◌∷◌, codes}
+use Rattle.std.specs.Prelude.{ℕ, Bool, true, false, List, [], ◌∷◌, codes}
 use Rattle.owner_catalog.specs.declared.fault.Member.{Member}
 use Rattle.owner_catalog.specs.declared.fault.Member.TheVariants.{Catalog, Analysts, Analyst, Owners, Owner, OwnerName, Budget, Capacity, Tables}
 use Rattle.owner_catalog.specs.declared.fault.Member.TheVariants.{Table, TableName, File, Columns, Column, ColumnName, ColumnType, Partitions}
 use Rattle.owner_catalog.specs.declared.fault.Member.TheVariants.{Partition, PartitionName, PartitionTable, PartitionColumn, Keys, Key}
+use Rattle.owner_catalog.specs.declared.fault.Member.TheVariants.{Limits, Limit, LimitAnalyst, LimitBudget}
 
 abbrev pub catalog_members : List Member
 catalog_members = Analysts ∷ Owners ∷ []
 
 abbrev pub owner_members : List Member
-owner_members = OwnerName ∷ Budget ∷ Capacity ∷ Tables ∷ Partitions ∷ []
+owner_members = OwnerName ∷ Budget ∷ Capacity ∷ Tables ∷ Partitions ∷ Limits ∷ []
 
 abbrev pub table_members : List Member
 table_members = TableName ∷ File ∷ Columns ∷ []
@@ -19,6 +20,14 @@ column_members = ColumnName ∷ ColumnType ∷ []
 
 abbrev pub partition_members : List Member
 partition_members = PartitionName ∷ PartitionTable ∷ PartitionColumn ∷ Keys ∷ []
+
+abbrev pub limit_members : List Member
+limit_members = LimitAnalyst ∷ LimitBudget ∷ []
+
+-- the members that an object may lack
+abbrev pub may_lack : Member → Bool
+may_lack Limits = true
+may_lack m = false
 
 -- the name that a member has in its object; the whole, and an item of a list, have none
 unfoldable pub member_name : Member → List ℕ
@@ -45,3 +54,7 @@ member_name PartitionTable = codes "table"
 member_name PartitionColumn = codes "column"
 member_name Keys = codes "keys"
 member_name Key = []
+member_name Limits = codes "limits"
+member_name Limit = []
+member_name LimitAnalyst = codes "analyst"
+member_name LimitBudget = codes "budget"

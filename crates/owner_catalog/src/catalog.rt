@@ -1,11 +1,12 @@
 //! A catalog that was read, and its look-ups.
-ghost use Rattle.std.specs.Prelude.{◌≡◌, ◌<◌, ◌≤◌, [], length, map, get_or, position, bytes_eq, IfOk, true};
-ghost use Rattle.std.specs.List.{All, IsDistinct};
+ghost use Rattle.std.specs.Prelude.{◌≡◌, ◌<◌, ◌≤◌, [], length, map, get_or, position, bytes_eq, option_map, IfOk, true};
+ghost use Rattle.std.specs.List.{All, IsDistinct, find};
 ghost use Rattle.fz_ast.specs.Types.{WellFormed, formed, is_flat};
 ghost use Rattle.table_store.specs.Schema.{most_columns, row_of_schema};
 ghost use Rattle.partition_charge.specs.Views.{part_limit, partition_limit};
 ghost use Rattle.owner_catalog.specs.Limits.{table_limit};
-ghost use Rattle.owner_catalog.specs.Entries.{owner_entry_at, table_entry_at, partition_entry_at, owner_signature, table_name, table_type_of};
+ghost use Rattle.owner_catalog.specs.Entries.{owner_entry_at, table_entry_at, partition_entry_at, owner_signature, limit_for, table_name};
+ghost use Rattle.owner_catalog.specs.Entries.{table_type_of};
 ghost use Rattle.owner_catalog.specs.Lawful.{IsCatalog, IsOwner, IsPartition, IsTableEntry};
 
 use crate::list::Listed;
@@ -62,6 +63,30 @@ impl Model for Partition {
     ghost invariant = { λ p. p.keys.names ≡ p.keys.items.items };
 }
 
+/// The analyst of this name may ask for no more than this, in millionths.
+#[derive(Drop)]
+pub(crate) struct Limit {
+    pub(crate) analyst: String,
+    pub(crate) budget: u64,
+}
+
+impl Named for Limit {
+    ghost name_of = { λ limit. limit.analyst };
+
+    fn name(&self) -> &str {
+        self.analyst.as_str()
+    }
+}
+
+impl Model for Limit {
+    ghost use Rattle.std.specs.String.{string_bytes};
+    ghost use Rattle.owner_catalog.specs.Entries.{LimitEntry};
+
+    ghost Value = { LimitEntry };
+
+    ghost view = { λ l. record { analyst = string_bytes l.analyst; budget = l.budget } };
+}
+
 /// An owner: the budget in millionths, the capacity in records.
 #[derive(Drop)]
 pub(crate) struct Owner {
@@ -70,6 +95,7 @@ pub(crate) struct Owner {
     pub(crate) capacity: u32,
     pub(crate) tables: Vec<Table>,
     pub(crate) partitions: Vec<Partition>,
+    pub(crate) limits: Vec<Limit>,
     // The compact JSON text of the owner's object.
     pub(crate) text: String,
 }
@@ -94,6 +120,7 @@ impl Model for Owner {
       capacity = o.capacity;
       tables = o.tables.items;
       partitions = o.partitions.items;
+      limits = o.limits.items;
       text = string_bytes o.text;
     } };
 }
@@ -196,6 +223,17 @@ impl Catalog {
         ensures { result ≡ (owner_entry_at self.now o).capacity }
     {
         self.owner_at(o).capacity
+    }
+
+    /// The limit that an owner has for an analyst, if there is one.
+    pub fn limit(&self, o: u32, analyst: u16) -> Option<u64>
+        requires owner { o < length self.now.owners }
+        requires analyst { analyst < length self.now.analysts }
+        ensures { result ≡ limit_for (owner_entry_at self.now o) (get_or self.now.analysts analyst []) }
+    {
+        let name = self.analysts[analyst as usize].name();
+        let found = limit_named(&self.owner_at(o).limits, name)?;
+        Some(found.budget)
     }
 
     /// The compact JSON text of the list of analysts.
@@ -355,6 +393,13 @@ impl Catalog {
         let owner = self.owner_at(o);
         signature_of(alloc, &owner.tables)
     }
+}
+
+/// The limit of the analyst of this name.
+fn limit_named<'a>(limits: &'a [Limit], name: &str) -> Option<&'a Limit>
+    ensures { option_map (λ limit. limit.now) result ≡ find (λ limit. bytes_eq name.now limit.analyst) limits.now }
+{
+    limits.iter().find(|limit| name == limit.analyst.as_str())
 }
 
 fn signature_of(alloc: Global, tables: &[Table]) -> Result<Sig, NoMemory>

@@ -26,7 +26,7 @@ pub enum FaultKind {
     Form,
     /// An item has the name of one before it, or is the same key.
     Double,
-    /// There is no such table, or no such text column in the table.
+    /// There is no such table, no such text column in the table, or no such analyst.
     NoSuch,
 }
 
@@ -56,6 +56,10 @@ pub enum Member {
     PartitionColumn,
     Keys,
     Key,
+    Limits,
+    Limit,
+    LimitAnalyst,
+    LimitBudget,
 }
 
 /// Where a fault is. Numbers count from 0, and are 0 where there is none.
@@ -65,7 +69,7 @@ pub struct Place {
     pub member: Member,
     /// The number of the owner.
     pub owner: u32,
-    /// The number of the analyst, or of the owner's table or partition.
+    /// The number of the analyst, or of the owner's table, partition or limit.
     pub item: u32,
     /// The number of the table's column or the partition's key.
     pub sub_item: u32,

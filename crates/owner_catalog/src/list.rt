@@ -1,5 +1,5 @@
 //! Lists of a catalog, whose items are read one after another.
-ghost use Rattle.std.specs.Prelude.{◌≡◌, ◌⊎◌, ◌≤◌, ℕ, List, map, length, bytes_eq, IfOk, IfErr, IsSome, Result, Ok, Err, false};
+ghost use Rattle.std.specs.Prelude.{◌≡◌, ◌⊎◌, ◌≤◌, ℕ, List, [], map, length, bytes_eq, IfOk, IfErr, IsSome, Result, Ok, Err, false};
 ghost use Rattle.std.specs.List.{IsDistinct};
 ghost use Rattle.serde_json.specs.Data.{Data};
 ghost use Rattle.serde_json.specs.View.{view};
@@ -7,9 +7,10 @@ ghost use Rattle.owner_catalog.specs.Plain.{HasNoFloat};
 ghost use Rattle.serde_json.specs.Find.{get};
 ghost use Rattle.serde_json.specs.Written.{has_float};
 ghost use Rattle.owner_catalog.specs.Members.{member_name};
-ghost use Rattle.owner_catalog.specs.Fault.{here, list_in, the};
+ghost use Rattle.owner_catalog.specs.Fault.{here, list_in, optional_in, the};
 
 use crate::fault::{CatalogFault, FaultKind, Member, Place};
+use crate::member::member_name;
 use crate::named::Named;
 use crate::names::Names;
 use crate::parts::{counted, the};
@@ -108,4 +109,26 @@ pub(crate) fn items<C, T: Item<C> + Drop>(
     ensures plain { IfOk result (λ _. has_float (the member (view value.now)) ≡ false) }
 {
     Ok(list(alloc, value, member, least, most, at, context)?.items)
+}
+
+/// The items of a list that an object may lack: none where it does.
+pub(crate) fn optional_items<C, T: Item<C> + Drop>(
+    alloc: Global,
+    value: &Value,
+    member: Member,
+    most: u32,
+    at: Place,
+    context: &C,
+) -> Result<Vec<T>, CatalogFault>
+    ensures list { IfOk result (λ found. optional_in [] (list_in 0 most (here at member) T.name_of (T.place_of context.now) (T.read_of context.now))
+        (get (member_name member) (view value.now)) ≡ Ok found.items) }
+    ensures fault { IfErr result (λ fault. (fault ≡ CatalogFault.NoMemory)
+        ⊎ (optional_in [] (list_in 0 most (here at member) T.name_of (T.place_of context.now) (T.read_of context.now))
+        (get (member_name member) (view value.now)) ≡ Err fault)) }
+    ensures plain { IfOk result (λ _. has_float (the member (view value.now)) ≡ false) }
+{
+    if value.get(member_name(member)).is_none() {
+        return Ok(Vec::new(alloc));
+    }
+    items(alloc, value, member, 0, most, at, context)
 }

@@ -52,6 +52,7 @@ fn owner_of_one(alloc: Global, one: &OneOwner<'_>) -> Result<Owner, AllocError>
         capacity: one.capacity,
         tables: vec![in alloc; table_of_one(alloc, one)?]?,
         partitions: Vec::new(alloc),
+        limits: Vec::new(alloc),
         text: String::new(alloc),
     })
 }

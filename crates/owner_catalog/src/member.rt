@@ -1,17 +1,18 @@
 //! The members of each object of a catalog.
 ghost use Rattle.std.specs.Prelude.{◌≡◌};
-ghost use Rattle.owner_catalog.specs.Members.{member_name};
+ghost use Rattle.owner_catalog.specs.Members.{may_lack, member_name};
 
 use crate::fault::Member;
 
 pub(crate) const CATALOG: [Member; 2] = [Member::Analysts, Member::Owners];
 
-pub(crate) const OWNER: [Member; 5] = [
+pub(crate) const OWNER: [Member; 6] = [
     Member::OwnerName,
     Member::Budget,
     Member::Capacity,
     Member::Tables,
     Member::Partitions,
+    Member::Limits,
 ];
 
 pub(crate) const TABLE: [Member; 3] = [Member::TableName, Member::File, Member::Columns];
@@ -24,6 +25,18 @@ pub(crate) const PARTITION: [Member; 4] = [
     Member::PartitionColumn,
     Member::Keys,
 ];
+
+pub(crate) const LIMIT: [Member; 2] = [Member::LimitAnalyst, Member::LimitBudget];
+
+/// Whether an object may lack a member.
+pub(crate) fn may_lack(member: Member) -> bool
+    ensures { result ≡ may_lack member }
+{
+    match member {
+        Member::Limits => true,
+        _ => false,
+    }
+}
 
 /// The name that a member has in its object.
 #[tactic(auto, unfolding(crate::specs::Members::member_name))]
@@ -54,5 +67,9 @@ pub(crate) fn member_name(member: Member) -> &'static str
         Member::PartitionColumn => "column",
         Member::Keys => "keys",
         Member::Key => "",
+        Member::Limits => "limits",
+        Member::Limit => "",
+        Member::LimitAnalyst => "analyst",
+        Member::LimitBudget => "budget",
     }
 }

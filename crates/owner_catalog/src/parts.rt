@@ -10,10 +10,10 @@ ghost use Rattle.serde_json.specs.Written.{has_float};
 ghost use Rattle.owner_catalog.specs.Members.{member_name};
 ghost use Rattle.owner_catalog.specs.Forms.{has_form};
 ghost use Rattle.owner_catalog.specs.Plain.{HasNoFloat};
-ghost use Rattle.owner_catalog.specs.Fault.{here, the, formed_text_in, bounded_number_in, object_in, counted_in, first_missing, is_known};
+ghost use Rattle.owner_catalog.specs.Fault.{here, the, formed_text_in, bounded_number_in, object_in, counted_in, first_missing, has_or_may_lack, is_known};
 
 use crate::fault::{CatalogFault, FaultKind, Member, Place};
-use crate::member::member_name;
+use crate::member::{may_lack, member_name};
 use crate::named::Label;
 use crate::text::{Form, has_form};
 use serde_json::{Map, Value};
@@ -109,13 +109,19 @@ pub(crate) fn member_number(
     number(the(member, value), least, most, at.of(member))
 }
 
+fn has_or_may_lack(value: &Value, member: Member) -> bool
+    ensures { result ≡ has_or_may_lack (view value.now) member }
+{
+    may_lack(member) || value.get(member_name(member)).is_some()
+}
+
 fn first_missing(expected: &[Member], value: &Value) -> Option<Member>
     ensures { result ≡ first_missing expected.now (view value.now) }
 {
     expected
         .iter()
         .copied()
-        .find(|member| value.get(member_name(*member)).is_none())
+        .find(|member| !has_or_may_lack(value, *member))
 }
 
 fn is_known(expected: &[Member], name: &str) -> bool
@@ -143,7 +149,7 @@ pub(crate) fn object(
 ) -> Result<(), CatalogFault>
     ensures object { IfOk result (λ done. object_in expected.now at.member (here at) (view value.now) ≡ Ok done) }
     ensures fault { IfErr result (λ f. (f ≡ CatalogFault.NoMemory) ⊎ (object_in expected.now at.member (here at) (view value.now) ≡ Err f)) }
-    ensures there { IfOk result (λ _. AllByRecursion (λ m. IsSome (get (member_name m) (view value.now))) expected.now) }
+    ensures there { IfOk result (λ _. AllByRecursion (λ m. has_or_may_lack (view value.now) m ≡ true) expected.now) }
     ensures plain { IfOk result (λ _. AllByRecursion (λ m. has_float (the m (view value.now)) ≡ false) expected.now → HasNoFloat value.now) }
 {
     let Some(members) = value.as_object() else {

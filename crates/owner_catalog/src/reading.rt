@@ -8,10 +8,10 @@ ghost use Rattle.owner_catalog.specs.Entries.{table_columns};
 ghost use Rattle.owner_catalog.specs.Members.{member_name};
 ghost use Rattle.owner_catalog.specs.Fault.{here, place, the};
 
-use crate::catalog::{Catalog, Owner, Partition, Table};
+use crate::catalog::{Catalog, Limit, Owner, Partition, Table};
 use crate::fault::{CatalogFault, FaultKind, Member, Place};
-use crate::list::{Item, items, list};
-use crate::member::{CATALOG, COLUMN, OWNER, PARTITION, TABLE};
+use crate::list::{Item, items, list, optional_items};
+use crate::member::{CATALOG, COLUMN, LIMIT, OWNER, PARTITION, TABLE};
 use crate::named::{Label, Named, find};
 use crate::parts::{member_number, member_text, object, text, the};
 use crate::text::Form;
@@ -45,6 +45,19 @@ pub(crate) struct InTable {
 pub(crate) struct InOwner<'a> {
     owner: u32,
     tables: &'a [Table],
+}
+
+/// The analysts of the catalog whose owners are read.
+#[derive(Clone, Copy)]
+pub(crate) struct InCatalog<'a> {
+    analysts: &'a [Label],
+}
+
+/// The owner whose limits are read, with the analysts of the catalog.
+#[derive(Clone, Copy)]
+pub(crate) struct ForAnalysts<'a> {
+    owner: u32,
+    analysts: &'a [Label],
 }
 
 impl Labels {
@@ -326,15 +339,82 @@ impl Item<InOwner<'_>> for Partition {
     }
 }
 
-impl Item<()> for Owner {
+/// The number of the analyst that a limit is for.
+#[tactic(auto, unfolding(crate::specs::Catalog::one_in))]
+fn analyst_number(value: &Value, analysts: &[Label], at: Place) -> Result<usize, CatalogFault>
+    requires { IsSome (get (member_name Member.LimitAnalyst) (view value.now)) }
+    ensures analyst { IfOk result (λ a. one_in bytes_eq analysts.now (here at Member.LimitAnalyst) (the Member.LimitAnalyst (view value.now)) ≡ Ok a) }
+    ensures fault { IfErr result (λ fault. one_in bytes_eq analysts.now (here at Member.LimitAnalyst) (the Member.LimitAnalyst (view value.now))
+        ≡ Err fault) }
+    ensures plain { IfOk result (λ _. has_float (the Member.LimitAnalyst (view value.now)) ≡ false) }
+    ensures within { IfOk result (λ a. a < length analysts.now) }
+{
+    let at = at.of(Member::LimitAnalyst);
+    let Some(name) = the(Member::LimitAnalyst, value).as_str() else {
+        return Err(CatalogFault::Bad {
+            kind: FaultKind::Kind,
+            at,
+        });
+    };
+    find_analyst(analysts, name).ok_or(CatalogFault::Bad {
+        kind: FaultKind::NoSuch,
+        at,
+    })
+}
+
+fn find_analyst(analysts: &[Label], name: &str) -> Option<usize>
+    ensures { result ≡ position (bytes_eq name.now) analysts.now }
+{
+    find(analysts, name.as_bytes())
+}
+
+impl Item<ForAnalysts<'_>> for Limit {
+    ghost use Rattle.owner_catalog.specs.Catalog.{limit_in};
+    ghost use Rattle.owner_catalog.specs.declared.fault.Member.TheVariants.{Limit as limit_member};
+
+    ghost place_of = { λ within l. place limit_member within.owner l 0 };
+
+    ghost read_of = { λ within. limit_in within.owner within.analysts.now };
+
+    fn place(within: &ForAnalysts<'_>, number: u32) -> Place {
+        Place {
+            member: Member::Limit,
+            owner: within.owner,
+            item: number,
+            sub_item: 0,
+        }
+    }
+
+    #[tactic(auto, unfolding(crate::specs::Catalog::limit_in))]
+    fn read(
+        alloc: Global,
+        value: &Value,
+        within: &ForAnalysts<'_>,
+        number: u32,
+    ) -> Result<Limit, CatalogFault> {
+        let at = Place {
+            member: Member::Limit,
+            owner: within.owner,
+            item: number,
+            sub_item: 0,
+        };
+        object(alloc, &LIMIT, value, at)?;
+        let analyst = analyst_number(value, within.analysts, at)?;
+        let budget = member_number(value, Member::LimitBudget, 1, MOST_BUDGET, at)?;
+        let analyst = String::from_str(alloc, within.analysts[analyst].as_str())?;
+        Ok(Limit { analyst, budget })
+    }
+}
+
+impl Item<InCatalog<'_>> for Owner {
     ghost use Rattle.owner_catalog.specs.Catalog.{owner_in};
     ghost use Rattle.owner_catalog.specs.declared.fault.Member.TheVariants.{Owner as owner_member};
 
-    ghost place_of = { λ all o. place owner_member o 0 0 };
+    ghost place_of = { λ within o. place owner_member o 0 0 };
 
-    ghost read_of = { λ all. owner_in };
+    ghost read_of = { λ within. owner_in within.analysts.now };
 
-    fn place(_: &(), number: u32) -> Place {
+    fn place(_: &InCatalog<'_>, number: u32) -> Place {
         Place {
             member: Member::Owner,
             owner: number,
@@ -344,7 +424,12 @@ impl Item<()> for Owner {
     }
 
     #[tactic(auto, unfolding(crate::specs::Catalog::owner_in))]
-    fn read(alloc: Global, value: &Value, _: &(), number: u32) -> Result<Owner, CatalogFault> {
+    fn read(
+        alloc: Global,
+        value: &Value,
+        within: &InCatalog<'_>,
+        number: u32,
+    ) -> Result<Owner, CatalogFault> {
         let at = Place {
             member: Member::Owner,
             owner: number,
@@ -356,11 +441,16 @@ impl Item<()> for Owner {
         let budget = member_number(value, Member::Budget, 1, MOST_BUDGET, at)?;
         let capacity = member_number(value, Member::Capacity, 2, MOST_CAPACITY, at)? as u32;
         let tables = items(alloc, value, Member::Tables, 1, 8, at, &number)?;
-        let within = InOwner {
+        let of_tables = InOwner {
             owner: number,
             tables: &tables,
         };
-        let partitions = items(alloc, value, Member::Partitions, 0, 8, at, &within)?;
+        let partitions = items(alloc, value, Member::Partitions, 0, 8, at, &of_tables)?;
+        let for_analysts = ForAnalysts {
+            owner: number,
+            analysts: within.analysts,
+        };
+        let limits = optional_items(alloc, value, Member::Limits, 64, at, &for_analysts)?;
         let text = value.to_string(alloc)?;
         Ok(Owner {
             name,
@@ -368,6 +458,7 @@ impl Item<()> for Owner {
             capacity,
             tables,
             partitions,
+            limits,
             text,
         })
     }
@@ -385,12 +476,15 @@ fn read_value(alloc: Global, value: &Value) -> Result<Catalog, CatalogFault>
         sub_item: 0,
     };
     object(alloc, &CATALOG, value, at)?;
-    let analysts = list(alloc, value, Member::Analysts, 1, 64, at, &Labels::Analysts)?;
-    let owners = list(alloc, value, Member::Owners, 1, 64, at, &())?;
+    let analysts = items(alloc, value, Member::Analysts, 1, 64, at, &Labels::Analysts)?;
+    let within = InCatalog {
+        analysts: &analysts,
+    };
+    let owners = items(alloc, value, Member::Owners, 1, 64, at, &within)?;
     let text = the(Member::Analysts, value).to_string(alloc)?;
     Ok(Catalog {
-        analysts: analysts.items,
-        owners: owners.items,
+        analysts,
+        owners,
         text,
     })
 }

@@ -40,7 +40,7 @@ people = record { name = codes "people"; row = row_of NumT [] }
 abbrev pub three : Owner
 three = record {
   name = codes "census";
-  entry = record { budget = 10000000; capacity = 100; analysts = 2; keys = []; version = 2 };
+  entry = record { budget = 10000000; capacity = 100; analysts = 2; keys = []; version = 2; limits = [] };
   tables = people ∷ [];
   rows = (NumF (pos 20) ∷ NumF (pos 30) ∷ NumF (pos 40) ∷ []) ∷ [];
   partitions = [];

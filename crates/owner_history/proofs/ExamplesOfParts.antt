@@ -71,7 +71,7 @@ three_apart : apart rows other ≡ 3
 three_apart = refl
 
 abbrev entry_with : List ℕ → Entry
-entry_with keys = record { budget = 10000000; capacity = 100; analysts = 1; keys = keys; version = 2 }
+entry_with keys = record { budget = 10000000; capacity = 100; analysts = 1; keys = keys; version = 2; limits = [] }
 
 abbrev an_entry : Entry
 an_entry = entry_with (2 ∷ 1 ∷ 1 ∷ [])

@@ -2,13 +2,13 @@
 use Rattle.std.proofs.Common.{◌≡◌, ℕ, zero, suc, ◌+◌, ◌<◌, ◌≤◌, ◌++◌, get_or, take, Bool, true, false, cond, List, [], ◌∷◌, map, length, slice_get, Option, Some, None, option_map, refl, sym, ◌∙◌, ap, subst, arith, bytes_eq}
 use Rattle.std.proofs.lemmas.Iterator.Adapters.{position_from-zero}
 use Rattle.std.proofs.lemmas.Option.{slice_get_within, get_or_from_slice_get, slice_get-get_or}
-use Rattle.std.proofs.lemmas.List.{length-map}
+use Rattle.std.proofs.lemmas.List.{length-map, map-append, take_more}
 use Rattle.std.proofs.Math.Seq.{take-length}
 use Rattle.std.specs.Prelude.{IfSome}
 use Rattle.std.proofs.lemmas.List.Quantifiers.{position-Some}
 use Rattle.std.specs.List.{All, position, position_from}
 use Rattle.fz_ast.specs.Signature.{Signature}
-use Rattle.owner_catalog.specs.Entries.{Catalog, OwnerEntry, TableEntry, PartitionEntry, owner_entry_at as listed_at}
+use Rattle.owner_catalog.specs.Entries.{Catalog, OwnerEntry, TableEntry, PartitionEntry, owner_entry_at as listed_at, limit_for}
 use Rattle.owner_catalog.specs.Lawful.{IsCatalog, IsOwner, IsPartition}
 use Rattle.partition_charge.specs.declared.view.View.TheVariants.{Part}
 use Rattle.partition_charge.specs.Views.{part_limit}
@@ -18,7 +18,7 @@ use Rattle.owner_house.specs.Owner.{HasData, Owner, IsOwnerOf}
 use Rattle.part_views.specs.Holding.{Holding}
 use Rattle.part_views.specs.Partitions.{HasPart}
 use Rattle.owner_house.specs.Names.{AreNames}
-use Rattle.owner_house.specs.House.{Register, IsRegister, House, IsOwnerIn, AreOwners, house_of, entry_of, keys_of, owner_of, owners_of, owner_from, owner_named, no_partition, partition_named, partition_at, key_named, no_owner, owner_at, numbered}
+use Rattle.owner_house.specs.House.{Register, IsRegister, House, IsOwnerIn, AreOwners, house_of, entry_of, keys_of, limits_of, owner_of, owners_of, owner_from, owner_named, no_partition, partition_named, partition_at, key_named, no_owner, owner_at, numbered}
 use Rattle.owner_house.proofs.Found.{owner_stands, part_has_view}
 use Rattle.owner_house.proofs.Names.{tables_said}
 
@@ -77,9 +77,10 @@ entry_said register o owner d at =
     let version = get_or_from_slice_get register.versions o s.version d s.versioned in
     (λ i. record (entry_of register.catalog (listed i)) { version = version i }) ∙ ap (λ (w : Owner). w.entry) s.is
 
-pub entry_made : (catalog : Catalog) (o budget capacity analysts : ℕ) (keys : List ℕ) → budget ≡ (listed_at catalog o).budget → capacity ≡ (listed_at catalog o).capacity → analysts ≡ length catalog.analysts
-    → keys ≡ keys_of (listed_at catalog o) → record { budget = budget; capacity = capacity; analysts = analysts; keys = keys; version = newest_version } ≡ entry_of catalog (listed_at catalog o)
-entry_made catalog o budget capacity analysts keys b c a k = cc (b, c, a, k)
+pub entry_made : (catalog : Catalog) (o budget capacity analysts : ℕ) (keys : List ℕ) (limits : List (Option ℕ)) → budget ≡ (listed_at catalog o).budget → capacity ≡ (listed_at catalog o).capacity → analysts ≡ length catalog.analysts
+    → keys ≡ keys_of (listed_at catalog o) → limits ≡ limits_of catalog (listed_at catalog o)
+    → record { budget = budget; capacity = capacity; analysts = analysts; keys = keys; version = newest_version; limits = limits } ≡ entry_of catalog (listed_at catalog o)
+entry_made catalog o budget capacity analysts keys limits b c a k l = cc (b, c, a, k, l)
 
 -- each partition of a catalog has some keys, and not too many
 keys_legal : (tables : List TableEntry) (partitions : List PartitionEntry) → ((p : ℕ) (d : PartitionEntry) → p < length partitions → IsPartition tables (get_or partitions p d))
@@ -103,6 +104,7 @@ entry_lawful catalog of o within =
       analysts = of.few_analysts;
       partitions = omega (arith, length-map owner.partitions (λ (partition : PartitionEntry). length partition.keys), said.few_partitions);
       keys = keys_legal owner.tables owner.partitions (λ p d less. said.partitions p d less);
+      limits = omega (arith, length-map catalog.analysts (limit_for owner));
     }
 
 -- the numbers of keys of the first partitions, with those of one more
@@ -120,6 +122,16 @@ keys_more owner p keys d within is =
 pub keys_all : (owner : OwnerEntry) (p : ℕ) → p ≡ length owner.partitions → take p (keys_of owner) ≡ keys_of owner
 keys_all owner p is =
     ap (λ (n : ℕ). take n (keys_of owner)) (is ∙ sym (length-map owner.partitions (λ (partition : PartitionEntry). length partition.keys))) ∙ take-length (keys_of owner)
+
+-- the limits of the first analysts, with that of one more
+pub limits_more : (owner : OwnerEntry) (analysts : List (List ℕ)) (a : ℕ) → a < length analysts
+    → map (limit_for owner) (take (a + 1) analysts) ≡ map (limit_for owner) (take a analysts) ++ limit_for owner (get_or analysts a []) ∷ []
+limits_more owner analysts a within =
+    ap (map (limit_for owner)) (take_more analysts a [] within) ∙ map-append (limit_for owner) (take a analysts) (get_or analysts a [] ∷ [])
+
+pub limits_all : (owner : OwnerEntry) (analysts : List (List ℕ)) (a : ℕ) → a ≡ length analysts
+    → map (limit_for owner) (take a analysts) ≡ map (limit_for owner) analysts
+limits_all owner analysts a is = ap (λ (n : ℕ). map (limit_for owner) (take n analysts)) is ∙ ap (map (limit_for owner)) (take-length analysts)
 
 -- the owner of a number, and what it holds
 pub owner_there : (register : Register) (o : ℕ) → o < length (house_of register).owners → slice_get (house_of register).owners o ≡ Some (owner_at (house_of register) o)

@@ -6,6 +6,7 @@ use Rattle.journal_records.specs.Encoding.{newest_version}
 use Rattle.budget_core.specs.Entries.{Entry}
 use Rattle.owner_catalog.specs.Limits.{owner_limit}
 use Rattle.owner_catalog.specs.Catalog.{Catalog, OwnerEntry, PartitionEntry, IsCatalog, owner_signature}
+use Rattle.owner_catalog.specs.Entries.{limit_for}
 use Rattle.part_views.specs.Holding.{Holding, IsHolding}
 use Rattle.owner_house.specs.Owner.{Owner, HasData}
 
@@ -67,10 +68,21 @@ register_with catalog holdings = register_by catalog holdings (replicate owner_l
 abbrev pub keys_of : OwnerEntry → List ℕ
 keys_of owner = map (λ partition. length partition.keys) owner.partitions
 
+-- what each analyst may spend with an owner at most, where it has a limit, in the catalog's order
+abbrev pub limits_of : Catalog → OwnerEntry → List (Option ℕ)
+limits_of catalog owner = map (limit_for owner) catalog.analysts
+
 -- what is kept of an owner's budget, for a new journal
 abbrev pub entry_of : Catalog → OwnerEntry → Entry
 entry_of catalog owner =
-    record { budget = owner.budget; capacity = owner.capacity; analysts = length catalog.analysts; keys = keys_of owner; version = newest_version }
+    record {
+      budget = owner.budget;
+      capacity = owner.capacity;
+      analysts = length catalog.analysts;
+      keys = keys_of owner;
+      version = newest_version;
+      limits = limits_of catalog owner;
+    }
 
 -- an owner of the catalog, what it holds, and the version of its journal
 abbrev pub owner_of : Catalog → (OwnerEntry × Holding) × ℕ → Owner
@@ -105,7 +117,7 @@ pub record IsRegister (register : Register) : Type 0 where
       → slice_get register.holdings o ≡ Some holding → IsHeldBy owner holding
 
 abbrev pub no_entry : Entry
-no_entry = record { budget = 0; capacity = 0; analysts = 0; keys = []; version = 0 }
+no_entry = record { budget = 0; capacity = 0; analysts = 0; keys = []; version = 0; limits = [] }
 
 abbrev pub no_owner : Owner
 no_owner = record { name = []; entry = no_entry; tables = []; rows = []; partitions = [] }

@@ -2,7 +2,7 @@
 
 ghost use Rattle.std.specs.Prelude.{◌≡◌, ◌<◌, length, IfOk};
 ghost use Rattle.owner_catalog.specs.Entries.{owner_entry_at};
-ghost use Rattle.owner_house.specs.House.{entry_of, keys_of};
+ghost use Rattle.owner_house.specs.House.{entry_of, keys_of, limits_of};
 
 use budget_core::entry::Entry;
 use owner_catalog::Catalog;
@@ -21,6 +21,24 @@ fn keys_in(alloc: Global, catalog: &Catalog, owner: u32) -> Result<Vec<u16>, All
     Ok(keys)
 }
 
+// What each analyst may spend with an owner at most, where it has a limit.
+fn limits_in(
+    alloc: Global,
+    catalog: &Catalog,
+    owner: u32,
+    analysts: u16,
+) -> Result<Vec<Option<u64>>, AllocError>
+    requires owner { owner < length catalog.now.owners }
+    requires analysts { analysts ≡ length catalog.now.analysts }
+    ensures { IfOk result (λ limits. limits.items ≡ limits_of catalog.now (owner_entry_at catalog.now owner)) }
+{
+    let mut limits = Vec::new(alloc);
+    for analyst in 0..analysts {
+        limits.push(catalog.limit(owner, analyst))?;
+    }
+    Ok(limits)
+}
+
 /// What is kept of an owner's budget, for a new journal.
 pub fn new_entry(alloc: Global, catalog: &Catalog, owner: u32) -> Result<Entry, AllocError>
     requires { owner < length catalog.now.owners }
@@ -30,10 +48,12 @@ pub fn new_entry(alloc: Global, catalog: &Catalog, owner: u32) -> Result<Entry, 
     let _owners = catalog.owners();
     let analysts = catalog.analysts() as u16;
     let keys = keys_in(alloc, catalog, owner)?;
+    let limits = limits_in(alloc, catalog, owner, analysts)?;
     Ok(Entry::new(
         catalog.budget(owner),
         catalog.capacity(owner),
         analysts,
         keys,
+        limits,
     ))
 }

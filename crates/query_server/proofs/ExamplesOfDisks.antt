@@ -66,7 +66,7 @@ disk_line = refl
 
 -- an owner of this name, and a catalog of two
 abbrev owner : (name : List ℕ) (budget capacity : ℕ) → OwnerEntry
-owner name budget capacity = record { name = name; budget = budget; capacity = capacity; tables = []; partitions = []; text = name }
+owner name budget capacity = record { name = name; budget = budget; capacity = capacity; tables = []; partitions = []; limits = []; text = name }
 
 abbrev two : Catalog
 two = record { analysts = codes "ann" ∷ codes "bob" ∷ []; owners = owner census 10000000 100 ∷ owner (codes "b") 3 2 ∷ []; text = [] }
@@ -86,7 +86,7 @@ abbrev three : List Record
 three = made 0 ∷ settling 0 (Answered (pos 5)) ∷ made 1 ∷ settling 1 Exhausted ∷ made 2 ∷ []
 
 abbrev kept_in : (version : ℕ) → Entry
-kept_in version = record { budget = 10000000; capacity = 100; analysts = 1; keys = []; version = version }
+kept_in version = record { budget = 10000000; capacity = 100; analysts = 1; keys = []; version = version; limits = [] }
 
 -- in version 2 each counts, and in version 3 the exhausted one's charge has come back
 line_of_three : counted_line (kept_in 2) (owner census 10000000 100) three ≡ codes "census reservations 3 answered 1 exhausted 1 lost 1 spent 6 budget 10000000\n"
@@ -119,7 +119,7 @@ later_and_older = in_versions loading (3 ∷ 2 ∷ replicate 14 3)
 older_header : header_of later_and_older (codes "key") 1 ≡ record (header_of loading (codes "key") 1) { version = 2 }
 older_header = refl
 
-older_entry : entry_at later_and_older 1 ≡ record { budget = 3; capacity = 2; analysts = 2; keys = []; version = 2 }
+older_entry : entry_at later_and_older 1 ≡ record { budget = 3; capacity = 2; analysts = 2; keys = []; version = 2; limits = None ∷ None ∷ [] }
 older_entry = refl
 
 later_entry : entry_at later_and_older 0 ≡ entry_at loading 0

@@ -60,10 +60,10 @@ statuses = refl
 
 -- An audit's budget has what was granted.
 abbrev owner : OwnerEntry
-owner = record { name = census; budget = 10000000; capacity = 100; tables = []; partitions = []; text = census }
+owner = record { name = census; budget = 10000000; capacity = 100; tables = []; partitions = []; limits = []; text = census }
 
 abbrev kept : Entry
-kept = record { budget = 10000000; capacity = 100; analysts = 1; keys = []; version = 3 }
+kept = record { budget = 10000000; capacity = 100; analysts = 1; keys = []; version = 3; limits = [] }
 
 abbrev granted : (number amount : ℕ) → Record
 granted number amount = Grant (record { number = number; amount = amount })

@@ -91,7 +91,7 @@ abbrev nobody : List ℕ
 nobody = codes "nobody"
 
 abbrev with_table : (name file : List ℕ) → OwnerEntry
-with_table name file = record { name = name; budget = 1; capacity = 2; tables = table_in file ∷ []; partitions = []; text = [] }
+with_table name file = record { name = name; budget = 1; capacity = 2; tables = table_in file ∷ []; partitions = []; limits = []; text = [] }
 
 abbrev house_with : List OwnerEntry → Catalog
 house_with owners = record { analysts = a ∷ []; owners = owners; text = [] }

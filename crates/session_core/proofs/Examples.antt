@@ -70,7 +70,7 @@ abbrev pub people_entry : TableEntry
 people_entry = record { name = codes "people"; file = codes "people.csv"; columns = record { name = codes "age"; kind = Num } ∷ [] }
 
 abbrev pub owner_entry : (name : List ℕ) (budget capacity : ℕ) → List TableEntry → OwnerEntry
-owner_entry name budget capacity tables = record { name = name; budget = budget; capacity = capacity; tables = tables; partitions = []; text = [] }
+owner_entry name budget capacity tables = record { name = name; budget = budget; capacity = capacity; tables = tables; partitions = []; limits = []; text = [] }
 
 abbrev pub register_of : List OwnerEntry → List Holding → Register
 register_of owners holdings = record {

@@ -134,7 +134,7 @@ parted = record school_entry {
 keys_counted : (entry_of two_owners.catalog parted).keys ≡ 2 ∷ 1 ∷ []
 keys_counted = refl
 
-school_kept : (owner_at (house_of two_owners) 1).entry ≡ record { budget = 10000000; capacity = 100; analysts = 2; keys = []; version = 2 }
+school_kept : (owner_at (house_of two_owners) 1).entry ≡ record { budget = 10000000; capacity = 100; analysts = 2; keys = []; version = 2; limits = None ∷ None ∷ [] }
 school_kept = refl
 
 abbrev clinic : Owner

@@ -10,7 +10,7 @@ use Rattle.wire_lines.specs.Request.{hello, ask, askpart, recall, left, bye, lin
 use Rattle.wire_lines.specs.Refusal.{by_line, by_program, by_money, by_disk, by_number, no_memory, no_token, no_term, too_nested, ill_typed, too_sensitive, out_of_range, unbounded, no_number, too_deep, too_long, too_wide}
 use Rattle.wire_lines.specs.Reply.{greeted, answered, recalled, remaining, ended, refused, reply_text}
 use Rattle.wire_lines.specs.declared.refusal.LineRefusal.TheVariants.{Malformed, TooLong, Unknown, NoEpsilon, NoHello}
-use Rattle.wire_lines.specs.declared.refusal.MoneyRefusal.TheVariants.{OverBudget, JournalFull}
+use Rattle.wire_lines.specs.declared.refusal.MoneyRefusal.TheVariants.{OverBudget, JournalFull, OverShare}
 use Rattle.wire_lines.specs.declared.refusal.DiskRefusal.TheVariants.{Closed, Fault as DiskFault}
 use Rattle.wire_lines.specs.declared.refusal.NumberRefusal.TheVariants.{Exhausted as NoNoise, Lost as NoAnswer, Unknown as NoSuchNumber, NotYours}
 use Rattle.journal_records.specs.declared.records.Outcome.TheVariants.{Answered, Exhausted, Lost}
@@ -632,6 +632,11 @@ code_40 = refl
 code_41 : reply_text (refused (by_money (JournalFull 100 1 102))) ≡ codes "no 41 100 1 102\n"
 unfolding reply_text digits
 code_41 = refl
+
+-- spent, after, limit, records seen
+code_43 : reply_text (refused (by_money (OverShare 1 2 3 4))) ≡ codes "no 43 1 2 3 4\n"
+unfolding reply_text digits
+code_43 = refl
 
 -- the count of the disk's faults when the owner was closed
 code_42 : reply_text (refused (by_disk (Closed 1))) ≡ codes "no 42 1\n"

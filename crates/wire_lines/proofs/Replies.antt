@@ -17,7 +17,7 @@ use Rattle.wire_lines.specs.Refusal.{ProgramRefusal, no_token, no_term, too_nest
 use Rattle.wire_lines.specs.Reply.{Replied, greeted, answered, recalled, remaining, ended, refused, Datum, number, signed, text, ratio, datum_text, sensitivity_text, reply_words, refusal_words, reply_text, HasSize, IsReply, type_fault_text}
 use Rattle.wire_lines.specs.declared.refusal.LineRefusal.{LineRefusal}
 use Rattle.wire_lines.specs.declared.refusal.LineRefusal.TheVariants.{Malformed, TooLong, Unknown, NoEpsilon, NoHello}
-use Rattle.wire_lines.specs.declared.refusal.MoneyRefusal.TheVariants.{OverBudget, JournalFull}
+use Rattle.wire_lines.specs.declared.refusal.MoneyRefusal.TheVariants.{OverBudget, JournalFull, OverShare}
 use Rattle.journal_records.specs.declared.records.Outcome.{Outcome}
 use Rattle.journal_records.specs.declared.records.Outcome.TheVariants.{Answered, Exhausted, Lost}
 use Rattle.wire_lines.specs.declared.refusal.DiskRefusal.TheVariants.{Closed, Fault as DiskFault}
@@ -169,6 +169,7 @@ rows =
     ∷ (codes "37", λ ws. refused (by_program (too_wide (num ws 0) (num ws 1) (num ws 2))))
     ∷ (codes "40", λ ws. refused (by_money (OverBudget (num ws 0) (num ws 1) (num ws 2) (num ws 3))))
     ∷ (codes "41", λ ws. refused (by_money (JournalFull (num ws 0) (num ws 1) (num ws 2))))
+    ∷ (codes "43", λ ws. refused (by_money (OverShare (num ws 0) (num ws 1) (num ws 2) (num ws 3))))
     ∷ (codes "42", λ ws. refused (by_disk (Closed (num ws 0))))
     ∷ (codes "50", λ ws. refused (by_number (NoNoise (num ws 0))))
     ∷ (codes "51", λ ws. refused (by_number (NoAnswer (num ws 0))))
@@ -257,6 +258,7 @@ read_back_is (refused (by_program (too_deep from to))) h = rw (value_is from h.0
 read_back_is (refused (by_program (too_long from to))) h = rw (value_is from h.0, value_is to h.1.0) refl
 read_back_is (refused (by_program (too_wide from to width))) h = rw (value_is from h.0, value_is to h.1.0, value_is width h.1.1.0) refl
 read_back_is (refused (by_money (OverBudget spent after budget seen))) h = rw (value_is spent h.0, value_is after h.1.0, value_is budget h.1.1.0, value_is seen h.1.1.1.0) refl
+read_back_is (refused (by_money (OverShare spent after limit seen))) h = rw (value_is spent h.0, value_is after h.1.0, value_is limit h.1.1.0, value_is seen h.1.1.1.0) refl
 read_back_is (refused (by_money (JournalFull used unsettled capacity))) h = rw (value_is used h.0, value_is unsettled h.1.0, value_is capacity h.1.1.0) refl
 read_back_is (refused (by_disk (Closed failed_at))) h = rw (value_is failed_at h.0) refl
 read_back_is (refused (by_disk DiskFault)) h = refl
@@ -298,6 +300,7 @@ refusal_no_lf (by_line refusal) = line_no_lf refusal
 refusal_no_lf (by_program refusal) = program_no_lf refusal
 refusal_no_lf (by_money (OverBudget spent after budget seen)) = refl
 refusal_no_lf (by_money (JournalFull used unsettled capacity)) = refl
+refusal_no_lf (by_money (OverShare spent after limit seen)) = refl
 refusal_no_lf (by_disk (Closed failed_at)) = refl
 refusal_no_lf (by_disk DiskFault) = refl
 refusal_no_lf (by_number (NoNoise n)) = refl

@@ -19,7 +19,7 @@ use Rattle.wire_lines.specs.declared.reply.Field.TheVariants.{Number, Amount, Si
 use Rattle.wire_lines.specs.declared.refusal.LineRefusal.{LineRefusal}
 use Rattle.wire_lines.specs.declared.refusal.LineRefusal.TheVariants.{Malformed, Unknown}
 use Rattle.wire_lines.specs.declared.refusal.MoneyRefusal.{MoneyRefusal}
-use Rattle.wire_lines.specs.declared.refusal.MoneyRefusal.TheVariants.{OverBudget, JournalFull}
+use Rattle.wire_lines.specs.declared.refusal.MoneyRefusal.TheVariants.{OverBudget, JournalFull, OverShare}
 use Rattle.wire_lines.specs.declared.refusal.DiskRefusal.{DiskRefusal}
 use Rattle.wire_lines.specs.declared.refusal.DiskRefusal.TheVariants.{Closed, Fault as DiskFault}
 use Rattle.wire_lines.specs.declared.refusal.NumberRefusal.{NumberRefusal}
@@ -86,6 +86,7 @@ program_data (too_wide from to width) = number from ∷ number to ∷ number wid
 abbrev pub money_data : MoneyRefusal → List Datum
 money_data (OverBudget spent after budget seen) = number spent ∷ number after ∷ number budget ∷ number seen ∷ []
 money_data (JournalFull used unsettled capacity) = number used ∷ number unsettled ∷ number capacity ∷ []
+money_data (OverShare spent after limit seen) = number spent ∷ number after ∷ number limit ∷ number seen ∷ []
 
 abbrev pub disk_data : DiskRefusal → List Datum
 disk_data (Closed failed_at) = number failed_at ∷ []

@@ -98,6 +98,13 @@ pub enum MoneyRefusal {
         open: u32,
         capacity: u32,
     },
+    /// 43: in millionths what the analyst has spent, what it would have spent, and its limit; and the records seen.
+    OverShare {
+        spent: u64,
+        after: u64,
+        limit: u64,
+        seen: u32,
+    },
 }
 
 /// What is refused for the disk of the owner's journal.

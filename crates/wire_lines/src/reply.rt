@@ -239,6 +239,18 @@ fn write_money_refusal(refusal: MoneyRefusal, out: &mut [u8; REPLY_LIMIT]) -> us
                 &[Number(used), Number(open), Number(capacity)],
             )
         }
+        MoneyRefusal::OverShare {
+            spent,
+            after,
+            limit,
+            seen,
+        } => {
+            put_line(
+                out,
+                b"no 43",
+                &[Amount(spent), Amount(after), Amount(limit), Number(seen)],
+            )
+        }
     }
 }
 

@@ -21,6 +21,7 @@ census = record {
   capacity = 100;
   tables = people ∷ [];
   partitions = [];
+  limits = [];
   text = codes "{\"budget\":10000000,\"capacity\":100,\"name\":\"census\",\"partitions\":[],\"tables\":[{\"columns\":[{\"name\":\"age\",\"type\":\"num\"}],"
       ++ codes "\"file\":\"people.csv\",\"name\":\"people\"}]}";
 }

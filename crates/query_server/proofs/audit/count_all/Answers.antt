@@ -51,7 +51,7 @@ returns-in_err-count_owner-clause-disk g c line is =
     (λ p less. (c.requires.home p (omega (arith, less, few))).1) c.loop-owner.invariant.disks c.in_err-count_owner.ensures.left (c.in_err-count_owner.ensures.cause line (ap Err same))
 
 abbrev no_owner : OwnerEntry
-no_owner = record { name = []; budget = 0; capacity = 0; tables = []; partitions = []; text = [] }
+no_owner = record { name = []; budget = 0; capacity = 0; tables = []; partitions = []; limits = []; text = [] }
 
 pub loop-owner-preserved : goal.loop-owner-preserved
 loop-owner-preserved g c =

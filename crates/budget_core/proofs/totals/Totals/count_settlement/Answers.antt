@@ -13,6 +13,7 @@ use Rattle.budget_core.specs.Kept.{HasRows}
 use Rattle.budget_core.specs.Legal.{IsOpen, IsSettlementAfter}
 use Rattle.budget_core.proofs.Backs.{back-charged, charge-view}
 use Rattle.budget_core.proofs.KeptLemmas.{open-row, row-of, settled-costs, kept-Settle}
+use Rattle.budget_core.proofs.MineKept.{share-at, share-charged, row-known, share-settled, shares-Settle}
 use Rattle.budget_core.proofs.Numbers.{one_if}
 use Rattle.budget_core.proofs.Standings.{rows-Settle}
 use Rattle.budget_core.proofs.totals.Totals.count_settlement.Goals as goal
@@ -35,6 +36,27 @@ take_back-requires c =
       charge-view c.args.entry.now may.0 may.1.valid may.1.history c.args.settlement.now.number (record { view = row.view; amount = row.charge }) is.charge,
       back-charged c.args.entry.now may.0 c.args.settlement.now.number 0 c.args.settlement.now.outcome back may.1.history before
           (record { view = row.view; amount = row.charge }) c.args.self.now.costs is.charge may.1.costs,
+    ) in
+    record { charged = charged }
+
+pub index_mut-requires : goal.index_mut-requires
+index_mut-requires c =
+    let may = c.requires in
+    let row = c.index-row.result.now in
+    let is = row-of c.args.entry.now may.0 c.args.self.now c.args.settlement.now.number row may.1 (open-before c.args.entry.now may.0 c.args.settlement.now may.2) c.index-row.ensures in
+    omega (arith, may.1.shares.count, row-known c.args.entry.now may.0 c.args.settlement.now.number row may.1.history is)
+
+pub take_back-requires-2 : goal.take_back-requires-2
+take_back-requires-2 c =
+    let may = c.requires in
+    let row = c.index-row.result.now in
+    let before = open-before c.args.entry.now may.0 c.args.settlement.now may.2 in
+    let is = row-of c.args.entry.now may.0 c.args.self.now c.args.settlement.now.number row may.1 before c.index-row.ensures in
+    let share = share-at c.args.entry.now may.0 c.args.self.now.shares.items row.analyst c.index_mut.result.now may.1.shares
+    (row-known c.args.entry.now may.0 c.args.settlement.now.number row may.1.history is) c.index_mut.ensures.value in
+    let charged : comes_back c.args.entry.now (Some c.args.settlement.now.outcome) ≡ true → IsView row.view × HasCharged c.index_mut.result.now row.view row.charge = λ back. (
+      charge-view c.args.entry.now may.0 may.1.valid may.1.history c.args.settlement.now.number (record { view = row.view; amount = row.charge }) is.charge,
+      share-charged c.args.entry.now may.0 c.args.settlement.now.number c.args.settlement.now.outcome row c.index_mut.result.now may.1.history before is back share,
     ) in
     record { charged = charged }
 
@@ -62,7 +84,12 @@ returns c records told may short =
     c.settle_row.auto.rows c.settle_row.ensures.settled c.settle_row.ensures.others in
     let costs = settled-costs c.args.entry.now records c.args.self.now settlement.number settlement.outcome settlement.returned row c.take_back.new.costs told before is
     c.take_back.ensures.given c.take_back.ensures.kept in
-    kept-Settle c.args.entry.now records c.args.self.now settlement c.take_back.new.costs _ c.from.result c.from-2.result told may short costs
+    let share = share-at c.args.entry.now records c.args.self.now.shares.items row.analyst c.index_mut.result.now told.shares
+    (row-known c.args.entry.now records settlement.number row told.history is) c.index_mut.ensures.value in
+    let own = share-settled c.args.entry.now records settlement.number settlement.returned settlement.outcome row c.index_mut.result.now c.take_back-2.new.costs told.history before is share
+    c.take_back-2.ensures.given c.take_back-2.ensures.kept c.take_back-2.ensures.places c.take_back-2.ensures.room in
+    kept-Settle c.args.entry.now records c.args.self.now settlement c.take_back.new.costs _ _ c.from.result c.from-2.result told may short costs
+    (shares-Settle c.args.entry.now records c.args.self.now.shares.items settlement.number settlement.returned settlement.outcome row c.take_back-2.new.costs told.history is told.shares own)
     (subst (λ (xs : List Row). HasRows xs (records ++ Settle settlement ∷ [])) (sym (with_items_is c.args.self.now.rows c.settle_row.new.rows (omega (arith, c.settle_row.auto.rows, c.deref_mut.ensures.len)))) rows)
     refl (c.from.ensures ∙ ap bool_byte c.is_answer.ensures ∙ byte-one _) (c.from-2.ensures ∙ ap bool_byte c.is_exhaustion.ensures ∙ byte-one _)
     (told.part_room.0, c.take_back.ensures.room told.part_room.0 told.part_room.1, told.part_room.2)

@@ -17,6 +17,7 @@ returns c =
       within = omega (arith, cost_of-nil c.args.entry.now);
       limited = omega (arith, budget_of-nil c.args.entry.now, c.capacity.ensures.valid.budget);
       costs = c.in_ok-costs.ensures.totals;
+      shares = c.in_ok-shares.ensures;
       rows = subst (λ (rows : List Row). HasRows rows []) (sym c.in_ok-rows.ensures.items) no-rows;
       answered = refl;
       exhausted = refl;

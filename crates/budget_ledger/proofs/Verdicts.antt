@@ -1,0 +1,112 @@
+-- What a book's verdict says of the verdict on its records.
+use Rattle.std.proofs.Common.{◌≡◌, ◌⊎◌, ℕ, Bool, true, false, List, [], ◌∷◌, ◌++◌, Option, None, Some, Result, Ok, Err, inl, inr, refl, sym, ◌∙◌, ap, subst}
+use Rattle.budget_core.specs.declared.entry.Ask.{Ask}
+use Rattle.budget_core.specs.declared.entry.Grant.{Grant}
+use Rattle.budget_core.specs.declared.entry.ReserveFault.{ReserveFault}
+use Rattle.budget_core.specs.declared.entry.ReserveFault.TheVariants.{OverBudget, Full, OverShare}
+use Rattle.budget_core.specs.Bars.{first_bar}
+use Rattle.budget_core.specs.Entries.{Entry}
+use Rattle.budget_core.specs.Ledger.{start_of, reservation_for, money_verdict}
+use Rattle.journal_records.specs.declared.records.Record.{Record}
+use Rattle.budget_ledger.specs.Account.{Failure, Account}
+use Rattle.budget_ledger.specs.Booked.{shut_bars, book_verdict, HasVerdict, IsUnwritten, IsReserved}
+use Rattle.budget_ledger.specs.Kept.{refusal_with}
+use Rattle.budget_ledger.specs.declared.book.AppendFault.{AppendFault}
+use Rattle.budget_ledger.specs.declared.book.AppendFault.TheVariants.{Closed, DiskFault}
+use Rattle.budget_ledger.specs.declared.book.BookFault.{BookFault}
+use Rattle.budget_ledger.specs.declared.book.BookFault.TheVariants.{Refused, Unwritten}
+
+-- ---- three bars, and what shuts the journal before the last
+
+abbrev on_records : (over full beyond : Bool) (e f g : ReserveFault) (v : Grant) → Result Grant ReserveFault
+on_records over full beyond e f g v = first_bar ((over, e) ∷ (full, f) ∷ (beyond, g) ∷ []) v
+
+abbrev on_book : Option Failure → (over full beyond : Bool) (e f g : ReserveFault) (v : Grant) → Result Grant BookFault
+on_book closed over full beyond e f g v = first_bar ((over, Refused e) ∷ (full, Refused f) ∷ shut_bars closed ++ (beyond, Refused g) ∷ []) v
+
+module _ (s t b n used unsettled capacity spent after limit seen : ℕ) (v : Grant) where
+  refuses : (closed : Option Failure) (over full beyond : Bool) (fault : ReserveFault) → on_records over full beyond (OverBudget s t b n) (Full used unsettled capacity) (OverShare spent after limit seen) v ≡ Err fault
+      → on_book closed over full beyond (OverBudget s t b n) (Full used unsettled capacity) (OverShare spent after limit seen) v ≡ Err (refusal_with fault closed)
+  refuses closed true full beyond fault is = let same : OverBudget s t b n ≡ fault = cc is in ap (λ (x : ReserveFault). Err (refusal_with x closed)) same
+  refuses closed false true beyond fault is = let same : Full used unsettled capacity ≡ fault = cc is in ap (λ (x : ReserveFault). Err (refusal_with x closed)) same
+  refuses None false false true fault is = let same : OverShare spent after limit seen ≡ fault = cc is in ap (λ (x : ReserveFault). Err (refusal_with x None)) same
+  refuses (Some failure) false false true fault is = let same : OverShare spent after limit seen ≡ fault = cc is in ap (λ (x : ReserveFault). Err (refusal_with x (Some failure))) same
+  refuses closed false false false fault is = absurd cc
+
+  grants : (over full beyond : Bool) (w : Grant) → on_records over full beyond (OverBudget s t b n) (Full used unsettled capacity) (OverShare spent after limit seen) v ≡ Ok w
+      → on_book None over full beyond (OverBudget s t b n) (Full used unsettled capacity) (OverShare spent after limit seen) v ≡ Ok w
+  grants true full beyond w is = absurd cc
+  grants false true beyond w is = absurd cc
+  grants false false true w is = absurd cc
+  grants false false false w is = let same : v ≡ w = cc is in ap Ok same
+
+  shuts : (failure : Failure) (over full beyond : Bool) (w : Grant) → on_records over full beyond (OverBudget s t b n) (Full used unsettled capacity) (OverShare spent after limit seen) v ≡ Ok w
+      → on_book (Some failure) over full beyond (OverBudget s t b n) (Full used unsettled capacity) (OverShare spent after limit seen) v ≡ Err (Unwritten (Closed failure.failed_at))
+  shuts failure true full beyond w is = absurd cc
+  shuts failure false true beyond w is = absurd cc
+  shuts failure false false beyond w is = refl
+
+  -- ---- back
+
+  granted_back : (closed : Option Failure) (over full beyond : Bool) (w : Grant) → on_book closed over full beyond (OverBudget s t b n) (Full used unsettled capacity) (OverShare spent after limit seen) v ≡ Ok w
+      → (closed ≡ None) × (on_records over full beyond (OverBudget s t b n) (Full used unsettled capacity) (OverShare spent after limit seen) v ≡ Ok w)
+  granted_back closed true full beyond w is = absurd cc
+  granted_back closed false true beyond w is = absurd cc
+  granted_back (Some failure) false false beyond w is = absurd cc
+  granted_back None false false true w is = absurd cc
+  granted_back None false false false w is = let same : v ≡ w = cc is in (refl, ap Ok same)
+
+  refused_back : (closed : Option Failure) (over full beyond : Bool) (fault : ReserveFault) → on_book closed over full beyond (OverBudget s t b n) (Full used unsettled capacity) (OverShare spent after limit seen) v ≡ Err (Refused fault)
+      → on_records over full beyond (OverBudget s t b n) (Full used unsettled capacity) (OverShare spent after limit seen) v ≡ Err fault
+  refused_back closed true full beyond fault is = let same : OverBudget s t b n ≡ fault = cc is in ap Err same
+  refused_back closed false true beyond fault is = let same : Full used unsettled capacity ≡ fault = cc is in ap Err same
+  refused_back (Some failure) false false beyond fault is = absurd cc
+  refused_back None false false true fault is = let same : OverShare spent after limit seen ≡ fault = cc is in ap Err same
+  refused_back None false false false fault is = absurd cc
+
+-- ---- of a book
+
+module _ (account : Account) (ask : Ask) where
+  abbrev Says : Result Grant ReserveFault → Type 0
+  Says verdict = money_verdict account.ledger.entry (start_of account.ledger) account.ledger.records ask ≡ verdict
+
+  refused-says : (fault : ReserveFault) → Says (Err fault) → HasVerdict account ask (Err (refusal_with fault account.storage.closed))
+  refused-says fault is = refuses _ _ _ _ _ _ _ _ _ _ _ _ account.storage.closed _ _ _ fault is
+
+  granted-says : (grant : Grant) → Says (Ok grant) → account.storage.closed ≡ None → HasVerdict account ask (Ok grant)
+  granted-says grant is none =
+      ap (λ (closed : Option Failure). book_verdict account.ledger.entry (start_of account.ledger) account.ledger.records closed ask) none
+      ∙ grants _ _ _ _ _ _ _ _ _ _ _ _ _ _ _ grant is
+
+  shut-says : (grant : Grant) (failure : Failure) → Says (Ok grant) → account.storage.closed ≡ Some failure → HasVerdict account ask (Err (Unwritten (Closed failure.failed_at)))
+  shut-says grant failure is closed =
+      ap (λ (closed : Option Failure). book_verdict account.ledger.entry (start_of account.ledger) account.ledger.records closed ask) closed
+      ∙ shuts _ _ _ _ _ _ _ _ _ _ _ _ failure _ _ _ grant is
+
+  -- A refusal leaves the book as it is.
+  pub is-refused : (fault : ReserveFault) → Says (Err fault) → IsReserved account ask (Err (refusal_with fault account.storage.closed)) account
+  is-refused fault is = by fault account.storage.closed (refused-says fault is)
+    where
+      by : (x : ReserveFault) (closed : Option Failure) → HasVerdict account ask (Err (refusal_with x closed)) → IsReserved account ask (Err (refusal_with x closed)) account
+      by (OverBudget s t b n) closed said = (said, refl)
+      by (Full used unsettled capacity) closed said = (said, refl)
+      by (OverShare spent after limit seen) None said = (said, refl)
+      by (OverShare spent after limit seen) (Some failure) said = (said, refl)
+
+  -- what a grant comes to that isn't written
+  pub is-unwritten : (grant : Grant) (fault : AppendFault) (new : Account) → Says (Ok grant) → IsUnwritten account (reservation_for account.ledger.records ask grant.taken) fault new
+      → IsReserved account ask (Err (Unwritten fault)) new
+  is-unwritten grant (Closed n) new is (failure, closed, at, same) =
+      (shut-says grant failure is closed ∙ ap (λ (m : ℕ). Err (Unwritten (Closed m))) (sym at), same)
+  is-unwritten grant DiskFault new is closed = (grant, granted-says grant is closed.open_before, closed)
+
+  -- ---- back
+
+  pub says-granted : (grant : Grant) → HasVerdict account ask (Ok grant) → Says (Ok grant)
+  says-granted grant is = (granted_back _ _ _ _ _ _ _ _ _ _ _ _ account.storage.closed _ _ _ grant is).1
+
+  pub says-open : (grant : Grant) → HasVerdict account ask (Ok grant) → account.storage.closed ≡ None
+  says-open grant is = (granted_back _ _ _ _ _ _ _ _ _ _ _ _ account.storage.closed _ _ _ grant is).0
+
+  pub says-refused : (fault : ReserveFault) → HasVerdict account ask (Err (Refused fault)) → Says (Err fault)
+  says-refused fault is = refused_back _ _ _ _ _ _ _ _ _ _ _ _ account.storage.closed _ _ _ fault is
