@@ -100,6 +100,7 @@ def watched(room, copy, *words):
 def judge_watch(room, copy, books):
     told = json.loads(watched(room, copy, "--json"))["owners"]
     text, lines = watched(room, copy), watched(room, copy, "--prometheus").splitlines()
+    shares = json.loads(watched(room, copy, "--json", "--analysts"))["analysts"]
     for book in books:
         name, unsettled = book.entry["name"], len(book.reserved) - len(book.settled)
         wanted = {"spent_millionths": book.spent, "budget_millionths": book.budget, "records": len(book.records), "open": unsettled, "lost": 0}
@@ -108,6 +109,9 @@ def judge_watch(room, copy, books):
                 raise Wrong(f"tools/watch: {what} of {name} isn't {value}")
         if f"{name}: spent {book.spent} of" not in text or f"open {unsettled}, lost 0" not in text:
             raise Wrong(f"tools/watch said {text}")
+        # One analyst asks everything, of the whole, and has no limit.
+        if [tuple(one.values()) for one in shares[name].values()] != ([(book.spent, None)] if book.spent else []):
+            raise Wrong(f"tools/watch --analysts said {shares[name]} of {name}, where {book.spent} is spent")
 
 
 class Copies:

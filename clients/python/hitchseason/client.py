@@ -209,8 +209,12 @@ class Client:
             raise
 
     def limit_allows(self, asks):
-        """Whether the analyst's limit surely refused none of these asks, whatever became of them: what is spent now is at least what was spent before."""
-        own = self.share()
+        """Whether the analyst's limit surely refused none of these asks, whatever became of them: what is spent now is at least what was spent before.
+        Where that isn't told, nothing is sure."""
+        try:
+            own = self.share()
+        except Fault:
+            return False
         return own is None or own.limit is None or own.spent + charge_of(asks) <= own.limit
 
     def recall(self, number, eps=None):

@@ -262,16 +262,21 @@ class Connections(unittest.TestCase):
 
 
 class Told:
-    """A transport that has its replies written down: a list of replies, or what is raised, an exchange. A hello and a `left`, before recalls, or a `mine`, are none, unless
-    they fail: they say that there are more records than are recalled."""
+    """A transport that has its replies written down: a list of replies, or what is raised, an exchange. A hello and a `left`, before recalls, are none, unless
+    they fail: they say that there are more records than are recalled. Nor is a `mine`, whose replies, or what is raised, are `mine`, the last one for ever."""
 
     def __init__(self, *exchanges):
-        self.exchanges, self.asked = list(exchanges), []
+        self.exchanges, self.asked, self.mine = list(exchanges), [], ["mine 0 none 40"]
 
     def replies(self, lines):
+        if lines[-1].startswith("mine "):
+            said = self.mine.pop(0) if len(self.mine) > 1 else self.mine[0]
+            if isinstance(said, Exception):
+                raise said
+            return [lines[0], said]
         self.asked.append(lines)
         if len(lines) == 2 and not isinstance(self.exchanges[0], Exception):
-            return [lines[0], "mine 0 none 40" if lines[1].startswith("mine ") else "left 1000000 20000000 40"]
+            return [lines[0], "left 1000000 20000000 40"]
         said = self.exchanges.pop(0)
         if isinstance(said, Exception):
             raise said
@@ -383,6 +388,14 @@ class Servers(unittest.TestCase):
             self.assertEqual([answer.number for answer in cut.answers], [3] if what is None else [])
             self.assertEqual("which is whose isn't known" in str(cut), what is not None)
             self.assertEqual(([number for number, _ in cut.numbers], len(cut.unasked)), ([4 if what == "others" else 3], 1 if what is None else 0))
+
+    def test_limited(self):
+        """The same where the analyst's limit may have refused one: two asks cost a million together. Where no limit is told, nothing is sure either."""
+        for mine, sure in (("mine 500000 none 6", True), ("mine 500000 1500000 6", True), ("mine 500000 1499999 6", False), (Stopped("cut"), False)):
+            client, call = self.mean(Stopped("cut", [HELLO]), [HELLO, "recall 3 answer -60 6"])
+            client.transport.mine.append(mine)
+            cut = self.cut_of(call)
+            self.assertEqual(([answer.number for answer in cut.answers], [number for number, _ in cut.numbers]), ([3] if sure else [], [3]), mine)
 
     def test_granted(self):
         """One new number of two asks, after grants or without: where something was granted meanwhile, which took room, nothing is sure."""

@@ -30,7 +30,7 @@ type Case = (&'static str, &'static str);
 type Part = (&'static [&'static str], &'static [Case], &'static str);
 
 #[rattlefmt::skip]
-const PARTS: [Part; 7] = [
+const PARTS: [Part; 8] = [
     // the file
     (&[], &[
         ("{\"owners\":", "Syntax Catalog 0 0 0"),
@@ -119,6 +119,23 @@ const PARTS: [Part; 7] = [
         ("[7,7,7,7,7,7,7,7,7]", "Count Partitions 1 0 0"),
         ("[]", "ok"),
     ], "}]}"),
+    // the limits of the second owner, which stand before its last members
+    (&[FIRST, OWNER, ",{\"name\":\"p\",\"limits\":"], &[
+        ("7", "Kind Limits 1 0 0"),
+        ("null", "Kind Limits 1 0 0"),
+        ("[7]", "Kind Limit 1 0 0"),
+        ("[{\"budget\":7,\"z\":7}]", "Missing LimitAnalyst 1 0 0"),
+        ("[{\"analyst\":7,\"z\":7}]", "Missing LimitBudget 1 0 0"),
+        ("[{\"analyst\":7,\"budget\":0,\"z\":7}]", "Unknown z Limit 1 0 0"),
+        ("[{\"analyst\":7,\"budget\":0}]", "Kind LimitAnalyst 1 0 0"),
+        ("[{\"analyst\":\"bob\",\"budget\":0}]", "NoSuch LimitAnalyst 1 0 0"),
+        ("[{\"analyst\":\"ann\",\"budget\":\"1\"}]", "Kind LimitBudget 1 0 0"),
+        ("[{\"analyst\":\"ann\",\"budget\":0}]", "Range LimitBudget 1 0 0"),
+        ("[{\"analyst\":\"ann\",\"budget\":1000000000000000001}]", "Range LimitBudget 1 0 0"),
+        ("[{\"analyst\":\"ann\",\"budget\":1},{\"analyst\":\"ann\",\"budget\":2}]", "Double Limit 1 1 0"),
+        ("[{\"analyst\":\"ann\",\"budget\":1000000000000000000}]", "ok"),
+        ("[]", "ok"),
+    ], ",\"budget\":1,\"capacity\":2,\"tables\":[{\"name\":\"t\",\"file\":\"f\",\"columns\":[{\"name\":\"a\",\"type\":\"num\"}]}],\"partitions\":[]}]}"),
 ];
 
 // A fault in the words of the rows.
@@ -190,7 +207,8 @@ fn each_fault(rt: HostRuntime) -> Result<(), Fail> {
 const CATALOG: &str =
     "{\"owners\":[{\"name\":\"census\",\"budget\":10000000,\"capacity\":100,\"partitions\":[{\"keys\":[\"A\",\"B\"],\"name\":\"area\",\
     \"table\":\"people\",\"column\":\"town\"}],\"tables\":[{\"file\":\"people.csv\",\"name\":\"people\",\"columns\":[{\"type\":\"num\",\"name\":\"age\"},\
-    {\"name\":\"town\",\"type\":\"text\"}]},{\"name\":\"visits\",\"file\":\"visits.csv\",\"columns\":[{\"name\":\"day\",\"type\":\"num\"}]}]},\
+    {\"name\":\"town\",\"type\":\"text\"}]},{\"name\":\"visits\",\"file\":\"visits.csv\",\"columns\":[{\"name\":\"day\",\"type\":\"num\"}]}],\
+    \"limits\":[{\"budget\":5,\"analyst\":\"bob\"}]},\
     {\"name\":\"clinic\",\"budget\":1000000000000000000,\"capacity\":262144,\"tables\":[{\"name\":\"a\",\"file\":\"a\",\"columns\":[{\"name\":\"n\",\
     \"type\":\"num\"}]}],\"partitions\":[]}],\"analysts\":[\"ann\",\"bob\"]}";
 
@@ -244,10 +262,22 @@ fn has_clinic(catalog: &Catalog) -> bool {
     name == "clinic" && numbers == (1_000_000_000_000_000_000, 262_144) && parts == (1, 0)
 }
 
+// Bob's limit with the first owner, and no other.
+fn has_limits(catalog: &Catalog) -> bool {
+    if catalog.owners() != 2 {
+        return false;
+    }
+    if catalog.analysts() != 2 {
+        return false;
+    }
+    let first = (catalog.limit(0, 0), catalog.limit(0, 1));
+    first == (None, Some(5)) && catalog.limit(1, 1).is_none()
+}
+
 // The same of the first owner, with digests of 32 bytes 9 and of 32 bytes 8, in this order.
 const DIGEST_OF_TWO: [u8; 32] = [
-    0xb5, 0x24, 0x26, 0xbc, 0x39, 0x6e, 0x8e, 0x16, 0x2c, 0x99, 0x4d, 0x22, 0x80, 0xa0, 0x5f, 0x42,
-    0x21, 0xc1, 0xcc, 0xd2, 0x87, 0x99, 0x24, 0x10, 0xa6, 0x4e, 0x90, 0x64, 0x7e, 0x89, 0x20, 0x9b,
+    0xf6, 0xf9, 0xd4, 0x34, 0xc8, 0x45, 0x93, 0x02, 0x2f, 0x29, 0x2a, 0xca, 0x3c, 0xc9, 0x29, 0x35,
+    0x55, 0x22, 0x0b, 0xbb, 0x4f, 0xc5, 0x44, 0x9d, 0x75, 0x38, 0xc3, 0x42, 0xd8, 0xd5, 0x04, 0xf0,
 ];
 
 #[test]
@@ -258,6 +288,7 @@ fn calls(rt: HostRuntime) -> Result<(), Fail> {
     assert!(rt; finds_names(&catalog));
     assert!(rt; has_parts(&catalog));
     assert!(rt; has_clinic(&catalog));
+    assert!(rt; has_limits(&catalog));
     assert!(rt; catalog.owners() == 2);
     assert!(rt; catalog.signature(rt.alloc(), 0)?.len() == 2);
     assert!(rt; catalog.tables(1) == 1);
