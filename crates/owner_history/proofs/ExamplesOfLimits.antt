@@ -82,18 +82,22 @@ without_limit (suc (suc analyst)) limit is = absurd (cc (is))
 -- ---- shares
 
 shared : IsShared (limited 1000000 (Some 600000 ∷ Some 400000 ∷ []))
-shared = record { each = some; within = omega arith }
+shared = record { only = omega arith; each = some; within = omega arith }
   where
     some : (analyst : ℕ) → analyst < 2 → IsSome (limit_of (limited 1000000 (Some 600000 ∷ Some 400000 ∷ [])) analyst)
-    some zero lt = tt
-    some (suc zero) lt = tt
+    some zero lt = refl
+    some (suc zero) lt = refl
     some (suc (suc analyst)) lt = absurd (omega arith)
 
 more_than_there_is : IsShared (limited 1000000 (Some 600000 ∷ Some 400001 ∷ [])) → ⊥
 more_than_there_is h = absurd (let most : 1000001 ≤ 1000000 = h.within in omega (arith, most))
 
 one_without : IsShared (limited 1000000 (Some 600000 ∷ None ∷ [])) → ⊥
-one_without h = h.each 1 (omega arith)
+one_without h = absurd (let none : false ≡ true = h.each 1 (omega arith) in cc (none))
+
+-- a limit of nobody's
+one_too_many : IsShared (limited 1000000 (Some 500000 ∷ Some 400000 ∷ Some 100000 ∷ [])) → ⊥
+one_too_many h = absurd (let few : 3 ≤ 2 = h.only in omega (arith, few))
 
 -- The first has spent all of its share. The second can spend all of its own, and 1 more is above it.
 abbrev spends : List Record

@@ -4,6 +4,7 @@ use Rattle.std.specs.Prelude.{IsSome}
 use Rattle.std.specs.List.{filter}
 use Rattle.std.proofs.lemmas.Bool.{cases_eq, eqb-true, eq-eqb, ne_eqb, ltb-false, ltb-true}
 use Rattle.std.proofs.lemmas.List.Sums.{sum_by-cons}
+use Rattle.std.proofs.lemmas.Option.{slice_get_within}
 use mathlib.Core.Logic.{◌⊎◌, inl, inr}
 use Rattle.partition_charge.specs.declared.view.View.{View}
 use Rattle.partition_charge.specs.declared.view.View.TheVariants.{Whole, Part}
@@ -127,7 +128,7 @@ unfolding budget_of
 budget_grows entry records = omega arith
 
 some-limit : (o : Option ℕ) → IsSome o → (limit : ℕ) × (o ≡ Some limit) × (unwrap_or o 0 ≡ limit)
-some-limit None is = absurd is
+some-limit None is = absurd (cc (is))
 some-limit (Some limit) is = (limit, refl, refl)
 
 within-share : (o : Option ℕ) (limit spent : ℕ) → o ≡ Some limit → is_some_and (λ most. nat_lt most spent) o ≡ false → spent ≤ limit
@@ -173,6 +174,14 @@ shares_are_kept entry records ask shared h known within = omega (
             let others : spent_by entry after a ≡ spent_by entry records a
             = spent_by-charges entry after a ∙ ap cost_of_charges (charges-others entry records a asked is) ∙ sym (spent_by-charges entry records a) in
             omega (arith, its.2, others, stays_within_limits entry records a its.0 h its.1)
+
+-- who has a limit is an analyst of the entry
+pub limited_known : (entry : Entry) (analyst limit : ℕ) → IsShared entry → limit_of entry analyst ≡ Some limit → analyst < entry.analysts
+limited_known entry analyst limit shared is = by (slice_get entry.limits analyst) refl is
+  where
+    by : (o : Option (Option ℕ)) → slice_get entry.limits analyst ≡ o → unwrap_or o None ≡ Some limit → analyst < entry.analysts
+    by None at said = absurd (cc (said))
+    by (Some its) at said = omega (arith, slice_get_within entry.limits analyst its at, shared.only)
 
 -- Whether an ask exceeds its analyst's limit goes by what this analyst asked.
 pub limits_go_by_own : (entry : Entry) (records other : List Record) (ask : Ask) → IsHistory entry records → IsHistory entry other → asked_by records ask.analyst ≡ asked_by other ask.analyst
