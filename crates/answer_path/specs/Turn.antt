@@ -38,5 +38,5 @@ pub record IsTurn (owner : Owner) (draws : ℕ → ℕ → ℕ) (query : Query) 
   pub asked : IsAsked owner draws (first_of_run before) query before.seen reply told after.seen
   pub own : after.own ≡ before.own ++ told
   pub shuts : FailsBy owner draws query (disk_word reply) told (shut_of before) (shut_of after)
-  pub open : IsSaidOpen reply after.failure
+  pub said_open : IsSaidOpen reply after.failure
   pub due : IsGrantPending owner (first_of_run before) query reply told after.seen after.failure

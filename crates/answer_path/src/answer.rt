@@ -299,7 +299,7 @@ pub fn ask<'d, R: Wait, D: Disk, S: Streams>(
         → FailsBy whose (S.given streams.now owner) (query_of query.now) (disk_word (replied result)) told
         (shut_of pass.old.knows) (shut_of pass.new.knows) }
     // Only of a book that isn't shut the analyst's share is told.
-    ensures open { IsSaidOpen (replied result) pass.new.knows.failure }
+    ensures said_open { IsSaidOpen (replied result) pass.new.knows.failure }
     // Where the append of the reservation failed, what the disk may have is what was granted on the records seen then.
     ensures due { (whose : Owner) → IsOwnerOf pass.old.knows.opened.ledger.entry dataset.now whose
         → (told : List Told) → pass.new.knows.own ≡ pass.old.knows.own ++ told

@@ -19,6 +19,7 @@ use Rattle.budget_ledger.specs.declared.book.AppendFault.TheVariants.{Closed, Di
 use Rattle.budget_ledger.specs.declared.book.BookFault.{BookFault}
 use Rattle.budget_ledger.specs.declared.book.BookFault.TheVariants.{Refused, Unwritten}
 use Rattle.budget_ledger.specs.Booked.{HasGained, HasClosed, IsUnwritten, IsReserved, IsSettlementOf}
+use Rattle.budget_ledger.proofs.Verdicts.{says-granted}
 use Rattle.owner_lock.specs.Known.{Known}
 use Rattle.atomic_table.specs.Seated.{TableId}
 use Rattle.owner_lock.specs.Known.{known_first, joined, whole_share}
@@ -82,7 +83,8 @@ unwritten_goes x y next DiskFault h = inr (inr (breaks_of x y next h))
 pub reserved_goes : (x y : Watched) (ask : Ask) (result : Result Grant BookFault) → IsReserved (account_at x) ask result (account_at y) → (taken : ℕ) × Goes x (reservation_for x.records ask taken) y
 reserved_goes x y ask (Ok grant) h = (grant.taken, inl (gains_of x y (reservation_for x.records ask grant.taken) h.1))
 reserved_goes x y ask (Err (Refused fault)) h = (0, inr (inl (rests_of x y h.1)))
-reserved_goes x y ask (Err (Unwritten fault)) h = (h.0.taken, unwritten_goes x y (reservation_for x.records ask h.0.taken) fault h.2)
+reserved_goes x y ask (Err (Unwritten (Closed failed_at))) h = (0, inr (inl (rests_of x y h.1)))
+reserved_goes x y ask (Err (Unwritten DiskFault)) h = (h.0.taken, inr (inr (breaks_of x y (reservation_for x.records ask h.0.taken) h.2)))
 
 pub settled_goes : (x y : Watched) (number : ℕ) (outcome : Outcome) (result : Result ℕ AppendFault) → IsSettlementOf (account_at x) number outcome result (account_at y) → Goes x (settlement_for x.opened.ledger.entry x.records number outcome) y
 settled_goes x y number outcome (Ok seen) h = inl (gains_of x y (settlement_for x.opened.ledger.entry x.records number outcome) h.0)
@@ -213,23 +215,33 @@ module _ (opened : Account) (v w : Known Noted Account) (x y : Watched) (m : Mee
       (failure, failure_is ∙ (r.closed ∙ closed), at, stays r)
   unwritten next DiskFault h = fails next (breaks_of x y next h)
 
-  same_verdict : IsPassKnown opened v → (g : List Record) (ask : Ask) → verdict_on (pass_with x.opened v) g ask ≡ verdict_on before g ask
-  same_verdict k g ask = ap (λ (o : Account). verdict_on (pass_with o v) g ask) (same_opened opened v x k m)
+  -- the verdict, by whether the book was closed so
+  same_verdict : IsPassKnown opened v → (ask : Ask) (closed : Option Failure) → x.storage.closed ≡ closed
+      → verdict_on before x.records closed ask ≡ verdict_on (pass_with x.opened v) x.records x.storage.closed ask
+  same_verdict k ask closed is = λ i. verdict_on (pass_with (sym (same_opened opened v x k m) i) v) x.records (sym is i) ask
+
+  -- nothing was done, so it is closed as it was
+  closed_as : Rests x y → x.storage.closed ≡ after.failure
+  closed_as r = sym (failure_is ∙ r.closed)
 
   told_on : x ≡ y → PassStays before x.records after
   told_on same = stays (record { records = sym (ap (λ (z : Watched). z.records) same); closed = sym (ap (λ (z : Watched). z.storage.closed) same) })
 
   reserved_on : IsPassKnown opened v → (ask : Ask) (result : Result Grant BookFault) → IsReserved (account_at x) ask result (account_at y) → IsReservedOn before x.records ask result after
-  reserved_on k ask (Ok grant) h = (sym (same_verdict k x.records ask) ∙ h.0, adds (reservation_for x.records ask grant.taken) (gains_of x y (reservation_for x.records ask grant.taken) h.1))
-  reserved_on k ask (Err (Refused fault)) h = (sym (same_verdict k x.records ask) ∙ h.0, stays (rests_of x y h.1))
-  reserved_on k ask (Err (Unwritten fault)) (grant, verdict, h) = (grant, sym (same_verdict k x.records ask) ∙ verdict, unwritten (reservation_for x.records ask grant.taken) fault h)
+  reserved_on k ask (Ok grant) h =
+      (same_verdict k ask None h.1.open_before ∙ h.0, adds (reservation_for x.records ask grant.taken) (gains_of x y (reservation_for x.records ask grant.taken) h.1))
+  reserved_on k ask (Err (Refused fault)) h = let r = rests_of x y h.1 in (same_verdict k ask after.failure (closed_as r) ∙ h.0, stays r)
+  reserved_on k ask (Err (Unwritten (Closed failed_at))) h = let r = rests_of x y h.1 in (same_verdict k ask after.failure (closed_as r) ∙ h.0, stays r)
+  reserved_on k ask (Err (Unwritten DiskFault)) (grant, verdict, h) =
+      let next : Record = reservation_for x.records ask grant.taken in
+      (grant, same_verdict k ask None h.open_before ∙ verdict, fails next (breaks_of x y next h))
 
   -- what was just reserved isn't settled
   granted_on : IsPassKnown opened v → (ask : Ask) (grant : Grant) → IsReserved (account_at x) ask (Ok grant) (account_at y) → HasGranted after grant.number
   granted_on k ask grant h =
       let more = adds (reservation_for x.records ask grant.taken) (gains_of x y (reservation_for x.records ask grant.taken) h.1) in
       let next : Told = (length x.records, reservation_for x.records ask grant.taken) in
-      let number = grant-number x.opened.ledger.entry (start_of (ledger_on x.opened x.records)) x.records ask grant h.0 in
+      let number = grant-number x.opened.ledger.entry (start_of (ledger_on x.opened x.records)) x.records ask grant (says-granted (account_at x) ask grant h.0) in
       record {
         place = length x.records;
         reserved = reservation_numbered (next_number x.records) ask grant.taken;
