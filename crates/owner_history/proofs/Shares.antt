@@ -2,7 +2,7 @@
 use Rattle.std.proofs.Common.{◌≡◌, ℕ, zero, suc, ◌+◌, ◌≤◌, ◌<◌, ◌==◌, nat_lt, Bool, true, false, cond, List, [], ◌∷◌, ◌++◌, map, sum_by, slice_get, Option, Some, None, unwrap_or, refl, sym, ◌∙◌, ap, subst, arith}
 use Rattle.std.specs.Prelude.{IsSome}
 use Rattle.std.specs.List.{filter}
-use Rattle.std.proofs.lemmas.Bool.{cases_eq, eqb-true, eq-eqb, ne_eqb, ltb-false, ltb-true}
+use Rattle.std.proofs.lemmas.Bool.{cases_eq, eqb-true, eq-eqb, ne_eqb, le-ltb, ltb-false, ltb-true}
 use Rattle.std.proofs.lemmas.List.Sums.{sum_by-cons}
 use Rattle.std.proofs.lemmas.Option.{slice_get_within}
 use mathlib.Core.Logic.{◌⊎◌, inl, inr}
@@ -71,7 +71,7 @@ sum-below n g (r ∷ rs) = by (cases_eq r.analyst n) (nat_lt r.analyst (suc n)) 
 
 none-below : (rs : List Reservation) → filter (is_below 0) rs ≡ []
 none-below [] = refl
-none-below (r ∷ rs) = none-below rs
+none-below (r ∷ rs) = ap (λ (b : Bool). cond b (r ∷ filter (is_below 0) rs) (filter (is_below 0) rs)) (le-ltb r.analyst 0 (omega arith)) ∙ none-below rs
 
 all-below : (n : ℕ) (rs : List Reservation) → Each (λ (r : Reservation). r.analyst < n) rs → filter (is_below n) rs ≡ rs
 all-below n [] all = refl
