@@ -9,6 +9,8 @@ use Rattle.budget_core.specs.declared.entry.Ask.{Ask}
 use Rattle.budget_core.specs.declared.entry.Grant.{Grant}
 use Rattle.budget_core.specs.Ledger.{Ledger, start_of, next_number, reservation_numbered, reservation_for, IsAskOf, settlement_for}
 use Rattle.budget_core.proofs.Grants.{grant-number}
+use Rattle.budget_core.proofs.MineLemmas.{stays_within_limits}
+use Rattle.budget_core.proofs.SoundLemmas.{sound-history}
 use Rattle.budget_core.proofs.Histories.{slice_get-append-lt}
 use Rattle.std.proofs.lemmas.Option.{slice_get_within}
 use Rattle.budget_core.specs.Sound.{IsSound}
@@ -31,7 +33,7 @@ use Rattle.owner_desk.specs.Watched.{Watched, account_at, history_of, is_shut}
 use Rattle.owner_desk.specs.Lawful.{IsLawful, stands}
 use Rattle.owner_desk.specs.Passes.{IsJustOpened, IsSole, Pass, Told, closing, ledger_on, records_told}
 use Rattle.owner_desk.specs.Shared.{IsPassKnown, Shared, opened_in, pass_with, shared_by}
-use Rattle.owner_desk.specs.Answers.{AddsRecord, Fails, Has as HasTold, HasGranted, HasLooked, HasReserved, HasSettled, IsReservedOn, IsSettledOn, IsUnadded, PassStays, verdict_on}
+use Rattle.owner_desk.specs.Answers.{AddsRecord, Fails, Has as HasTold, HasGranted, HasLooked, HasReserved, HasSettled, IsReservedOn, IsSettledOn, IsUnadded, KeepsLimits, PassStays, verdict_on}
 use Rattle.owner_desk.proofs.Lists.{faults_of, records_noted, failure_noted, records_append, records_prefix, failure_prefix, told_append, fault_added, fault_last, faults_noted, faults_behind, faults_all, told_merged, fault_merged, told_ascends, noted_added, noted_failed, length_noted, snoc_last, no_snoc, has_last, has_snoc, has_told, record_noted}
 use Rattle.owner_desk.proofs.Watching.{watched}
 use Rattle.owner_desk.proofs.Settles.{not_unsettled}
@@ -293,6 +295,15 @@ module _ (opened : Account) (v w : Known Noted Account) (x y : Watched) (m : Mee
   pub has_granted : IsPassKnown opened v → (ask : Ask) (result : Result Grant BookFault) → IsReserved (account_at x) ask result (account_at y)
       → IfOk result (λ grant. HasGranted (pass_with (opened_in w.fixed) w) grant.number)
   has_granted k ask result h = subst (λ (p : Pass). IfOk result (λ grant. HasGranted p grant.number)) (shown k) (granted_if k ask result h)
+
+  pub has_limits : IsPassKnown opened v → y.opened ≡ x.opened → IsSound (ledger_on y.opened y.records) → KeepsLimits (pass_with (opened_in w.fixed) w)
+  has_limits k same sound = subst KeepsLimits (shown k) keeps
+    where
+      here : ledger_on y.opened y.records ≡ ledger_on opened after.seen
+      here = λ i. ledger_on ((same ∙ same_opened opened v x k m) i) (sym seen_is i)
+
+      keeps : KeepsLimits after
+      keeps analyst limit is = stays_within_limits opened.ledger.entry after.seen analyst limit (sound-history (ledger_on opened after.seen) (subst IsSound here sound)) is
 
   pub has_settled : IsPassKnown opened v → (number : ℕ) (outcome : Outcome) (result : Result ℕ AppendFault) → IsSettlementOf (account_at x) number outcome result (account_at y)
       → HasSettled before number outcome result (pass_with (opened_in w.fixed) w)

@@ -1,5 +1,5 @@
 -- What a call answers, made on some records that begin with those that its pass had seen, and what the pass knows afterwards.
-use Rattle.std.specs.Prelude.{◌≡◌, ◌⊎◌, ℕ, List, [], ◌∷◌, ◌++◌, length, Result, Ok, Err, Option, Some, None}
+use Rattle.std.specs.Prelude.{◌≡◌, ◌⊎◌, ℕ, ◌≤◌, List, [], ◌∷◌, ◌++◌, length, Result, Ok, Err, Option, Some, None}
 use mathlib.Core.List.{IsPrefix}
 use Rattle.journal_records.specs.declared.records.Outcome.{Outcome}
 use Rattle.journal_records.specs.declared.records.Reservation.{Reservation}
@@ -8,7 +8,9 @@ use Rattle.journal_records.specs.declared.records.Record.TheVariants.{Reserve}
 use Rattle.journal_records.specs.Records.{settling_back}
 use Rattle.budget_core.specs.declared.entry.Ask.{Ask}
 use Rattle.budget_core.specs.declared.entry.Grant.{Grant}
+use Rattle.budget_core.specs.Entries.{limit_of}
 use Rattle.budget_core.specs.Ledger.{Ledger, start_of, reservation_for, settlement_for}
+use Rattle.budget_core.specs.Mine.{spent_by}
 use Rattle.budget_ledger.specs.Booked.{book_verdict}
 use Rattle.budget_ledger.specs.declared.failure.Failure.{Failure}
 use Rattle.budget_ledger.specs.declared.book.AppendFault.{AppendFault}
@@ -76,6 +78,11 @@ IsSettledOn before g number outcome (Err fault) after = IsUnadded before g (sett
 -- what came of an ask of the budget
 abbrev pub HasReserved : Pass → Ask → Result Grant BookFault → Pass → Type 0
 HasReserved before asking result after = (g : List Record) × IsPrefix before.seen g × IsReservedOn before g asking result after
+
+-- By all that the pass has seen, each analyst with a limit is within it.
+abbrev pub KeepsLimits : Pass → Type 0
+KeepsLimits pass = (analyst limit : ℕ) → limit_of pass.opened.ledger.entry analyst ≡ Some limit
+    → spent_by pass.opened.ledger.entry pass.seen analyst ≤ limit
 
 -- what came of a settlement
 abbrev pub HasSettled : Pass → (number : ℕ) → Outcome → Result ℕ AppendFault → Pass → Type 0

@@ -11,7 +11,7 @@ ghost use Rattle.budget_ledger.specs.declared.failure.Failure.{Failure};
 ghost use Rattle.owner_lock.specs.Entries.{Ascends};
 ghost use Rattle.owner_lock.specs.Known.{whole_share};
 ghost use Rattle.owner_desk.specs.Passes.{IsJustOpened, Told, closing, ledger_on, records_told};
-ghost use Rattle.owner_desk.specs.Answers.{HasGranted, HasLooked, HasReserved, HasSettled};
+ghost use Rattle.owner_desk.specs.Answers.{HasGranted, HasLooked, HasReserved, HasSettled, KeepsLimits};
 ghost use Rattle.owner_desk.specs.Watched.{account_at};
 ghost use Rattle.owner_desk.specs.Shared.{IsKept};
 
@@ -129,6 +129,7 @@ impl<D: Disk> Desk<D> {
         ensures reserved { HasReserved pass.old.knows asking.now result pass.new.knows }
         // What was reserved may be settled by this pass.
         ensures granted { IfOk result (λ grant. HasGranted pass.new.knows grant.number) }
+        ensures limits { KeepsLimits pass.new.knows }
         ensures kept { IsKept pass.old pass.new }
     {
         self.owned.with(

@@ -200,10 +200,10 @@ fn read_mine<'a>(house: &House, who: Option<u16>, owner: &[u8]) -> LineMeaning<'
         ≡ meant_by_mine who (owner_named (house_of house.now) owner.now) }
     ensures proper { IsMeaningIn (house_of house.now) result }
 {
-    match (house.owner(owner), who) {
-        (None, _) => refuse(LineRefusal::Unknown { word: 1 }, who),
-        (Some(_), None) => refuse(LineRefusal::NoHello, who),
-        (Some(owner), Some(analyst)) => LineMeaning::Wants {
+    match (who, house.owner(owner)) {
+        (_, None) => refuse(LineRefusal::Unknown { word: 1 }, who),
+        (None, Some(_)) => refuse(LineRefusal::NoHello, who),
+        (Some(analyst), Some(owner)) => LineMeaning::Wants {
             owner,
             demand: Demand::Spends { analyst },
         },
