@@ -1,7 +1,7 @@
 -- What each analyst's answers show, limits that are kept and shared, and broken ones.
 use Rattle.std.proofs.Common.{◌≡◌, ℕ, zero, suc, ◌≤◌, ◌<◌, Bool, true, false, List, [], ◌∷◌, Option, Some, None, refl, sym, ◌∙◌, pos, arith}
 use Rattle.std.specs.Prelude.{IsSome}
-use Rattle.partition_charge.specs.Cost.{cost_of_charges, partition_cost, total_below}
+use Rattle.partition_charge.specs.Cost.{cost_of_charges, partition_cost}
 use Rattle.partition_charge.specs.declared.view.View.TheVariants.{Whole}
 use Rattle.journal_records.specs.declared.records.Outcome.TheVariants.{Answered}
 use Rattle.journal_records.specs.declared.records.Reservation.{Reservation}
@@ -82,8 +82,14 @@ without_limit (suc (suc analyst)) limit is = absurd (cc (is))
 -- ---- shares
 
 shared : IsShared (limited 1000000 (Some 600000 ∷ Some 400000 ∷ []))
-shared = record { only = omega arith; each = some; within = omega arith }
+shared = record { only = both; each = some; within = all }
   where
+    both : 2 ≤ 2
+    both = omega arith
+
+    all : 1000000 ≤ 1000000
+    all = omega arith
+
     some : (analyst : ℕ) → analyst < 2 → IsSome (limit_of (limited 1000000 (Some 600000 ∷ Some 400000 ∷ [])) analyst)
     some zero lt = refl
     some (suc zero) lt = refl

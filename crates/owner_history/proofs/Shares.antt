@@ -17,9 +17,9 @@ use Rattle.journal_records.specs.declared.records.Record.TheVariants.{Reserve, S
 use Rattle.journal_records.specs.Records.{is_some_and}
 use Rattle.budget_core.specs.declared.entry.Ask.{Ask}
 use Rattle.budget_core.specs.Cost.{charge_by, counts_in, charges_in, cost_of, budget_of}
-use Rattle.budget_core.specs.Counts.{amount_of, reservations_of}
+use Rattle.budget_core.specs.Counts.{reservations_of}
 use Rattle.budget_core.specs.Entries.{Entry, limit_of}
-use Rattle.budget_core.specs.Ledger.{cost_with, spent_with, is_over_share, reservation_for, reservation_numbered, next_number}
+use Rattle.budget_core.specs.Ledger.{cost_with, spent_with, is_over_share, reservation_numbered, next_number}
 use Rattle.budget_core.specs.Legal.{MayFollow, IsHistory}
 use Rattle.budget_core.specs.Mine.{asked_by, is_by, charges_by, spent_by}
 use Rattle.budget_core.proofs.Costs.{sum-filtered, cost_of-charges}
@@ -98,7 +98,10 @@ module _ (entry : Entry) (records : List Record) where
   )
 
   costs-below : (n : ℕ) → cost_of_charges (charges_below n) ≤ total_below n (spent_by entry records)
-  costs-below zero = omega (arith, ap (λ (rs : List Reservation). cost_of_charges (map charge_by (filter (counts_in entry records) rs))) (none-below (reservations_of records)), cost-nil)
+  costs-below zero =
+      let none : cost_of_charges (charges_below 0) ≡ 0
+      = ap (λ (rs : List Reservation). cost_of_charges (map charge_by (filter (counts_in entry records) rs))) (none-below (reservations_of records)) ∙ cost-nil in
+      omega (arith, none)
   costs-below (suc n) = omega (arith, costs-below n, costs-both (charges_below (suc n)) (charges_below n) (charges_by entry records n) (views n), spent_by-charges entry records n)
 
   -- All analysts have spent at least what records cost.
@@ -136,44 +139,40 @@ within-share o limit spent is over =
     let below : nat_lt limit spent ≡ false = ap (is_some_and (λ most. nat_lt most spent)) (sym is) ∙ over in
     omega (arith, ltb-false limit spent below)
 
-pub shares_are_kept : (entry : Entry) (records : List Record) (ask : Ask) → IsShared entry → IsHistory entry records → ask.analyst < entry.analysts → is_over_share entry records ask ≡ false → cost_with entry records ask ≤ budget_of entry records
-shares_are_kept entry records ask shared h known within = omega (
-  arith,
-  cost-below entry after all,
-  total-le entry.analysts (spent_by entry after) (λ a. unwrap_or (limit_of entry a) 0) each,
-  shared.within,
-  budget_grows entry records,
-)
-  where
-    asked : Reservation
-    asked = reservation_numbered (next_number records) ask 0
+module _ (entry : Entry) (records : List Record) (ask : Ask) (shared : IsShared entry) (h : IsHistory entry records) (known : ask.analyst < entry.analysts) (within : is_over_share entry records ask ≡ false) where
+  abbrev asked : Reservation
+  asked = reservation_numbered (next_number records) ask 0
 
-    after : List Record
-    after = records ++ Reserve asked ∷ []
+  abbrev after : List Record
+  after = records ++ Reserve asked ∷ []
 
-    all : Each (λ (r : Reservation). r.analyst < entry.analysts) (reservations_of after)
-    all = subst (Each (λ (r : Reservation). r.analyst < entry.analysts)) (sym (reservations-with records asked))
-        (each-push (λ (r : Reservation). r.analyst < entry.analysts) (reservations_of records) asked (each-known entry records h) known)
+  all-known : Each (λ (r : Reservation). r.analyst < entry.analysts) (reservations_of after)
+  all-known = subst (Each (λ (r : Reservation). r.analyst < entry.analysts)) (sym (reservations-with records asked))
+      (each-push (λ (r : Reservation). r.analyst < entry.analysts) (reservations_of records) asked (each-known entry records h) known)
 
-    each : (a : ℕ) → a < entry.analysts → spent_by entry after a ≤ unwrap_or (limit_of entry a) 0
-    each a lt = by (ask.analyst == a) refl
-      where
-        its : (limit : ℕ) × (limit_of entry a ≡ Some limit) × (unwrap_or (limit_of entry a) 0 ≡ limit)
-        its = some-limit (limit_of entry a) (shared.each a lt)
+  own-within : (a limit : ℕ) → limit_of entry a ≡ Some limit → (b : Bool) → (ask.analyst == a) ≡ b → spent_by entry after a ≤ limit
+  own-within a limit is true ours =
+      let same : ask.analyst ≡ a = eqb-true ask.analyst a ours in
+      let own : spent_with entry records ask ≤ limit = within-share (limit_of entry ask.analyst) limit (spent_with entry records ask) (ap (limit_of entry) same ∙ is) within in
+      subst (λ (k : ℕ). spent_by entry after k ≤ limit) same own
+  own-within a limit is false others =
+      let still : spent_by entry after a ≡ spent_by entry records a
+      = spent_by-charges entry after a ∙ ap cost_of_charges (charges-others entry records a asked others) ∙ sym (spent_by-charges entry records a) in
+      omega (arith, still, stays_within_limits entry records a limit h is)
 
-        by : (b : Bool) → (ask.analyst == a) ≡ b → spent_by entry after a ≤ unwrap_or (limit_of entry a) 0
-        by true is =
-            let same : ask.analyst ≡ a = eqb-true ask.analyst a is in
-            omega (
-              arith,
-              its.2,
-              ap (spent_by entry after) same,
-              within-share (limit_of entry ask.analyst) its.0 (spent_with entry records ask) (ap (limit_of entry) same ∙ its.1) within,
-            )
-        by false is =
-            let others : spent_by entry after a ≡ spent_by entry records a
-            = spent_by-charges entry after a ∙ ap cost_of_charges (charges-others entry records a asked is) ∙ sym (spent_by-charges entry records a) in
-            omega (arith, its.2, others, stays_within_limits entry records a its.0 h its.1)
+  each-within : (a : ℕ) → a < entry.analysts → spent_by entry after a ≤ unwrap_or (limit_of entry a) 0
+  each-within a lt =
+      let its = some-limit (limit_of entry a) (shared.each a lt) in
+      omega (arith, its.2, own-within a its.0 its.1 (ask.analyst == a) refl)
+
+  pub shares_are_kept : cost_with entry records ask ≤ budget_of entry records
+  shares_are_kept = omega (
+    arith,
+    cost-below entry after all-known,
+    total-le entry.analysts (spent_by entry after) (λ a. unwrap_or (limit_of entry a) 0) each-within,
+    shared.within,
+    budget_grows entry records,
+  )
 
 -- who has a limit is an analyst of the entry
 pub limited_known : (entry : Entry) (analyst limit : ℕ) → IsShared entry → limit_of entry analyst ≡ Some limit → analyst < entry.analysts
