@@ -3,17 +3,17 @@ use Rattle.std.proofs.Common.{◌≡◌, ◌⊎◌, ℕ, ◌+◌, List, [], ◌�
 use Rattle.std.specs.List.{enumerate_from}
 use Rattle.journal_records.specs.declared.records.Record.{Record}
 use Rattle.budget_core.specs.Ledger.{settlement_for}
-use Rattle.budget_core.specs.Answers.{recalled_from, left_by}
+use Rattle.budget_core.specs.Answers.{recalled_from, left_by, mine_by}
 use Rattle.wire_lines.specs.Refusal.{no_memory}
 use Rattle.wire_lines.specs.Reply.{Replied}
 use Rattle.owner_house.specs.Owner.{Owner, signature_of_view}
 use Rattle.owner_desk.specs.Passes.{Told, records_told}
 use Rattle.owner_desk.proofs.Own.{records_numbered}
 use Rattle.answer_path.specs.Query.{Query}
-use Rattle.answer_path.specs.Demand.{asks, recalls, balances}
+use Rattle.answer_path.specs.Demand.{asks, recalls, balances, spends}
 use Rattle.answer_path.specs.Verdict.{Verdict, program_refused, money_refused, granted, IsVerdict}
 use Rattle.answer_path.specs.Answered.{granted_record, AddsNothing, IsAnswered, IsUnanswered, IsAskedBy, IsAsked}
-use Rattle.answer_path.specs.Standing.{IsRecalled, IsBalance, recall_reply, left_reply}
+use Rattle.answer_path.specs.Standing.{IsRecalled, IsBalance, IsSpending, recall_reply, left_reply, mine_reply}
 use Rattle.answer_path.specs.Met.{IsMet, IsMetExactly}
 use Rattle.answer_path.specs.Laws.{AloneIsAnswered, AloneIsMet, ExactlyIsMet}
 
@@ -63,9 +63,9 @@ unfolding IsAsked IsAnswered
 alone_is_answered owner draws start query seen reply told after (g, begins, inl (program_refused refusal, is, (said, none, rest))) whole =
     let same : g ≡ seen = sym rest ∙ whole ∙ ap (λ ts. seen ++ records_told ts) none ∙ append-nil seen in
     inl (program_refused refusal, subst (λ rs. IsVerdict owner.entry (signature_of_view owner query.view) start rs query (program_refused refusal)) same is, (said, ap records_told none))
-alone_is_answered owner draws start query seen reply told after (g, begins, inl (money_refused refusal, is, (said, none, rest))) whole =
+alone_is_answered owner draws start query seen reply told after (g, begins, inl (money_refused refusal, is, (told_so, why, said, none, rest))) whole =
     let same : g ≡ seen = sym rest ∙ whole ∙ ap (λ ts. seen ++ records_told ts) none ∙ append-nil seen in
-    inl (money_refused refusal, subst (λ rs. IsVerdict owner.entry (signature_of_view owner query.view) start rs query (money_refused refusal)) same is, (said, ap records_told none))
+    inl (money_refused refusal, subst (λ rs. IsVerdict owner.entry (signature_of_view owner query.view) start rs query (money_refused refusal)) same is, (told_so, why, said, ap records_told none))
 alone_is_answered owner draws start query seen reply told after (g, begins, inl (granted asking grant, is, inl two)) whole =
     let last : Record = settlement_for owner.entry two.u grant.number two.outcome in
     let all = whole ∙ ap (λ ts. seen ++ records_told ts) two.told_is in
@@ -95,7 +95,7 @@ placed : (owner : Owner) (draws : ℕ → ℕ → ℕ) (start : ℕ) (query : Qu
     → IsAsked owner draws start query seen reply told after → after ≡ seen ++ records_told told → told ≡ enumerate_from (length seen) (records_told told)
 unfolding IsAsked
 placed owner draws start query seen reply told after (g, begins, inl (program_refused refusal, is, (said, none, rest))) whole = none ∙ sym (ap (λ ts. enumerate_from (length seen) (records_told ts)) none)
-placed owner draws start query seen reply told after (g, begins, inl (money_refused refusal, is, (said, none, rest))) whole = none ∙ sym (ap (λ ts. enumerate_from (length seen) (records_told ts)) none)
+placed owner draws start query seen reply told after (g, begins, inl (money_refused refusal, is, (told_so, why, said, none, rest))) whole = none ∙ sym (ap (λ ts. enumerate_from (length seen) (records_told ts)) none)
 placed owner draws start query seen reply told after (g, begins, inl (granted asking grant, is, inl two)) whole =
     let r : Record = granted_record asking grant in
     let s : Record = settlement_for owner.entry two.u grant.number two.outcome in
@@ -111,7 +111,7 @@ placed owner draws start query seen reply told after (g, begins, inl (granted as
 placed owner draws start query seen reply told after (g, begins, inr (said, none, rest)) whole = none ∙ sym (ap (λ ts. enumerate_from (length seen) (records_told ts)) none)
 
 pub alone_is_met : AloneIsMet
-unfolding IsMet IsMetExactly IsRecalled IsBalance
+unfolding IsMet IsMetExactly IsRecalled IsBalance IsSpending
 alone_is_met owner draws start (asks query) seen reply told after met whole =
     (records_told told, alone_is_answered owner draws start query seen reply told after met whole, placed owner draws start query seen reply told after met whole, whole)
 alone_is_met owner draws start (recalls analyst number) seen reply told after ((g, begins, is, rest), none) whole =
@@ -120,6 +120,9 @@ alone_is_met owner draws start (recalls analyst number) seen reply told after ((
 alone_is_met owner draws start balances seen reply told after ((g, begins, is, rest), none) whole =
     let same : g ≡ seen = sym rest ∙ whole ∙ ap (λ ts. seen ++ records_told ts) none ∙ append-nil seen in
     (subst (λ rs. reply ≡ left_reply (left_by owner.entry rs)) same is, none, rest ∙ same)
+alone_is_met owner draws start (spends analyst) seen reply told after ((g, begins, is, rest), none) whole =
+    let same : g ≡ seen = sym rest ∙ whole ∙ ap (λ ts. seen ++ records_told ts) none ∙ append-nil seen in
+    (subst (λ rs. reply ≡ mine_reply (mine_by owner.entry rs analyst)) same is, none, rest ∙ same)
 
 -- what was answered so is asked so
 asked_exactly : (owner : Owner) (draws : ℕ → ℕ → ℕ) (start : ℕ) (query : Query) (seen : List Record) (reply : Replied) (told : List Told) (after added : List Record)
@@ -138,7 +141,7 @@ asked_exactly owner draws start query seen reply told after added answered place
         → ((verdict : Verdict) × IsVerdict owner.entry (signature_of_view owner query.view) start seen query verdict × IsAskedBy owner draws query verdict seen reply told after)
         ⊎ AddsNothing seen no_memory reply told after
     by (inl (program_refused refusal, is, (said, none))) = inl (program_refused refusal, is, (said, none_told none, none_after none))
-    by (inl (money_refused refusal, is, (said, none))) = inl (money_refused refusal, is, (said, none_told none, none_after none))
+    by (inl (money_refused refusal, is, (told_so, why, said, none))) = inl (money_refused refusal, is, (told_so, why, said, none_told none, none_after none))
     by (inl (granted asking grant, is, inl (outcome, settles, said, two))) =
         let r : Record = granted_record asking grant in
         let s : Record = settlement_for owner.entry (seen ++ r ∷ []) grant.number outcome in
@@ -171,10 +174,12 @@ asked_exactly owner draws start query seen reply told after added answered place
     by (inr (said, none)) = inr (said, none_told none, none_after none)
 
 pub exactly_is_met : ExactlyIsMet
-unfolding IsMet IsMetExactly IsRecalled IsBalance
+unfolding IsMet IsMetExactly IsRecalled IsBalance IsSpending
 exactly_is_met owner draws start (asks query) seen reply told after (added, answered, places, whole) =
     (asked_exactly owner draws start query seen reply told after added answered places whole, whole ∙ ap (λ rs. seen ++ rs) (sym (ap records_told places ∙ records_numbered (length seen) added)))
 exactly_is_met owner draws start (recalls analyst number) seen reply told after (is, none, rest) =
     (((seen, ([], append-nil seen), is, rest), none), rest ∙ sym (ap (λ ts. seen ++ records_told ts) none ∙ append-nil seen))
 exactly_is_met owner draws start balances seen reply told after (is, none, rest) =
+    (((seen, ([], append-nil seen), is, rest), none), rest ∙ sym (ap (λ ts. seen ++ records_told ts) none ∙ append-nil seen))
+exactly_is_met owner draws start (spends analyst) seen reply told after (is, none, rest) =
     (((seen, ([], append-nil seen), is, rest), none), rest ∙ sym (ap (λ ts. seen ++ records_told ts) none ∙ append-nil seen))

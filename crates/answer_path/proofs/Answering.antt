@@ -1,6 +1,6 @@
 -- the steps of `ask`, in the words of the verdict and the reply
-use Rattle.std.proofs.Common.{◌≡◌, ℕ, ◌+◌, Bool, true, false, cond, List, [], length, refl, sym, ◌∙◌, ap, subst, append-nil, inl, inr, Option, Some, None}
-use Rattle.std.specs.Prelude.{ℤ, nat_lt, Result, Ok, Err}
+use Rattle.std.proofs.Common.{◌≡◌, ℕ, List, [], refl, sym, ◌∙◌, ap, subst, append-nil, inl, inr, Option, Some, None}
+use Rattle.std.specs.Prelude.{ℤ, Result, Ok}
 use mathlib.Core.List.{IsPrefix}
 use Rattle.journal_records.specs.declared.records.Outcome.{Outcome}
 use Rattle.journal_records.specs.declared.records.Record.{Record}
@@ -8,11 +8,9 @@ use Rattle.journal_records.specs.declared.records.Record.TheVariants.{Reserve}
 use Rattle.budget_core.specs.declared.entry.Ask.{Ask}
 use Rattle.budget_core.specs.declared.entry.Grant.{Grant}
 use Rattle.budget_core.specs.declared.entry.ReserveFault.{ReserveFault}
-use Rattle.budget_core.specs.declared.entry.ReserveFault.TheVariants.{OverBudget, Full}
 use Rattle.budget_core.specs.Entries.{Entry}
-use Rattle.budget_core.specs.Cost.{cost_of, budget_of}
-use Rattle.budget_core.specs.Counts.{open_from}
-use Rattle.budget_core.specs.Ledger.{money_verdict, reservation_for, reservation_numbered, next_number, cost_with, rise_of}
+use Rattle.budget_core.specs.Ledger.{money_verdict, reservation_for, reservation_numbered}
+use Rattle.budget_core.proofs.Grants.{grant-number}
 use Rattle.fz_ast.specs.Terms.{Term}
 use Rattle.metric_law.specs.Means.{Means}
 use Rattle.metric_values.specs.Tables.{rows_of}
@@ -52,25 +50,8 @@ program_says owner start records query refusal h = (h.0, h.1, subst (λ (j : Jud
 pub self : (records : List Record) → IsPrefix records records
 self records = ([], append-nil records)
 
--- a grant has the next number
-abbrev given : Entry → ℕ → List Record → Ask → Grant
-given entry start records asking = record { number = next_number records; taken = rise_of entry records asking; seen = length records + 1 }
-
-pub grant_number : (entry : Entry) (start : ℕ) (records : List Record) (asking : Ask) (grant : Grant) → money_verdict entry start records asking ≡ Ok grant → grant.number ≡ next_number records
-grant_number entry start records asking grant is = over (nat_lt (budget_of entry records) (cost_with entry records asking)) is
-  where
-    full : (b : Bool) → cond {A = Result Grant ReserveFault} b (Err (Full (length records) (open_from start records) entry.capacity)) (Ok (given entry start records asking)) ≡ Ok grant → grant.number ≡ next_number records
-    full true is = cc
-    full false is = let same : given entry start records asking ≡ grant = cc in ap (λ (g : Grant). g.number) (sym same)
-
-    over : (b : Bool) → cond {A = Result Grant ReserveFault} b (Err (OverBudget (cost_of entry records) (cost_with entry records asking) (budget_of entry records) (length records)))
-        (cond (nat_lt entry.capacity (length records + open_from start records + 2)) (Err (Full (length records) (open_from start records) entry.capacity)) (Ok (given entry start records asking))) ≡ Ok grant
-        → grant.number ≡ next_number records
-    over true is = cc
-    over false is = full (nat_lt entry.capacity (length records + open_from start records + 2)) is
-
 pub granted_is : (entry : Entry) (start : ℕ) (records : List Record) (asking : Ask) (grant : Grant) → money_verdict entry start records asking ≡ Ok grant → granted_record asking grant ≡ reservation_for records asking grant.taken
-granted_is entry start records asking grant is = ap (λ n. Reserve (reservation_numbered n asking grant.taken)) (grant_number entry start records asking grant is)
+granted_is entry start records asking grant is = ap (λ n. Reserve (reservation_numbered n asking grant.taken)) (grant-number entry start records asking grant is)
 
 -- what a settlement says of one worth it says of each that the first gives
 settlement_map : (A B : ℤ → Type 0) (noise : Option ℤ) (outcome : Outcome) → ((value : ℤ) → A value → B value) → IsSettledAt A noise outcome → IsSettledAt B noise outcome

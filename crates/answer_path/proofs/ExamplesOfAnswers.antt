@@ -1,5 +1,5 @@
 -- Verdicts and what is answered by them, at worked queries, and wrong ones refused.
-use Rattle.std.proofs.Common.{◌≡◌, ℕ, List, [], ◌∷◌, ◌++◌, None, Option, codes, refl, sym, ◌∙◌, subst, pos, inl, inr}
+use Rattle.std.proofs.Common.{◌≡◌, ℕ, List, [], ◌∷◌, ◌++◌, None, Some, Option, codes, refl, sym, ◌∙◌, subst, arith, pos, inl, inr}
 use Rattle.std.specs.Prelude.{ℤ}
 use Rattle.journal_records.specs.declared.records.Outcome.{Outcome}
 use Rattle.journal_records.specs.declared.records.Outcome.TheVariants.{Answered, Exhausted, Lost}
@@ -7,6 +7,7 @@ use Rattle.journal_records.specs.declared.records.Record.{Record}
 use Rattle.journal_records.specs.Records.{settling}
 use Rattle.budget_core.specs.declared.entry.Grant.{Grant}
 use Rattle.budget_core.specs.Cost.{cost_of, budget_of}
+use Rattle.budget_core.specs.Mine.{spent_by}
 use Rattle.partition_charge.specs.Cost.{cost_of_charges, partition_cost}
 use Rattle.fz_frac.specs.Distance.{Fin}
 use Rattle.wire_lines.specs.Reply.{Replied, answered, refused}
@@ -15,7 +16,7 @@ use Rattle.wire_lines.specs.declared.refusal.DiskRefusal.{DiskRefusal}
 use Rattle.wire_lines.specs.declared.refusal.DiskRefusal.TheVariants.{Closed}
 use Rattle.wire_lines.specs.declared.refusal.LineRefusal.TheVariants.{NoHello}
 use Rattle.wire_lines.specs.declared.refusal.MoneyRefusal.{MoneyRefusal}
-use Rattle.wire_lines.specs.declared.refusal.MoneyRefusal.TheVariants.{OverBudget as NoBudget, JournalFull}
+use Rattle.wire_lines.specs.declared.refusal.MoneyRefusal.TheVariants.{OverBudget as NoBudget, JournalFull, OverShare}
 use Rattle.wire_lines.specs.declared.refusal.NumberRefusal.TheVariants.{Exhausted as NoNoise, Lost as NoAnswer}
 use Rattle.wire_lines.specs.declared.refusal.TypeFault.TheVariants.{Unbound}
 use Rattle.answer_path.specs.Reading.{Reading, read, IsReading}
@@ -26,7 +27,7 @@ use Rattle.part_views.specs.Views.{signature_in}
 use Rattle.answer_path.specs.Program.{IsCharged}
 use Rattle.answer_path.specs.Noise.{noise_at}
 use Rattle.answer_path.specs.Verdict.{Verdict, program_refused, money_refused, granted, IsVerdict, IsVerdictBy}
-use Rattle.answer_path.specs.Answered.{HasWorthIn, IsAnswered, IsAsked, IsSettledAt, IsSettledBy, IsUnanswered, IsUnasked, Told, outcome_reply}
+use Rattle.answer_path.specs.Answered.{HasWorthIn, IsAnswered, IsAsked, IsSaidFor, IsSettledAt, IsSettledBy, IsUnanswered, IsUnasked, Told, outcome_reply}
 use Rattle.answer_path.proofs.Answering.{money_says, program_says}
 use Rattle.answer_path.proofs.Readings.{one_reading}
 use Rattle.answer_path.proofs.SizePeople.{size_people, size_term, size_reads}
@@ -109,7 +110,7 @@ asked_over_budget draws = (
   inl (
     money_refused (NoBudget 1000000 2000000 1999999 2),
     money_says (owner 1999999 100) 0 before query 1 1 _ charged refl,
-    (refl, refl, refl),
+    (by_money (NoBudget 1000000 2000000 1999999 2), inl refl, (refl, refl, refl)),
   ),
 )
 
@@ -118,15 +119,35 @@ unfolding IsAsked cost_of cost_of_charges partition_cost budget_of signature_in
 asked_without_room draws = (
   before,
   (before, refl),
-  inl (money_refused (JournalFull 2 0 3), money_says (owner 2000000 3) 0 before query 1 1 _ charged refl, (refl, refl, refl)),
+  inl (money_refused (JournalFull 2 0 3), money_says (owner 2000000 3) 0 before query 1 1 _ charged refl, (by_money (JournalFull 2 0 3), inl refl, (refl, refl, refl))),
 )
+
+-- 43 where the analyst's limit is 1500000, and 42 in its place; 42 stands in the place of no lesser code
+abbrev limited : Owner
+limited = record (owner 9000000 100) { entry = record (owner 9000000 100).entry { limits = None ∷ None ∷ None ∷ None ∷ None ∷ Some 1500000 ∷ [] } }
+
+abbrev share : MoneyRefusal
+share = OverShare 1000000 2000000 1500000 2
+
+asked_over_share : (draws : ℕ → ℕ → ℕ) → IsAsked limited draws 0 query [] (refused (by_money share)) [] before
+unfolding IsAsked cost_of cost_of_charges partition_cost budget_of signature_in spent_by
+asked_over_share draws = (before, (before, refl), inl (money_refused share, money_says limited 0 before query 1 1 _ charged refl, (by_money share, inl refl, (refl, refl, refl))))
+
+asked_when_shut : (draws : ℕ → ℕ → ℕ) → IsAsked limited draws 0 query [] (refused (by_disk (Closed 3))) [] before
+unfolding IsAsked cost_of cost_of_charges partition_cost budget_of signature_in spent_by
+asked_when_shut draws =
+    (before, (before, refl), inl (money_refused share, money_says limited 0 before query 1 1 _ charged refl, (by_disk (Closed 3), inr (3, omega arith, refl), (refl, refl, refl))))
+
+not_for_the_budget : (failed_at : ℕ) → IsSaidFor (NoBudget 1000000 2000000 1999999 2) (by_disk (Closed failed_at)) → ⊥
+not_for_the_budget failed_at (inl is) = cc is
+not_for_the_budget failed_at (inr (n, low, is)) = omega (arith, low)
 
 -- Only a refusal for the disk comes of a reservation without its settlement.
 half_a_grant : (draws : ℕ → ℕ → ℕ) (reply : Replied) (place : ℕ) (after : List Record) → IsAsked (owner 9000000 100) draws 0 query [] reply ((place, reserved 1) ∷ []) after
     → (refusal : DiskRefusal) × (reply ≡ refused (by_disk refusal))
 unfolding IsAsked
 half_a_grant draws reply place after (g, begins, inl (program_refused refusal, is, (said, none, rest))) = absurd (cc (none))
-half_a_grant draws reply place after (g, begins, inl (money_refused refusal, is, (said, none, rest))) = absurd (cc (none))
+half_a_grant draws reply place after (g, begins, inl (money_refused refusal, is, (so, why, said, none, rest))) = absurd (cc (none))
 half_a_grant draws reply place after (g, begins, inl (granted asking grant, is, inl two)) = absurd (cc (two.told_is))
 half_a_grant draws reply place after (g, begins, inl (granted asking grant, is, inr (refusal, said, rest))) = (refusal, said)
 half_a_grant draws reply place after (g, begins, inr (said, none, rest)) = absurd (cc (none))
@@ -154,7 +175,7 @@ adds_none : (draws : ℕ → ℕ → ℕ) (refusal : Refusal) (first : Told) (to
     → IsAsked (owner 9000000 100) draws 0 query [] (refused refusal) (first ∷ told) after → ⊥
 unfolding IsAsked
 adds_none draws refusal first told after grants disks (g, begins, inl (program_refused r, is, (said, none, rest))) = absurd (cc (none))
-adds_none draws refusal first told after grants disks (g, begins, inl (money_refused r, is, (said, none, rest))) = absurd (cc (none))
+adds_none draws refusal first told after grants disks (g, begins, inl (money_refused r, is, (so, why, said, none, rest))) = absurd (cc (none))
 adds_none draws refusal first told after grants disks (g, begins, inl (granted asking grant, is, inl two)) = grants grant two.outcome two.reply_is
 adds_none draws refusal first told after grants disks (g, begins, inl (granted asking grant, is, inr (unkept, said, rest))) = disks unkept said
 adds_none draws refusal first told after grants disks (g, begins, inr (said, none, rest)) = absurd (cc (none))
@@ -183,7 +204,8 @@ not_lost_without_noise : (draws : ℕ → ℕ → ℕ) → ((number : ℕ) → n
     → (told : List Told) (after : List Record) → IsAsked (owner 9000000 100) draws 0 query [] (refused (by_number (NoAnswer 1))) told after → ⊥
 unfolding IsAsked
 not_lost_without_noise draws none told after (g, begins, inl (program_refused refusal, is, (said, nothing, rest))) = absurd (cc (said))
-not_lost_without_noise draws none told after (g, begins, inl (money_refused refusal, is, (said, nothing, rest))) = absurd (cc (said))
+not_lost_without_noise draws none told after (g, begins, inl (money_refused refusal, is, (_, inl why, said, nothing, rest))) = absurd (cc (why, said))
+not_lost_without_noise draws none told after (g, begins, inl (money_refused refusal, is, (_, inr (n, low, why), said, nothing, rest))) = absurd (cc (why, said))
 not_lost_without_noise draws none told after (g, begins, inl (granted asking grant, is, inl two)) =
     lost_has_noise (HasWorthIn (owner 9000000 100) query) grant two.outcome 1
     (subst (λ (k : Option ℤ). IsSettledAt (HasWorthIn (owner 9000000 100) query) k two.outcome) (none grant.number) two.settled) two.reply_is

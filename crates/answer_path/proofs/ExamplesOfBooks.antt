@@ -1,4 +1,4 @@
--- Lines at a book whose disk fails, and what is said of a number and of the budget, at worked records.
+-- Lines at a book whose disk fails, and what is said of a number, of the budget and of an analyst's spending, at worked records.
 use Rattle.std.proofs.Common.{◌≡◌, ℕ, List, [], ◌∷◌, ◌++◌, length, length-append, Option, Some, None, codes, refl, sym, ◌∙◌, ap, subst, arith, pos, inl, inr}
 use Rattle.journal_records.specs.declared.records.Outcome.TheVariants.{Answered, Exhausted, Lost}
 use Rattle.journal_records.specs.declared.records.Record.{Record}
@@ -7,12 +7,14 @@ use Rattle.journal_records.specs.Records.{settling}
 use Rattle.budget_core.specs.declared.entry.Ask.{Ask}
 use Rattle.budget_core.specs.declared.entry.Grant.{Grant}
 use Rattle.budget_core.specs.Cost.{cost_of, budget_of}
+use Rattle.budget_core.specs.Entries.{Entry}
+use Rattle.budget_core.specs.Mine.{spent_by}
 use Rattle.sha2.specs.Sha256.{sha256}
 use Rattle.partition_charge.specs.Cost.{cost_of_charges, partition_cost}
 use Rattle.budget_ledger.specs.declared.failure.Failure.{Failure}
-use Rattle.wire_lines.specs.Reply.{answered, recalled, remaining, refused}
+use Rattle.wire_lines.specs.Reply.{answered, recalled, remaining, spending, refused}
 use Rattle.wire_lines.specs.Refusal.{by_disk, by_money, by_number, by_program, no_memory, no_token}
-use Rattle.wire_lines.specs.declared.refusal.MoneyRefusal.TheVariants.{OverBudget as NoBudget, JournalFull}
+use Rattle.wire_lines.specs.declared.refusal.MoneyRefusal.TheVariants.{OverBudget as NoBudget, JournalFull, OverShare}
 use Rattle.wire_lines.specs.declared.refusal.DiskRefusal.TheVariants.{Closed, Fault}
 use Rattle.wire_lines.specs.declared.refusal.NumberRefusal.TheVariants.{Unknown as NoNumber, NotYours as AnotherAnalysts, Exhausted as NoNoise, Lost as NoAnswer}
 use Rattle.budget_ledger.specs.Account.{Account}
@@ -24,7 +26,7 @@ use Rattle.answer_path.specs.Verdict.{ask_for, granted, IsVerdict, IsVerdictBy}
 use Rattle.answer_path.specs.Answered.{IsAnswered, IsAsked, granted_record}
 use Rattle.answer_path.specs.Shut.{IsGrantPending}
 use Rattle.answer_path.specs.Closing.{Closes}
-use Rattle.answer_path.specs.Standing.{IsBalance, IsRecalled}
+use Rattle.answer_path.specs.Standing.{IsBalance, IsRecalled, IsSpending}
 use Rattle.answer_path.specs.Idle.{AddsNone, IsAlone, IsIdle}
 use Rattle.answer_path.proofs.Answering.{money_says}
 use Rattle.answer_path.proofs.SizePeople.{size_people}
@@ -154,6 +156,12 @@ answered_open draws = (refl, refl)
 not_answered_closed : (draws : ℕ → ℕ → ℕ) (next : Record) → Closes (owner 9000000 100) draws query (answered 1 (pos 2) 1000000) [] (Some (failed next)) (Some (failed next)) → ⊥
 not_answered_closed draws next (was, rest) = absurd (cc was)
 
+share_open : (draws : ℕ → ℕ → ℕ) → Closes (owner 9000000 100) draws query (refused (by_money (OverShare 6 12 10 3))) [] None None
+share_open draws = (refl, λ low. refl)
+
+no_share_closed : (draws : ℕ → ℕ → ℕ) (next : Record) → Closes (owner 9000000 100) draws query (refused (by_money (OverShare 6 12 10 3))) [] (Some (failed next)) (Some (failed next)) → ⊥
+no_share_closed draws next (same, none) = absurd (cc (none (omega arith)))
+
 refused_closed : (draws : ℕ → ℕ → ℕ) (next : Record) → Closes (owner 9000000 100) draws query (refused no_memory) [] (Some (failed next)) (Some (failed next))
 refused_closed draws next = refl
 
@@ -227,16 +235,32 @@ not_left_unseen : IsBalance (owner 9000000 100).entry before (remaining 0 900000
 unfolding IsBalance
 not_left_unseen (g, begins, said, same) = cc (begins.1, same)
 
+-- what an analyst has spent, with a limit and without one
+abbrev limited : Entry
+limited = record (owner 9000000 100).entry { limits = None ∷ None ∷ None ∷ None ∷ None ∷ Some 1500000 ∷ [] }
+
+spent_by_itself : IsSpending limited 5 before (spending 1000000 (Some 1500000) 2) before
+unfolding IsSpending cost_of_charges partition_cost spent_by
+spent_by_itself = (before, ([], refl), refl, refl)
+
+spent_by_another : IsSpending limited 4 before (spending 0 None 2) before
+unfolding IsSpending cost_of_charges partition_cost spent_by
+spent_by_another = (before, ([], refl), refl, refl)
+
+not_spent_unseen : IsSpending limited 5 before (spending 0 (Some 1500000) 0) [] → ⊥
+unfolding IsSpending
+not_spent_unseen (g, begins, said, same) = cc (begins.1, same)
+
 -- ---- lines that add no record
 
 one_more : (found : List Record) (r : Record) → found ++ r ∷ [] ≡ found ++ [] → ⊥
 one_more found r same = omega (arith, sym (length-append found (r ∷ [])) ∙ ap length same ∙ length-append found [])
 
--- 40, 41, a recall, 60, 61, a balance, 90, and a program that is refused
-none_added : AddsNone (refused (by_money (NoBudget 6 12 10 3))) × AddsNone (refused (by_money (JournalFull 7 1 9))) × AddsNone (recalled 0 None 3)
-    × AddsNone (refused (by_number (NoNumber 5 8))) × AddsNone (refused (by_number (AnotherAnalysts 0 8))) × AddsNone (remaining 6 10 3) × AddsNone (refused no_memory)
+-- 40, 41, 43, a recall, 60, 61, a balance, an analyst's own, 90, and a program that is refused
+none_added : AddsNone (refused (by_money (NoBudget 6 12 10 3))) × AddsNone (refused (by_money (JournalFull 7 1 9))) × AddsNone (refused (by_money (OverShare 6 12 10 3))) × AddsNone (recalled 0 None 3)
+    × AddsNone (refused (by_number (NoNumber 5 8))) × AddsNone (refused (by_number (AnotherAnalysts 0 8))) × AddsNone (remaining 6 10 3) × AddsNone (spending 6 None 3) × AddsNone (refused no_memory)
     × AddsNone (refused (by_program (no_token 0)))
-none_added = (tt, tt, tt, tt, tt, tt, tt, tt)
+none_added = (tt, tt, tt, tt, tt, tt, tt, tt, tt, tt)
 
 -- an answer, 50, 51, 42 and 52
 some_added : (AddsNone (answered 0 (pos 5) 6) → ⊥) × (AddsNone (refused (by_number (NoNoise 0))) → ⊥) × (AddsNone (refused (by_number (NoAnswer 0))) → ⊥)

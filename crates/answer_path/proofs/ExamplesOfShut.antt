@@ -6,19 +6,21 @@ use Rattle.journal_records.specs.declared.records.Record.{Record}
 use Rattle.journal_records.specs.declared.records.Record.TheVariants.{Reserve, Settle, Grant as Raise}
 use Rattle.journal_records.specs.Records.{settling}
 use Rattle.budget_core.specs.Cost.{cost_of, budget_of}
+use Rattle.budget_core.specs.Mine.{spent_by}
 use Rattle.partition_charge.specs.Cost.{cost_of_charges, partition_cost}
 use Rattle.budget_ledger.specs.declared.failure.Failure.{Failure}
-use Rattle.wire_lines.specs.Reply.{answered, recalled, remaining, refused}
-use Rattle.wire_lines.specs.Refusal.{by_disk, by_number, no_memory}
+use Rattle.wire_lines.specs.Reply.{answered, recalled, remaining, spending, refused}
+use Rattle.wire_lines.specs.Refusal.{by_disk, by_money, by_number, no_memory}
 use Rattle.wire_lines.specs.declared.refusal.DiskRefusal.TheVariants.{Closed, Fault}
+use Rattle.wire_lines.specs.declared.refusal.MoneyRefusal.TheVariants.{OverBudget, OverShare}
 use Rattle.wire_lines.specs.declared.refusal.NumberRefusal.TheVariants.{Lost as NoAnswer}
 use Rattle.part_views.specs.Views.{signature_in}
 use Rattle.owner_house.specs.Owner.{Owner}
 use Rattle.owner_desk.specs.Passes.{Told}
 use Rattle.answer_path.specs.Query.{Query}
-use Rattle.answer_path.specs.Demand.{asks, recalls, balances}
+use Rattle.answer_path.specs.Demand.{asks, recalls, balances, spends}
 use Rattle.answer_path.specs.Answered.{IsAsked}
-use Rattle.answer_path.specs.Standing.{IsRecalled, IsBalance}
+use Rattle.answer_path.specs.Standing.{IsRecalled, IsBalance, IsSpending}
 use Rattle.answer_path.specs.Met.{IsMet, IsMetExactly}
 use Rattle.answer_path.specs.Shut.{Shut, FailsBy, ShutsBy, disk_word, unshut}
 use Rattle.answer_path.proofs.SizePeople.{size_people}
@@ -137,7 +139,7 @@ not_a_fault_unsaid next (stays, own) = absurd (cc own)
 
 -- ---- demands
 
--- A recall and a balance append nothing, and so have no fault; others may shut the book meanwhile.
+-- What is no query appends nothing, and so has no fault; others may shut the book meanwhile.
 recall_learns : (next : Record) → ShutsBy one_owner draws (recalls 5 0) (recalled 0 (Some Exhausted) 2) [] unshut (shut_elsewhere next)
 unfolding ShutsBy
 recall_learns next = (record { still = λ failure was. absurd (cc was); adds_nothing = λ failure was. refl }, refl)
@@ -150,9 +152,26 @@ balance_has_no_fault : (next : Record) → ShutsBy one_owner draws balances (rem
 unfolding ShutsBy
 balance_has_no_fault next (stays, own) = absurd (cc own)
 
+spending_has_no_fault : (next : Record) → ShutsBy one_owner draws (spends 5) (spending 1000000 None 2) [] unshut (shut_here next) → ⊥
+unfolding ShutsBy
+spending_has_no_fault next (stays, own) = absurd (cc own)
+
+-- A share is told of an open book alone, and a budget of a shut one, too.
+share_when_open : ShutsBy one_owner draws (asks query) (refused (by_money (OverShare 6 12 10 3))) [] unshut unshut
+unfolding ShutsBy
+share_when_open = ((record { still = λ failure was. was; adds_nothing = λ failure was. refl }, refl), λ low. refl)
+
+no_share_when_shut : (next : Record) → ShutsBy one_owner draws (asks query) (refused (by_money (OverShare 6 12 10 3))) [] (shut_here next) (shut_here next) → ⊥
+unfolding ShutsBy
+no_share_when_shut next (fails, open_then) = cc (open_then (omega arith))
+
+budget_when_shut : (next : Record) → ShutsBy one_owner draws (asks query) (refused (by_money (OverBudget 6 12 10 3))) [] (shut_here next) (shut_here next)
+unfolding ShutsBy
+budget_when_shut next = ((record { still = λ failure was. was; adds_nothing = λ failure was. refl }, refl), λ low. absurd (omega (arith, low)))
+
 query_shuts : ShutsBy one_owner draws (asks query) (refused (by_disk Fault)) [] unshut (shut_here (reserved 1))
 unfolding ShutsBy
-query_shuts = fault_of_a_reservation
+query_shuts = (fault_of_a_reservation, tt)
 
 -- what each demand is met by, on records that begin with those seen
 recall_met : IsMet one_owner draws 4 (recalls 5 0) (reserved 0 ∷ []) (recalled 0 (Some Exhausted) 2) [] before
@@ -171,6 +190,14 @@ balance_adds_nothing : (first : Told) → IsMet one_owner draws 4 balances [] (r
 unfolding IsMet
 balance_adds_nothing first (is, none) = absurd (cc none)
 
+spending_met : IsMet one_owner draws 4 (spends 5) [] (spending 1000000 None 2) [] before
+unfolding IsMet IsSpending cost_of_charges partition_cost spent_by
+spending_met = ((before, (before, refl), refl, refl), refl)
+
+spending_adds_nothing : (first : Told) → IsMet one_owner draws 4 (spends 5) [] (spending 1000000 None 2) (first ∷ []) before → ⊥
+unfolding IsMet
+spending_adds_nothing first (is, none) = absurd (cc none)
+
 query_met : IsMet one_owner draws 0 (asks query) before (refused no_memory) [] before
 unfolding IsMet IsAsked
 query_met = (before, ([], refl), inr (refl, refl, refl))
@@ -187,6 +214,10 @@ not_exactly_on_later_ones (is, none, rest) = let two : 2 ≡ 1 = ap length rest 
 balance_met_exactly : IsMetExactly one_owner draws 4 balances before (remaining 1000000 9000000 2) [] before
 unfolding IsMetExactly cost_of cost_of_charges partition_cost budget_of
 balance_met_exactly = (refl, refl, refl)
+
+spending_met_exactly : IsMetExactly one_owner draws 4 (spends 5) before (spending 1000000 None 2) [] before
+unfolding IsMetExactly cost_of_charges partition_cost spent_by
+spending_met_exactly = (refl, refl, refl)
 
 query_met_exactly : IsMetExactly one_owner draws 0 (asks query) before (refused no_memory) [] before
 unfolding IsMetExactly

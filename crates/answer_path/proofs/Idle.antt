@@ -6,16 +6,16 @@ use Rattle.journal_records.specs.declared.records.Outcome.TheVariants.{Answered,
 use Rattle.journal_records.specs.declared.records.Record.{Record}
 use Rattle.budget_core.specs.declared.entry.Grant.{Grant}
 use Rattle.budget_ledger.specs.declared.failure.Failure.{Failure}
-use Rattle.wire_lines.specs.Reply.{Replied, greeted, answered, recalled, remaining, ended, refused}
+use Rattle.wire_lines.specs.Reply.{Replied, greeted, answered, recalled, remaining, spending, ended, refused}
 use Rattle.wire_lines.specs.Refusal.{by_line, by_program, by_money, by_disk, by_number, no_memory}
 use Rattle.wire_lines.specs.declared.refusal.NumberRefusal.TheVariants.{Unknown, NotYours, Exhausted as NoNoise, Lost as NoAnswer}
 use Rattle.owner_house.specs.Owner.{Owner}
 use Rattle.owner_desk.specs.Passes.{Pass, Told, records_told}
 use Rattle.answer_path.specs.Query.{Query}
-use Rattle.answer_path.specs.Demand.{Demand, asks, recalls, balances}
+use Rattle.answer_path.specs.Demand.{Demand, asks, recalls, balances, spends}
 use Rattle.answer_path.specs.Verdict.{program_refused, money_refused, granted}
 use Rattle.answer_path.specs.Answered.{IsAsked, outcome_reply}
-use Rattle.answer_path.specs.Standing.{IsBalance, IsRecalled}
+use Rattle.answer_path.specs.Standing.{IsBalance, IsRecalled, IsSpending}
 use Rattle.answer_path.specs.Met.{IsMet}
 use Rattle.answer_path.specs.Shut.{FailsBy, Shut, ShutsBy, StaysShut, disk_word, shut_of}
 use Rattle.answer_path.specs.Idle.{AddsNone, IsAlone, IsShutOut, LeavesBook}
@@ -34,7 +34,7 @@ none_told : (owner : Owner) (draws : ℕ → ℕ → ℕ) (start : ℕ) (query :
     → IsAsked owner draws start query seen reply told after → AddsNone reply → told ≡ []
 unfolding IsAsked
 none_told owner draws start query seen reply told after (g, begins, inl (program_refused refusal, is, (said, none, rest))) adds = none
-none_told owner draws start query seen reply told after (g, begins, inl (money_refused refusal, is, (said, none, rest))) adds = none
+none_told owner draws start query seen reply told after (g, begins, inl (money_refused refusal, is, (told_so, why, said, none, rest))) adds = none
 none_told owner draws start query seen reply told after (g, begins, inl (granted asking grant, is, inl two)) adds = absurd (outcome_adds grant two.outcome (subst AddsNone two.reply_is adds))
 none_told owner draws start query seen reply told after (g, begins, inl (granted asking grant, is, inr (refusal, said, rest))) adds = absurd (subst AddsNone said adds)
 none_told owner draws start query seen reply told after (g, begins, inr (said, none, rest)) adds = none
@@ -44,7 +44,7 @@ goes_on : (owner : Owner) (draws : ℕ → ℕ → ℕ) (start : ℕ) (query : Q
     → IsAsked owner draws start query seen reply told after → told ≡ [] → IsPrefix seen after
 unfolding IsAsked
 goes_on owner draws start query seen reply told after (g, begins, inl (program_refused refusal, is, (said, none, rest))) nothing = subst (IsPrefix seen) (sym rest) begins
-goes_on owner draws start query seen reply told after (g, begins, inl (money_refused refusal, is, (said, none, rest))) nothing = subst (IsPrefix seen) (sym rest) begins
+goes_on owner draws start query seen reply told after (g, begins, inl (money_refused refusal, is, (told_so, why, said, none, rest))) nothing = subst (IsPrefix seen) (sym rest) begins
 goes_on owner draws start query seen reply told after (g, begins, inl (granted asking grant, is, inl two)) nothing = absurd (cc (two.told_is, nothing))
 goes_on owner draws start query seen reply told after (g, begins, inl (granted asking grant, is, inr (refusal, said, inl (none, rest)))) nothing = subst (IsPrefix seen) (sym rest) begins
 goes_on owner draws start query seen reply told after (g, begins, inl (granted asking grant, is, inr (refusal, said, inr (some, rest)))) nothing = absurd (cc (some, nothing))
@@ -65,6 +65,7 @@ no_word (refused no_memory) adds = refl
 no_word (greeted name) adds = refl
 no_word (recalled number standing seen) adds = refl
 no_word (remaining spent budget seen) adds = refl
+no_word (spending spent limit seen) adds = refl
 no_word ended adds = refl
 
 -- What a line leaves of the book's shutting: that no append of its own failed.
@@ -120,23 +121,25 @@ module _ (before after : Pass) (told : List Told) (own : after.own ≡ before.ow
     same_out (failure, shut, (stays, faults)) = the_same (stays.adds_nothing failure (sym (same_failure faults) ∙ shut)) faults
 
 pub add_nothing : RefusalsAddNothing
-unfolding IsMet ShutsBy IsRecalled IsBalance
+unfolding IsMet ShutsBy IsRecalled IsBalance IsSpending
 add_nothing owner draws (asks query) before after reply told met own shuts (inl adds) =
     let none = none_told owner draws _ query before.seen reply told after.seen met adds in
-    leaves before after told own none (goes_on owner draws _ query before.seen reply told after.seen met none) (fails_not owner draws query reply told (shut_of before) (shut_of after) adds shuts)
+    leaves before after told own none (goes_on owner draws _ query before.seen reply told after.seen met none) (fails_not owner draws query reply told (shut_of before) (shut_of after) adds shuts.0)
 add_nothing owner draws (asks query) before after reply told met own shuts (inr (out, (failure, was))) =
-    leaves_out before after told own failure was (goes_on owner draws _ query before.seen reply told after.seen met) (shuts_out owner draws query reply told (shut_of before) (shut_of after) out shuts)
+    leaves_out before after told own failure was (goes_on owner draws _ query before.seen reply told after.seen met) (shuts_out owner draws query reply told (shut_of before) (shut_of after) out shuts.0)
 add_nothing owner draws (recalls analyst number) before after reply told ((g, begins, said, rest), none) own shuts idle = leaves before after told own none (subst (IsPrefix before.seen) (sym rest) begins) shuts
 add_nothing owner draws balances before after reply told ((g, begins, said, rest), none) own shuts idle = leaves before after told own none (subst (IsPrefix before.seen) (sym rest) begins) shuts
+add_nothing owner draws (spends analyst) before after reply told ((g, begins, said, rest), none) own shuts idle = leaves before after told own none (subst (IsPrefix before.seen) (sym rest) begins) shuts
 
 pub leave_pass : RefusalsLeavePass
 unfolding IsMet ShutsBy
 leave_pass owner draws (asks query) before after reply told met own shuts opened was is (inl adds) =
-    the_same before after told own opened was is (none_told owner draws _ query before.seen reply told after.seen met adds) (fails_not owner draws query reply told (shut_of before) (shut_of after) adds shuts).1
+    the_same before after told own opened was is (none_told owner draws _ query before.seen reply told after.seen met adds) (fails_not owner draws query reply told (shut_of before) (shut_of after) adds shuts.0).1
 leave_pass owner draws (asks query) before after reply told met own shuts opened was is (inr out) =
-    same_out before after told own opened was is (shuts_out owner draws query reply told (shut_of before) (shut_of after) out shuts)
+    same_out before after told own opened was is (shuts_out owner draws query reply told (shut_of before) (shut_of after) out shuts.0)
 leave_pass owner draws (recalls analyst number) before after reply told met own shuts opened was is idle = the_same before after told own opened was is met.1 shuts.1
 leave_pass owner draws balances before after reply told met own shuts opened was is idle = the_same before after told own opened was is met.1 shuts.1
+leave_pass owner draws (spends analyst) before after reply told met own shuts opened was is idle = the_same before after told own opened was is met.1 shuts.1
 
 -- where demands are met exactly
 met_none : (owner : Owner) (draws : ℕ → ℕ → ℕ) (start : ℕ) (demand : Demand) (seen : List Record) (reply : Replied) (told : List Told) (after : List Record)
@@ -145,6 +148,7 @@ unfolding IsMet
 met_none owner draws start (asks query) seen reply told after met adds = none_told owner draws start query seen reply told after met adds
 met_none owner draws start (recalls analyst number) seen reply told after met adds = met.1
 met_none owner draws start balances seen reply told after met adds = met.1
+met_none owner draws start (spends analyst) seen reply told after met adds = met.1
 
 pub leave_records : RefusalsLeaveRecords
 leave_records owner draws start demand seen reply told after exactly adds =

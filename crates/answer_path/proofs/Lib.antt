@@ -14,6 +14,7 @@ pub mod Scales
 pub mod Blind
 pub mod Digests
 pub mod Answering
+pub mod Bars
 pub mod Turns
 pub mod Standings
 pub mod Meets

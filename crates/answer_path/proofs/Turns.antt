@@ -27,10 +27,11 @@ use Rattle.answer_path.specs.Query.{Query}
 use Rattle.answer_path.specs.Program.{IsCharged}
 use Rattle.answer_path.specs.Verdict.{program_refused, money_refused, granted, ask_for, money_refusal, IsVerdict}
 use Rattle.answer_path.specs.Answered.{HasSmallAnswer, IsAsked, IsSettledBy, IsUnasked, granted_record, outcome_reply}
-use Rattle.answer_path.specs.Shut.{FailsBy, IsGrantPending, StaysShut, disk_word, shut_of}
+use Rattle.answer_path.specs.Shut.{FailsBy, IsGrantPending, IsSaidOpen, StaysShut, disk_word, shut_of}
 use Rattle.answer_path.specs.Turn.{IsTurn, book_refusal, settled_reply}
 use Rattle.answer_path.specs.Code.{IsProgramRefusal}
 use Rattle.answer_path.proofs.Answering.{granted_is, money_says, owner_is, owner_with, program_says, self}
+use Rattle.answer_path.proofs.Bars.{money-granted, money-refused, money-shut}
 
 -- where nothing was added
 still : (before after : Option Failure) → ((failure : Failure) → before ≡ Some failure → after ≡ Some failure) → StaysShut [] before after
@@ -55,6 +56,7 @@ refused_turn owner draws query pass (by_program refusal) h = record {
   asked = (pass.seen, self pass.seen, inl (program_refused refusal, program_says owner (first_of_run pass) pass.seen query refusal h, (refl, refl, refl)));
   own = kept pass pass refl;
   shuts = (still pass.failure pass.failure (λ failure was. was), refl);
+  said_open = tt;
   due = tt;
 }
 refused_turn owner draws query pass no_memory h = record {
@@ -62,6 +64,7 @@ refused_turn owner draws query pass no_memory h = record {
   asked = (pass.seen, self pass.seen, inr (refl, refl, refl));
   own = kept pass pass refl;
   shuts = (still pass.failure pass.failure (λ failure was. was), refl);
+  said_open = tt;
   due = tt;
 }
 refused_turn owner draws query pass (by_line refusal) h = absurd h
@@ -70,8 +73,8 @@ refused_turn owner draws query pass (by_disk refusal) h = absurd h
 refused_turn owner draws query pass (by_number refusal) h = absurd h
 
 -- the record of a grant
-record_of : (before : Pass) (g : List Record) (asking : Ask) (grant : Grant) → verdict_on before g asking ≡ Ok grant → reservation_for g asking grant.taken ≡ granted_record asking grant
-record_of before g asking grant is = sym (granted_is before.opened.ledger.entry (first_of_run before) g asking grant is)
+record_of : (before : Pass) (g : List Record) (asking : Ask) (grant : Grant) → verdict_on before g None asking ≡ Ok grant → reservation_for g asking grant.taken ≡ granted_record asking grant
+record_of before g asking grant is = sym (granted_is before.opened.ledger.entry (first_of_run before) g asking grant (money-granted before.opened.ledger.entry (first_of_run before) g asking None grant is))
 
 -- no reservation is made
 pub unreserved_turn : (name : List ℕ) (holding : Holding) (draws : ℕ → ℕ → ℕ) (query : Query) (before after : Pass) (p q : ℕ) (fault : BookFault)
@@ -85,39 +88,47 @@ unreserved_turn name holding draws query before after p q (Refused fault) c (g, 
     begins,
     inl (
       money_refused (money_refusal fault),
-      money_says (owner_with name before.opened.ledger.entry holding) (first_of_run before) g query p q (Err fault) c verdict,
-      (refl, refl, stays.seen),
+      money_says (owner_with name before.opened.ledger.entry holding) (first_of_run before) g query p q (Err fault) c
+          (money-refused before.opened.ledger.entry (first_of_run before) g (ask_for query p q) after.failure fault verdict).0,
+      (by_money (money_refusal fault), inl refl, (refl, refl, stays.seen)),
     ),
   );
   own = kept before after stays.own;
   shuts = (still before.failure after.failure stays.closed, stays.faults);
+  said_open = (money-refused before.opened.ledger.entry (first_of_run before) g (ask_for query p q) after.failure fault verdict).1;
   due = tt;
 }
-unreserved_turn name holding draws query before after p q (Unwritten (Closed failed_at)) c (g, begins, (grant, verdict, (failure, closed, said, stays))) = record {
-  told = [];
-  asked = (
-    g,
-    begins,
-    inl (
-      granted (ask_for query p q) grant,
-      money_says (owner_with name before.opened.ledger.entry holding) (first_of_run before) g query p q (Ok grant) c verdict,
-      inr (IsClosed failed_at, refl, inl (refl, stays.seen)),
-    ),
-  );
-  own = kept before after stays.own;
-  shuts = (failure, closed, said, still before.failure after.failure stays.closed, stays.faults);
-  due = tt;
-}
+unreserved_turn name holding draws query before after p q (Unwritten (Closed failed_at)) c (g, begins, (verdict, stays)) =
+    let asking : Ask = ask_for query p q in
+    let owner : Owner = owner_with name before.opened.ledger.entry holding in
+    let shut = money-shut before.opened.ledger.entry (first_of_run before) g asking after.failure failed_at verdict in
+    record {
+      told = [];
+      asked = (g, begins, inl (elim shut.3 [
+        | inl (grant, is) ↦
+            (granted asking grant, money_says owner (first_of_run before) g query p q (Ok grant) c is, inr (IsClosed failed_at, refl, inl (refl, stays.seen)))
+        | inr (fault, is, low) ↦ (
+            money_refused (money_refusal fault),
+            money_says owner (first_of_run before) g query p q (Err fault) c is,
+            (by_disk (IsClosed failed_at), inr (failed_at, low, refl), (refl, refl, stays.seen)),
+          )
+      ]));
+      own = kept before after stays.own;
+      shuts = (shut.0, shut.1, shut.2, still before.failure after.failure stays.closed, stays.faults);
+      said_open = tt;
+      due = tt;
+    }
 unreserved_turn name holding draws query before after p q (Unwritten DiskFault) c (g, begins, (grant, verdict, fails)) =
     let owner : Owner = owner_with name before.opened.ledger.entry holding in
     let asking : Ask = ask_for query p q in
     let pending = fails.pending ∙ record_of before g asking grant verdict in
-    let says = money_says owner (first_of_run before) g query p q (Ok grant) c verdict in
+    let says = money_says owner (first_of_run before) g query p q (Ok grant) c (money-granted before.opened.ledger.entry (first_of_run before) g asking None grant verdict) in
     record {
       told = [];
       asked = (g, begins, inl (granted asking grant, says, inr (Fault, refl, inl (refl, fails.seen))));
       own = kept before after fails.own;
       shuts = (fails.failure, fails.open_before, fails.closed, (p, q, c, grant, pending), fails.faults);
+      said_open = tt;
       due = (
         fails.failure,
         fails.closed,
@@ -130,11 +141,16 @@ unreserved_turn name holding draws query before after p q (Unwritten DiskFault) 
       );
     }
 
--- a settled grant's reply isn't for the disk, and nothing is pending after it
+-- a settled grant's reply isn't for the disk, nor of an open book alone, and nothing is pending after it
 unsaid : (grant : Grant) (outcome : Outcome) → disk_word (outcome_reply grant outcome) ≡ None
 unsaid grant (Answered value) = refl
 unsaid grant Exhausted = refl
 unsaid grant Lost = refl
+
+unheld : (grant : Grant) (outcome : Outcome) (failure : Option Failure) → IsSaidOpen (outcome_reply grant outcome) failure
+unheld grant (Answered value) failure = tt
+unheld grant Exhausted failure = tt
+unheld grant Lost failure = tt
 
 nothing_due : (owner : Owner) (start : ℕ) (query : Query) (grant : Grant) (outcome : Outcome) (told : List Told) (after : List Record) (failure : Option Failure)
     → IsGrantPending owner start query (outcome_reply grant outcome) told after failure
@@ -145,7 +161,7 @@ nothing_due owner start query grant Lost told after failure = tt
 -- a reservation is made on some records g, and settled or not on some later ones u
 module _ (name : List ℕ) (holding : Holding) (draws : ℕ → ℕ → ℕ) (query : Query) (before mid after : Pass) (p q : ℕ) (grant : Grant) (outcome : Outcome) (g u : List Record)
     (c : IsCharged (signature_in holding.tables holding.partitions query.view) query.program p q) (begins : IsPrefix before.seen g)
-    (verdict : verdict_on before g (ask_for query p q) ≡ Ok grant) (adds : AddsRecord before g (reservation_for g (ask_for query p q) grant.taken) mid)
+    (verdict : verdict_on before g None (ask_for query p q) ≡ Ok grant) (adds : AddsRecord before g (reservation_for g (ask_for query p q) grant.taken) mid)
     (settles : IsSettledBy (owner_with name before.opened.ledger.entry holding) draws query grant.number outcome) (between : IsPrefix mid.seen u)
     (stays_opened : mid.opened ≡ before.opened) where
   abbrev owner : Owner
@@ -167,7 +183,7 @@ module _ (name : List ℕ) (holding : Holding) (draws : ℕ → ℕ → ℕ) (qu
   is = record_of before g asking grant verdict
 
   says : IsVerdict owner.entry (signature_of_view owner query.view) (first_of_run before) g query (granted asking grant)
-  says = money_says owner (first_of_run before) g query p q (Ok grant) c verdict
+  says = money_says owner (first_of_run before) g query p q (Ok grant) c (money-granted before.opened.ledger.entry (first_of_run before) g asking None grant verdict)
 
   reserved : IsPrefix (g ++ next ∷ []) u
   reserved = subst (λ (records : List Record). IsPrefix records u) (adds.seen ∙ ap (λ (r : Record). g ++ r ∷ []) is) between
@@ -191,6 +207,7 @@ module _ (name : List ℕ) (holding : Holding) (draws : ℕ → ℕ → ℕ) (qu
     own = added.own ∙ ap (λ (r : Record). mid.own ++ (length u, r) ∷ []) last_is ∙ ap (λ (told : List Told). told ++ (length u, last) ∷ []) own ∙ append_assoc before.own ((length g, next) ∷ []) ((length u, last) ∷ []);
     shuts = subst (λ (word : Option (Option ℕ)). FailsBy owner draws query word ((length g, next) ∷ (length u, last) ∷ []) (shut_of before) (shut_of after)) (sym (unsaid grant outcome))
         (opened ((length g, next) ∷ (length u, last) ∷ []) before.failure after.failure adds.open_before, added.faults ∙ adds.faults);
+    said_open = unheld grant outcome after.failure;
     due = nothing_due owner (first_of_run before) query grant outcome ((length g, next) ∷ (length u, last) ∷ []) after.seen after.failure;
   }
   two_holds (Err (Closed failed_at)) (failure, closed, said, stays) = record {
@@ -202,6 +219,7 @@ module _ (name : List ℕ) (holding : Holding) (draws : ℕ → ℕ → ℕ) (qu
     );
     own = stays.own ∙ own;
     shuts = (failure, closed, said, opened ((length g, next) ∷ []) before.failure after.failure adds.open_before, stays.faults ∙ adds.faults);
+    said_open = tt;
     due = tt;
   }
   two_holds (Err DiskFault) fails = record {
@@ -219,6 +237,7 @@ module _ (name : List ℕ) (holding : Holding) (draws : ℕ → ℕ → ℕ) (qu
       (outcome, u, settles, fails.pending ∙ last_is),
       fails.faults ∙ ap (λ (faults : List Failure). faults ++ fails.failure ∷ []) adds.faults,
     );
+    said_open = tt;
     due = tt;
   }
 

@@ -1,5 +1,5 @@
 -- The reply to a query, and the records that it adds.
-use Rattle.std.specs.Prelude.{◌≡◌, ℕ, ◌+◌, ◌^◌, ◌≤◌, ℤ, ◌+ℤ◌, unsigned_abs, List, [], ◌∷◌, ◌++◌, length}
+use Rattle.std.specs.Prelude.{◌≡◌, ℕ, ◌+◌, ◌^◌, ◌<◌, ◌≤◌, ℤ, ◌+ℤ◌, unsigned_abs, List, [], ◌∷◌, ◌++◌, length}
 use Rattle.std.specs.Prelude.{Option, Some, None, ◌⊎◌, ⊤}
 use mathlib.Core.List.{IsPrefix}
 use Rattle.journal_records.specs.declared.records.Outcome.{Outcome}
@@ -12,7 +12,10 @@ use Rattle.budget_core.specs.Entries.{Entry}
 use Rattle.budget_core.specs.Ledger.{reservation_numbered, settlement_for}
 use Rattle.wire_lines.specs.Reply.{Replied, answered, refused}
 use Rattle.wire_lines.specs.Refusal.{Refusal, by_line, by_program, by_money, by_number, by_disk, no_memory}
+use Rattle.wire_lines.specs.Codes.{money_code}
 use Rattle.wire_lines.specs.declared.refusal.DiskRefusal.{DiskRefusal}
+use Rattle.wire_lines.specs.declared.refusal.DiskRefusal.TheVariants.{Closed}
+use Rattle.wire_lines.specs.declared.refusal.MoneyRefusal.{MoneyRefusal}
 use Rattle.wire_lines.specs.declared.refusal.NumberRefusal.TheVariants.{Exhausted as NoNoise, Lost as NoAnswer}
 use Rattle.owner_house.specs.Owner.{Owner, signature_of_view, rows_of_view}
 pub use Rattle.owner_desk.specs.Passes.{Told}
@@ -76,9 +79,15 @@ abbrev pub IsUnrecorded : Ask → Grant → Replied → (added : List Record) �
 IsUnrecorded asking grant reply added =
     (refusal : DiskRefusal) × (reply ≡ refused (by_disk refusal)) × ((added ≡ []) ⊎ (added ≡ granted_record asking grant ∷ []))
 
+-- What is said where the budget refuses: its refusal, or 42 in the place of a greater code, since whether the book is shut is looked at
+-- in the order of the codes, too.
+abbrev pub IsSaidFor : MoneyRefusal → Refusal → Type 0
+IsSaidFor refusal said = (said ≡ by_money refusal) ⊎ ((failed_at : ℕ) × (42 < money_code refusal) × (said ≡ by_disk (Closed failed_at)))
+
 abbrev pub IsAnsweredBy : Owner → (ℕ → ℕ → ℕ) → List Record → Query → Verdict → Replied → (added : List Record) → Type 0
 IsAnsweredBy owner draws records query (program_refused refusal) reply added = (reply ≡ refused (by_program refusal)) × (added ≡ [])
-IsAnsweredBy owner draws records query (money_refused refusal) reply added = (reply ≡ refused (by_money refusal)) × (added ≡ [])
+IsAnsweredBy owner draws records query (money_refused refusal) reply added =
+    (said : Refusal) × IsSaidFor refusal said × (reply ≡ refused said) × (added ≡ [])
 IsAnsweredBy owner draws records query (granted asking grant) reply added =
     IsSettledAndTold owner draws records query asking grant reply added ⊎ IsUnrecorded asking grant reply added
 
@@ -118,7 +127,8 @@ IsUnkept asking grant g reply told after =
 abbrev pub IsAskedBy :
     Owner → (ℕ → ℕ → ℕ) → Query → Verdict → List Record → Replied → (told : List Told) → (after : List Record) → Type 0
 IsAskedBy owner draws query (program_refused refusal) g reply told after = AddsNothing g (by_program refusal) reply told after
-IsAskedBy owner draws query (money_refused refusal) g reply told after = AddsNothing g (by_money refusal) reply told after
+IsAskedBy owner draws query (money_refused refusal) g reply told after =
+    (said : Refusal) × IsSaidFor refusal said × AddsNothing g said reply told after
 IsAskedBy owner draws query (granted asking grant) g reply told after =
     AddsTwo owner draws query asking grant g reply told after ⊎ IsUnkept asking grant g reply told after
 

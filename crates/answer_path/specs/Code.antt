@@ -29,13 +29,13 @@ use Rattle.wire_lines.specs.Refusal.{ProgramRefusal, no_token, no_term, too_nest
 use Rattle.answer_path.specs.Reading.{Reading, read, IsReading}
 use Rattle.answer_path.specs.Judgement.{refused_for, accepted, judgement_of, fault_refusal, HasTooManyWalks}
 use Rattle.answer_path.specs.Query.{Query}
-use Rattle.answer_path.specs.Demand.{Demand, asks, recalls, balances}
+use Rattle.answer_path.specs.Demand.{Demand, asks, recalls, balances, spends}
 use Rattle.answer_path.specs.declared.program.Accepted.{Accepted}
 use Rattle.answer_path.specs.declared.program.Judged.{Judged}
 use Rattle.answer_path.specs.declared.deciding.Decided.{Decided}
 use Rattle.answer_path.specs.declared.query.Query.{Query as QueryAt}
 use Rattle.answer_path.specs.declared.demand.Demand.{Demand as DemandAt}
-use Rattle.answer_path.specs.declared.demand.Demand.TheVariants.{Asks, Recalls, Balances}
+use Rattle.answer_path.specs.declared.demand.Demand.TheVariants.{Asks, Recalls, Balances, Spends}
 
 -- The program is this term, which is accepted with this sensitivity. Its run without data has a plan: so it doesn't take too many walks.
 pub record IsAccepted (ts : Signature) (program : List ℕ) (a : Accepted) : Type 0 where
@@ -130,21 +130,25 @@ abbrev pub demand_of : DemandAt → Demand
 demand_of (Asks query) = asks (query_of query)
 demand_of (Recalls analyst number) = recalls analyst number
 demand_of Balances = balances
+demand_of (Spends analyst) = spends analyst
 
 -- A query is of the entry. The others may be demanded of every entry.
 abbrev pub IsDemandOf : Entry → Demand → Type 0
 IsDemandOf entry (asks query) = IsQueryOf entry query
 IsDemandOf entry (recalls analyst number) = ⊤
 IsDemandOf entry balances = ⊤
+IsDemandOf entry (spends analyst) = ⊤
 
 -- what is asked is a program that takes too many walks over the tables of its view
 abbrev pub AsksTooManyWalks : Holding → Demand → Type 0
 AsksTooManyWalks holding (asks query) = HasTooManyWalks (signature_in holding.tables holding.partitions query.view) query.program
 AsksTooManyWalks holding (recalls analyst number) = ⊥
 AsksTooManyWalks holding balances = ⊥
+AsksTooManyWalks holding (spends analyst) = ⊥
 
 -- a query's view is the whole, or a key of one of these partitions
 abbrev pub HasPartFor : List PartitionEntry → Demand → Type 0
 HasPartFor partitions (asks query) = HasPart partitions query.view
 HasPartFor partitions (recalls analyst number) = ⊤
 HasPartFor partitions balances = ⊤
+HasPartFor partitions (spends analyst) = ⊤

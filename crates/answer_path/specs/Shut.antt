@@ -1,5 +1,5 @@
 -- What a line does to its owner's book, which is shut once a record wasn't appended.
-use Rattle.std.specs.Prelude.{◌≡◌, ℕ, List, [], ◌∷◌, ◌++◌, Option, Some, None, ⊤}
+use Rattle.std.specs.Prelude.{◌≡◌, ℕ, ◌<◌, List, [], ◌∷◌, ◌++◌, Option, Some, None, ⊤}
 use Rattle.journal_records.specs.declared.records.Outcome.{Outcome}
 use Rattle.journal_records.specs.declared.records.Record.{Record}
 use Rattle.journal_records.specs.declared.records.Record.TheVariants.{Reserve}
@@ -8,13 +8,14 @@ use Rattle.budget_core.specs.declared.entry.Grant.{Grant}
 use Rattle.budget_core.specs.Ledger.{settlement_for}
 use Rattle.budget_ledger.specs.declared.failure.Failure.{Failure}
 use Rattle.wire_lines.specs.Reply.{Replied, refused}
-use Rattle.wire_lines.specs.Refusal.{by_disk}
+use Rattle.wire_lines.specs.Refusal.{by_disk, by_money}
+use Rattle.wire_lines.specs.Codes.{money_code}
 use Rattle.wire_lines.specs.declared.refusal.DiskRefusal.TheVariants.{Closed, Fault}
 use Rattle.owner_house.specs.Owner.{Owner, signature_of_view}
 use Rattle.owner_desk.specs.Passes.{Pass, Told}
 use Rattle.answer_path.specs.Query.{Query}
 use Rattle.answer_path.specs.Program.{IsCharged}
-use Rattle.answer_path.specs.Demand.{Demand, asks, recalls, balances}
+use Rattle.answer_path.specs.Demand.{Demand, asks, recalls, balances, spends}
 use Rattle.answer_path.specs.Verdict.{granted, ask_for, IsVerdict}
 use Rattle.answer_path.specs.Answered.{IsSettledBy, granted_record}
 
@@ -63,11 +64,18 @@ FailsBy owner draws query (Some None) told before after =
     (failure : Failure) × (before.failure ≡ None) × (after.failure ≡ Some failure) × IsPendingOf owner draws query told failure.pending
     × (after.own ≡ before.own ++ failure ∷ [])
 
--- what a demand does: a recall and a balance append nothing
+-- What stands behind 42 in the order of the codes is said of a book that isn't shut.
+abbrev pub IsSaidOpen : Replied → (after : Option Failure) → Type 0
+IsSaidOpen (refused (by_money refusal)) after = 42 < money_code refusal → after ≡ None
+IsSaidOpen reply after = ⊤
+
+-- what a demand does: only a query appends
 unfoldable pub ShutsBy : Owner → (draws : ℕ → ℕ → ℕ) → Demand → Replied → (told : List Told) → (before after : Shut) → Type 0
-ShutsBy owner draws (asks query) reply told before after = FailsBy owner draws query (disk_word reply) told before after
+ShutsBy owner draws (asks query) reply told before after =
+    FailsBy owner draws query (disk_word reply) told before after × IsSaidOpen reply after.failure
 ShutsBy owner draws (recalls analyst number) reply told before after = StaysShut told before.failure after.failure × (after.own ≡ before.own)
 ShutsBy owner draws balances reply told before after = StaysShut told before.failure after.failure × (after.own ≡ before.own)
+ShutsBy owner draws (spends analyst) reply told before after = StaysShut told before.failure after.failure × (after.own ≡ before.own)
 
 -- the record is the reservation that the verdict on these records grants, with the number and the charge that it has there
 abbrev pub IsGrantOn : Owner → (start : ℕ) → (records : List Record) → Query → Record → Type 0
@@ -83,9 +91,10 @@ IsGrantPending owner start query (refused (by_disk Fault)) [] after failure =
     (pending : Failure) × (failure ≡ Some pending) × IsGrantOn owner start after query pending.pending
 IsGrantPending owner start query reply told after failure = ⊤
 
--- the same of a demand: nothing is pending after a recall and a balance
+-- the same of a demand: nothing is pending after any that is no query
 unfoldable pub LeavesDue :
     Owner → (start : ℕ) → Demand → Replied → (told : List Told) → (after : List Record) → (failure : Option Failure) → Type 0
 LeavesDue owner start (asks query) reply told after failure = IsGrantPending owner start query reply told after failure
 LeavesDue owner start (recalls analyst number) reply told after failure = ⊤
 LeavesDue owner start balances reply told after failure = ⊤
+LeavesDue owner start (spends analyst) reply told after failure = ⊤

@@ -15,14 +15,14 @@ use Rattle.owner_desk.specs.Passes.{Pass, Told, first_of_run}
 use Rattle.answer_path.specs.Query.{Query}
 use Rattle.answer_path.specs.Verdict.{money_refusal}
 use Rattle.answer_path.specs.Answered.{IsAsked, outcome_reply}
-use Rattle.answer_path.specs.Shut.{FailsBy, IsGrantPending, disk_word, shut_of}
+use Rattle.answer_path.specs.Shut.{FailsBy, IsGrantPending, IsSaidOpen, disk_word, shut_of}
 
 -- 42 and 52
 abbrev pub disk_refusal : AppendFault → DiskRefusal
 disk_refusal (Closed failed_at) = IsClosed failed_at
 disk_refusal DiskFault = Fault
 
--- 40, 41, 42 and 52
+-- 40, 41, 43, 42 and 52
 abbrev pub book_refusal : BookFault → Refusal
 book_refusal (Refused fault) = by_money (money_refusal fault)
 book_refusal (Unwritten fault) = by_disk (disk_refusal fault)
@@ -38,4 +38,5 @@ pub record IsTurn (owner : Owner) (draws : ℕ → ℕ → ℕ) (query : Query) 
   pub asked : IsAsked owner draws (first_of_run before) query before.seen reply told after.seen
   pub own : after.own ≡ before.own ++ told
   pub shuts : FailsBy owner draws query (disk_word reply) told (shut_of before) (shut_of after)
+  pub said_open : IsSaidOpen reply after.failure
   pub due : IsGrantPending owner (first_of_run before) query reply told after.seen after.failure

@@ -18,7 +18,7 @@ ghost use Rattle.owner_desk.specs.Shared.{IsKept};
 ghost use Rattle.answer_path.specs.Noise.{scale_numerator, scale_denominator, noise_at};
 ghost use Rattle.answer_path.specs.Verdict.{ask_for, money_refusal};
 ghost use Rattle.answer_path.specs.Answered.{HasSmallAnswer, IsAsked, IsSettledAt, IsUnasked, answer_limit, outcome_reply};
-ghost use Rattle.answer_path.specs.Shut.{FailsBy, IsGrantPending, disk_word, shut_of};
+ghost use Rattle.answer_path.specs.Shut.{FailsBy, IsGrantPending, IsSaidOpen, disk_word, shut_of};
 ghost use Rattle.owner_house.specs.Names.{AreNames};
 ghost use Rattle.answer_path.specs.Reading.{read, IsReading};
 ghost use Rattle.answer_path.specs.Turn.{IsTurn, book_refusal, disk_refusal, settled_reply};
@@ -172,7 +172,7 @@ fn disk_refusal_of(fault: AppendFault) -> DiskRefusal
     }
 }
 
-/// Why no reservation was made: over budget, no room, or its record wasn't appended.
+/// Why no reservation was made: over budget or the analyst's share, no room, or its record wasn't appended.
 fn book_refusal_of<'a>(fault: BookFault) -> Refusal<'a>
     ensures { refusal_at result ≡ book_refusal fault }
 {
@@ -298,6 +298,8 @@ pub fn ask<'d, R: Wait, D: Disk, S: Streams>(
         → (told : List Told) → pass.new.knows.own ≡ pass.old.knows.own ++ told
         → FailsBy whose (S.given streams.now owner) (query_of query.now) (disk_word (replied result)) told
         (shut_of pass.old.knows) (shut_of pass.new.knows) }
+    // Only of a book that isn't shut the analyst's share is told.
+    ensures said_open { IsSaidOpen (replied result) pass.new.knows.failure }
     // Where the append of the reservation failed, what the disk may have is what was granted on the records seen then.
     ensures due { (whose : Owner) → IsOwnerOf pass.old.knows.opened.ledger.entry dataset.now whose
         → (told : List Told) → pass.new.knows.own ≡ pass.old.knows.own ++ told

@@ -11,4 +11,6 @@ pub enum Demand<'a> {
     Recalls { analyst: u16, number: u32 },
     /// What is spent of the budget.
     Balances,
+    /// What this analyst has spent.
+    Spends { analyst: u16 },
 }

@@ -15,7 +15,7 @@ ghost use Rattle.answer_path.specs.Shut.{LeavesDue, ShutsBy, shut_of};
 use crate::answer::ask;
 use crate::demand::Demand;
 use crate::last_program::LastProgram;
-use crate::standing::{left, recall};
+use crate::standing::{left, mine, recall};
 use fz_outside::words::Streams;
 use outside_disks::disk::Disk;
 use owner_desk::{Desk, Pass};
@@ -64,5 +64,6 @@ pub fn meet<'d, R: Wait, D: Disk, S: Streams>(
         Demand::Asks(query) => ask(rt, alloc, desk, pass, last, dataset, streams, owner, query),
         Demand::Recalls { analyst, number } => recall(rt, desk, pass, *number, *analyst),
         Demand::Balances => left(rt, desk, pass),
+        Demand::Spends { analyst } => mine(rt, desk, pass, *analyst),
     }
 }

@@ -1,4 +1,4 @@
-//! What became of a number, and what is spent of a budget.
+//! What became of a number, what is spent of a budget, and what an analyst has spent.
 
 ghost use Rattle.std.specs.Prelude.{◌≡◌};
 ghost use Rattle.wire_lines.specs.Reply.{replied};
@@ -6,9 +6,9 @@ ghost use Rattle.owner_desk.specs.Passes.{first_of_run};
 ghost use Rattle.owner_desk.specs.Answers.{PassStays};
 ghost use Rattle.owner_desk.specs.Shared.{IsKept};
 ghost use Rattle.answer_path.specs.Answered.{HasSmallAnswer, IsUnasked};
-ghost use Rattle.answer_path.specs.Standing.{IsBalance, IsRecalled, left_reply, recall_reply};
+ghost use Rattle.answer_path.specs.Standing.{IsBalance, IsRecalled, IsSpending, left_reply, mine_reply, recall_reply};
 
-use budget_core::answers::{Left, Recall};
+use budget_core::answers::{Left, Mine, Recall};
 use journal_records::records::Outcome;
 use outside_disks::disk::Disk;
 use owner_desk::{Desk, Pass};
@@ -56,6 +56,17 @@ fn left_reply_of<'a>(left: Left) -> Reply<'a>
     }
 }
 
+/// What an analyst is told of its own spending.
+fn mine_reply_of<'a>(mine: Mine) -> Reply<'a>
+    ensures { replied result ≡ mine_reply mine }
+{
+    Reply::Mine {
+        spent: mine.spent,
+        limit: mine.limit,
+        seen: mine.seen,
+    }
+}
+
 /// Says what became of a reservation, to the analyst who asked for it.
 pub(crate) fn recall<R: Wait, D: Disk>(
     rt: &R,
@@ -84,4 +95,21 @@ pub(crate) fn left<R: Wait, D: Disk>(rt: &R, desk: &Desk<D>, pass: &mut Pass<D>)
     ensures fits { HasSmallAnswer (replied result) }
 {
     left_reply_of(desk.left(rt, pass))
+}
+
+/// Says what an analyst has spent, to that analyst.
+pub(crate) fn mine<R: Wait, D: Disk>(
+    rt: &R,
+    desk: &Desk<D>,
+    pass: &mut Pass<D>,
+    analyst: u16,
+) -> Reply<'static>
+    requires here { pass.old.lock ≡ desk.now }
+    ensures told { IsSpending pass.old.knows.opened.ledger.entry analyst pass.old.knows.seen (replied result) pass.new.knows.seen }
+    ensures stays { PassStays pass.old.knows pass.new.knows.seen pass.new.knows }
+    ensures kept { IsKept pass.old pass.new }
+    ensures asked { IsUnasked (replied result) → ⊥ }
+    ensures fits { HasSmallAnswer (replied result) }
+{
+    mine_reply_of(desk.mine(rt, pass, analyst))
 }

@@ -14,7 +14,7 @@ use wire_lines::{
 };
 
 #[rattlefmt::skip]
-const REQUESTS: [(&[u8], Request<'static>); 16] = [
+const REQUESTS: [(&[u8], Request<'static>); 17] = [
     (b"hello ann", Request::Hello { analyst: b"ann" }),
     (b"ask census 0.5 size people", Ask { owner: b"census", epsilon: Some(500_000), program: b"size people" }),
     (b"ask census 0.000001 a  b ", Ask { owner: b"census", epsilon: Some(1), program: b"a  b " }),
@@ -28,6 +28,7 @@ const REQUESTS: [(&[u8], Request<'static>); 16] = [
     (b"ask census 1 ", Ask { owner: b"census", epsilon: Some(1_000_000), program: b"" }),
     (b"recall census 0000000012", Request::Recall { owner: b"census", number: 12 }),
     (b"left census", Request::Left { owner: b"census" }),
+    (b"mine census", Request::Mine { owner: b"census" }),
     (b"askpart census area A 0.000006 size people", AskPart { owner: b"census", partition: b"area", key: b"A", epsilon: Some(6), program: b"size people" }),
     (b"askpart census area A 1 ", AskPart { owner: b"census", partition: b"area", key: b"A", epsilon: Some(1_000_000), program: b"" }),
     (b"bye", Request::Bye),
@@ -49,7 +50,7 @@ fn reads_requests(rt: HostRuntime) {
 
 // Lines that are none, and the word where that is seen.
 #[rattlefmt::skip]
-const MALFORMED: [(&[u8], u32); 18] = [
+const MALFORMED: [(&[u8], u32); 20] = [
     (b"hello", 1),
     (b"hello ", 1),
     (b"hello  ann", 1),
@@ -64,6 +65,8 @@ const MALFORMED: [(&[u8], u32); 18] = [
     (b"recall census 00000000012", 2),
     (b"recall census 1 2", 3),
     (b"left", 1),
+    (b"mine", 1),
+    (b"mine census x", 2),
     (b"askpart census area A 1", 5),
     (b"askpart census area A", 4),
     (b"bye ", 1),
@@ -118,7 +121,7 @@ const TABLE: Name<'static> = Name {
 };
 
 #[rattlefmt::skip]
-const REPLIES: [(Reply<'static>, &[u8]); 10] = [
+const REPLIES: [(Reply<'static>, &[u8]); 12] = [
     (Reply::Hello { analyst: Name { bytes: b"ann" } }, b"hello ann\n"),
     (Reply::Answer { number: 0, value: -5, taken: 1_000_000 }, b"answer 0 -5 1000000\n"),
     (Reply::Answer { number: u32::MAX, value: i64::MIN, taken: 1 }, b"answer 4294967295 -9223372036854775808 1\n"),
@@ -127,6 +130,8 @@ const REPLIES: [(Reply<'static>, &[u8]); 10] = [
     (Reply::Recalled { number: 0, outcome: Some(Outcome::Lost), seen: 2 }, b"recall 0 lost 2\n"),
     (Reply::Recalled { number: 0, outcome: Some(Outcome::Exhausted), seen: 2 }, b"recall 0 exhausted 2\n"),
     (Reply::Left { spent: 1_000_000, budget: 10_000_000, seen: 1 }, b"left 1000000 10000000 1\n"),
+    (Reply::Mine { spent: 6, limit: Some(10), seen: 4 }, b"mine 6 10 4\n"),
+    (Reply::Mine { spent: 0, limit: None, seen: 0 }, b"mine 0 none 0\n"),
     (Reply::Bye, b"bye\n"),
     (Reply::Refused(Refusal::Program(ProgramRefusal::Unbounded { table: TABLE })), b"no 33 a_name_of_thirty_two_bytes_00001\n"),
 ];
@@ -148,7 +153,7 @@ fn frac(p: u64, q: u64) -> Sens
 }
 
 #[rattlefmt::skip]
-const REFUSALS: [(Refusal<'static>, &[u8]); 26] = [
+const REFUSALS: [(Refusal<'static>, &[u8]); 27] = [
     (Refusal::Line(LineRefusal::Malformed { word: 2 }), b"no 10 2\n"),
     (Refusal::Line(LineRefusal::TooLong), b"no 11\n"),
     (Refusal::Line(LineRefusal::Unknown { word: 1 }), b"no 12 1\n"),
@@ -168,6 +173,7 @@ const REFUSALS: [(Refusal<'static>, &[u8]); 26] = [
     (Refusal::Program(ProgramRefusal::TooWide { from: 4, to: 11, width: 65 }), b"no 37 4 11 65\n"),
     (Refusal::Money(MoneyRefusal::OverBudget { spent: 1, after: 3, budget: 2, seen: 4 }), b"no 40 1 3 2 4\n"),
     (Refusal::Money(MoneyRefusal::JournalFull { used: 100, open: 0, capacity: 100 }), b"no 41 100 0 100\n"),
+    (Refusal::Money(MoneyRefusal::OverShare { spent: 6, after: 11, limit: 10, seen: 4 }), b"no 43 6 11 10 4\n"),
     (Refusal::Number(NumberRefusal::Exhausted { number: 7 }), b"no 50 7\n"),
     (Refusal::Number(NumberRefusal::Lost { number: 8 }), b"no 51 8\n"),
     (Refusal::Disk(DiskRefusal::Closed { failed_at: 1 }), b"no 42 1\n"),

@@ -9,6 +9,8 @@ use Rattle.budget_core.specs.declared.entry.Ask.{Ask}
 use Rattle.budget_core.specs.declared.entry.Grant.{Grant}
 use Rattle.budget_core.specs.Ledger.{Ledger, start_of, next_number, reservation_numbered, reservation_for, IsAskOf, settlement_for}
 use Rattle.budget_core.proofs.Grants.{grant-number}
+use Rattle.budget_core.proofs.MineLemmas.{stays_within_limits}
+use Rattle.budget_core.proofs.SoundLemmas.{sound-history}
 use Rattle.budget_core.proofs.Histories.{slice_get-append-lt}
 use Rattle.std.proofs.lemmas.Option.{slice_get_within}
 use Rattle.budget_core.specs.Sound.{IsSound}
@@ -19,6 +21,7 @@ use Rattle.budget_ledger.specs.declared.book.AppendFault.TheVariants.{Closed, Di
 use Rattle.budget_ledger.specs.declared.book.BookFault.{BookFault}
 use Rattle.budget_ledger.specs.declared.book.BookFault.TheVariants.{Refused, Unwritten}
 use Rattle.budget_ledger.specs.Booked.{HasGained, HasClosed, IsUnwritten, IsReserved, IsSettlementOf}
+use Rattle.budget_ledger.proofs.Verdicts.{says-granted}
 use Rattle.owner_lock.specs.Known.{Known}
 use Rattle.atomic_table.specs.Seated.{TableId}
 use Rattle.owner_lock.specs.Known.{known_first, joined, whole_share}
@@ -30,7 +33,7 @@ use Rattle.owner_desk.specs.Watched.{Watched, account_at, history_of, is_shut}
 use Rattle.owner_desk.specs.Lawful.{IsLawful, stands}
 use Rattle.owner_desk.specs.Passes.{IsJustOpened, IsSole, Pass, Told, closing, ledger_on, records_told}
 use Rattle.owner_desk.specs.Shared.{IsPassKnown, Shared, opened_in, pass_with, shared_by}
-use Rattle.owner_desk.specs.Answers.{AddsRecord, Fails, Has as HasTold, HasGranted, HasLooked, HasReserved, HasSettled, IsReservedOn, IsSettledOn, IsUnadded, PassStays, verdict_on}
+use Rattle.owner_desk.specs.Answers.{AddsRecord, Fails, Has as HasTold, HasGranted, HasLooked, HasReserved, HasSettled, IsReservedOn, IsSettledOn, IsUnadded, KeepsLimits, PassStays, verdict_on}
 use Rattle.owner_desk.proofs.Lists.{faults_of, records_noted, failure_noted, records_append, records_prefix, failure_prefix, told_append, fault_added, fault_last, faults_noted, faults_behind, faults_all, told_merged, fault_merged, told_ascends, noted_added, noted_failed, length_noted, snoc_last, no_snoc, has_last, has_snoc, has_told, record_noted}
 use Rattle.owner_desk.proofs.Watching.{watched}
 use Rattle.owner_desk.proofs.Settles.{not_unsettled}
@@ -82,7 +85,8 @@ unwritten_goes x y next DiskFault h = inr (inr (breaks_of x y next h))
 pub reserved_goes : (x y : Watched) (ask : Ask) (result : Result Grant BookFault) → IsReserved (account_at x) ask result (account_at y) → (taken : ℕ) × Goes x (reservation_for x.records ask taken) y
 reserved_goes x y ask (Ok grant) h = (grant.taken, inl (gains_of x y (reservation_for x.records ask grant.taken) h.1))
 reserved_goes x y ask (Err (Refused fault)) h = (0, inr (inl (rests_of x y h.1)))
-reserved_goes x y ask (Err (Unwritten fault)) h = (h.0.taken, unwritten_goes x y (reservation_for x.records ask h.0.taken) fault h.2)
+reserved_goes x y ask (Err (Unwritten (Closed failed_at))) h = (0, inr (inl (rests_of x y h.1)))
+reserved_goes x y ask (Err (Unwritten DiskFault)) h = (h.0.taken, inr (inr (breaks_of x y (reservation_for x.records ask h.0.taken) h.2)))
 
 pub settled_goes : (x y : Watched) (number : ℕ) (outcome : Outcome) (result : Result ℕ AppendFault) → IsSettlementOf (account_at x) number outcome result (account_at y) → Goes x (settlement_for x.opened.ledger.entry x.records number outcome) y
 settled_goes x y number outcome (Ok seen) h = inl (gains_of x y (settlement_for x.opened.ledger.entry x.records number outcome) h.0)
@@ -213,23 +217,33 @@ module _ (opened : Account) (v w : Known Noted Account) (x y : Watched) (m : Mee
       (failure, failure_is ∙ (r.closed ∙ closed), at, stays r)
   unwritten next DiskFault h = fails next (breaks_of x y next h)
 
-  same_verdict : IsPassKnown opened v → (g : List Record) (ask : Ask) → verdict_on (pass_with x.opened v) g ask ≡ verdict_on before g ask
-  same_verdict k g ask = ap (λ (o : Account). verdict_on (pass_with o v) g ask) (same_opened opened v x k m)
+  -- the verdict, by whether the book was closed so
+  same_verdict : IsPassKnown opened v → (ask : Ask) (closed : Option Failure) → x.storage.closed ≡ closed
+      → verdict_on before x.records closed ask ≡ verdict_on (pass_with x.opened v) x.records x.storage.closed ask
+  same_verdict k ask closed is = λ i. verdict_on (pass_with (sym (same_opened opened v x k m) i) v) x.records (sym is i) ask
+
+  -- nothing was done, so it is closed as it was
+  closed_as : Rests x y → x.storage.closed ≡ after.failure
+  closed_as r = sym (failure_is ∙ r.closed)
 
   told_on : x ≡ y → PassStays before x.records after
   told_on same = stays (record { records = sym (ap (λ (z : Watched). z.records) same); closed = sym (ap (λ (z : Watched). z.storage.closed) same) })
 
   reserved_on : IsPassKnown opened v → (ask : Ask) (result : Result Grant BookFault) → IsReserved (account_at x) ask result (account_at y) → IsReservedOn before x.records ask result after
-  reserved_on k ask (Ok grant) h = (sym (same_verdict k x.records ask) ∙ h.0, adds (reservation_for x.records ask grant.taken) (gains_of x y (reservation_for x.records ask grant.taken) h.1))
-  reserved_on k ask (Err (Refused fault)) h = (sym (same_verdict k x.records ask) ∙ h.0, stays (rests_of x y h.1))
-  reserved_on k ask (Err (Unwritten fault)) (grant, verdict, h) = (grant, sym (same_verdict k x.records ask) ∙ verdict, unwritten (reservation_for x.records ask grant.taken) fault h)
+  reserved_on k ask (Ok grant) h =
+      (same_verdict k ask None h.1.open_before ∙ h.0, adds (reservation_for x.records ask grant.taken) (gains_of x y (reservation_for x.records ask grant.taken) h.1))
+  reserved_on k ask (Err (Refused fault)) h = let r = rests_of x y h.1 in (same_verdict k ask after.failure (closed_as r) ∙ h.0, stays r)
+  reserved_on k ask (Err (Unwritten (Closed failed_at))) h = let r = rests_of x y h.1 in (same_verdict k ask after.failure (closed_as r) ∙ h.0, stays r)
+  reserved_on k ask (Err (Unwritten DiskFault)) (grant, verdict, h) =
+      let next : Record = reservation_for x.records ask grant.taken in
+      (grant, same_verdict k ask None h.open_before ∙ verdict, fails next (breaks_of x y next h))
 
   -- what was just reserved isn't settled
   granted_on : IsPassKnown opened v → (ask : Ask) (grant : Grant) → IsReserved (account_at x) ask (Ok grant) (account_at y) → HasGranted after grant.number
   granted_on k ask grant h =
       let more = adds (reservation_for x.records ask grant.taken) (gains_of x y (reservation_for x.records ask grant.taken) h.1) in
       let next : Told = (length x.records, reservation_for x.records ask grant.taken) in
-      let number = grant-number x.opened.ledger.entry (start_of (ledger_on x.opened x.records)) x.records ask grant h.0 in
+      let number = grant-number x.opened.ledger.entry (start_of (ledger_on x.opened x.records)) x.records ask grant (says-granted (account_at x) ask grant h.0) in
       record {
         place = length x.records;
         reserved = reservation_numbered (next_number x.records) ask grant.taken;
@@ -281,6 +295,15 @@ module _ (opened : Account) (v w : Known Noted Account) (x y : Watched) (m : Mee
   pub has_granted : IsPassKnown opened v → (ask : Ask) (result : Result Grant BookFault) → IsReserved (account_at x) ask result (account_at y)
       → IfOk result (λ grant. HasGranted (pass_with (opened_in w.fixed) w) grant.number)
   has_granted k ask result h = subst (λ (p : Pass). IfOk result (λ grant. HasGranted p grant.number)) (shown k) (granted_if k ask result h)
+
+  pub has_limits : IsPassKnown opened v → y.opened ≡ x.opened → IsSound (ledger_on y.opened y.records) → KeepsLimits (pass_with (opened_in w.fixed) w)
+  has_limits k same sound = subst KeepsLimits (shown k) keeps
+    where
+      here : ledger_on y.opened y.records ≡ ledger_on opened after.seen
+      here = λ i. ledger_on ((same ∙ same_opened opened v x k m) i) (sym seen_is i)
+
+      keeps : KeepsLimits after
+      keeps analyst limit is = stays_within_limits opened.ledger.entry after.seen analyst limit (sound-history (ledger_on opened after.seen) (subst IsSound here sound)) is
 
   pub has_settled : IsPassKnown opened v → (number : ℕ) (outcome : Outcome) (result : Result ℕ AppendFault) → IsSettlementOf (account_at x) number outcome result (account_at y)
       → HasSettled before number outcome result (pass_with (opened_in w.fixed) w)

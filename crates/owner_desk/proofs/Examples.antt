@@ -9,16 +9,17 @@ use Rattle.partition_charge.specs.declared.view.View.TheVariants.{Whole}
 use Rattle.partition_charge.specs.Cost.{cost_of_charges, partition_cost}
 use Rattle.budget_core.specs.declared.entry.Ask.{Ask}
 use Rattle.budget_core.specs.declared.entry.Grant.{Grant}
-use Rattle.budget_core.specs.declared.entry.ReserveFault.TheVariants.{OverBudget}
-use Rattle.budget_core.specs.Answers.{left_by}
+use Rattle.budget_core.specs.declared.entry.ReserveFault.TheVariants.{OverBudget, OverShare}
+use Rattle.budget_core.specs.Answers.{left_by, mine_by}
 use Rattle.budget_core.specs.Cost.{cost_of, budget_of}
 use Rattle.budget_core.specs.Ledger.{Ledger, reservation_for}
+use Rattle.budget_core.specs.Mine.{spent_by}
 use Rattle.budget_ledger.specs.Account.{Account}
 use Rattle.budget_ledger.specs.declared.failure.Failure.{Failure}
 use Rattle.budget_ledger.specs.declared.book.AppendFault.TheVariants.{Closed, DiskFault}
 use Rattle.budget_ledger.specs.declared.book.BookFault.TheVariants.{Refused, Unwritten}
 use Rattle.owner_desk.specs.Passes.{Pass, Told, IsJustOpened, closing, first_of_run, records_told, told_behind}
-use Rattle.owner_desk.specs.Answers.{Has, HasGranted, HasLooked, HasReserved, HasSettled}
+use Rattle.owner_desk.specs.Answers.{Has, HasGranted, HasLooked, HasReserved, HasSettled, verdict_on}
 
 -- an ask of the whole at sensitivity 1, and its reservation under a number
 abbrev one : Ask
@@ -137,16 +138,17 @@ unfolding cost_of cost_of_charges partition_cost budget_of
 learns = (
   found,
   ([], refl),
-  (grant 1 3, refl, (failed (reserved 1), refl, refl, record { seen = refl; own = refl; faults = refl; closed = λ failure was. absurd (cc was) })),
+  (refl, record { seen = refl; own = refl; faults = refl; closed = λ failure was. absurd (cc was) }),
 )
 
 not_another_count : HasReserved (pass found None [] []) one (Err (Unwritten (Closed 4))) (pass found (Some (failed (reserved 1))) [] []) → ⊥
-not_another_count (g, begins, (given, verdict, (failure, closed, count, stays))) =
-    let same : failed (reserved 1) ≡ failure = cc closed in
-    let four : 4 ≡ 3 = count ∙ ap (λ (f : Failure). f.failed_at) (sym same) in omega (arith, four)
+unfolding cost_of cost_of_charges partition_cost budget_of
+not_another_count (g, begins, (verdict, stays)) =
+    let same : Err (Unwritten (Closed 3)) ≡ Err (Unwritten (Closed 4)) = subst (λ (records : List Record). verdict_on (pass found None [] []) records (Some (failed (reserved 1))) one ≡ Err (Unwritten (Closed 4))) (sym stays.seen) verdict in
+    let four : 3 ≡ 4 = cc same in omega (arith, four)
 
 not_taken_for_ones_own : HasReserved (pass found None [] []) one (Err (Unwritten (Closed 3))) (pass found (Some (failed (reserved 1))) [] (failed (reserved 1) ∷ [])) → ⊥
-not_taken_for_ones_own (g, begins, (given, verdict, (failure, closed, count, stays))) = let no : failed (reserved 1) ∷ [] ≡ [] = stays.faults in cc
+not_taken_for_ones_own (g, begins, (verdict, stays)) = let no : failed (reserved 1) ∷ [] ≡ [] = stays.faults in cc
 
 -- ---- what was reserved may be settled, once, by the pass that reserved it
 
@@ -193,3 +195,41 @@ looks = (others, (reserved 1 ∷ [], refl), refl, record { seen = refl; own = re
 
 not_a_look_back : (IsTold : Ledger → Type 0) → HasLooked (pass others None [] []) IsTold (pass found None [] []) → ⊥
 not_a_look_back IsTold (g, begins, told, stays) = omega (arith, ap length stays.seen, ap length begins.1, length-append others begins.0)
+
+-- ---- an analyst that may spend 12, of which what was found has 6
+
+abbrev with_limit : Pass → Pass
+with_limit p = record p { opened = record p.opened { ledger = record p.opened.ledger { entry = record p.opened.ledger.entry { limits = Some 12 ∷ [] } } } }
+
+within_its_share : HasReserved (with_limit (pass found None [] [])) one (Ok (grant 1 3)) (with_limit (pass others None ((2, reserved 1) ∷ []) []))
+unfolding cost_of cost_of_charges partition_cost budget_of spent_by
+within_its_share = (found, ([], refl), (refl, record { open_before = refl; open_after = refl; seen = refl; own = refl; faults = refl }))
+
+over_its_share : HasReserved (with_limit (pass found None [] [])) one (Err (Refused (OverShare 12 18 12 3))) (with_limit (pass others None [] []))
+unfolding cost_of cost_of_charges partition_cost budget_of spent_by
+over_its_share = (others, (reserved 1 ∷ [], refl), (refl, record { seen = refl; own = refl; faults = refl; closed = λ failure was. was }))
+
+-- A closed book is looked at before a share, and after the budget.
+shut_before_a_share : HasReserved (with_limit (pass found None [] [])) one (Err (Unwritten (Closed 3))) (with_limit (pass others (Some (failed (reserved 1))) [] []))
+unfolding cost_of cost_of_charges partition_cost budget_of
+shut_before_a_share = (others, (reserved 1 ∷ [], refl), (refl, record { seen = refl; own = refl; faults = refl; closed = λ failure was. absurd (cc was) }))
+
+no_share_when_shut : HasReserved (with_limit (pass found None [] [])) one (Err (Refused (OverShare 12 18 12 3))) (with_limit (pass others (Some (failed (reserved 1))) [] [])) → ⊥
+unfolding cost_of cost_of_charges partition_cost budget_of
+no_share_when_shut (g, begins, (verdict, stays)) =
+    let same : Err (Unwritten (Closed 3)) ≡ Err (Refused (OverShare 12 18 12 3)) =
+    subst (λ (records : List Record). verdict_on (with_limit (pass found None [] [])) records (Some (failed (reserved 1))) one ≡ Err (Refused (OverShare 12 18 12 3))) (sym stays.seen) verdict in
+    cc same
+
+budget_before_shut : HasReserved (with_limit (pass found None [] [])) one (Err (Refused (OverBudget 18 24 20 4))) (with_limit (pass full (Some (failed (reserved 1))) [] []))
+unfolding cost_of cost_of_charges partition_cost budget_of
+budget_before_shut = (full, (reserved 1 ∷ reserved 2 ∷ [], refl), (refl, record { seen = refl; own = refl; faults = refl; closed = λ failure was. absurd (cc was) }))
+
+-- what it spent is told by all records that are there, to itself; another has spent nothing, and has no limit
+looks_at_its_own : HasLooked (with_limit (pass found None [] [])) (λ ledger. mine_by ledger.entry ledger.records 0 ≡ record { spent = 12; limit = Some 12; seen = 3 }) (with_limit (pass others None [] []))
+unfolding cost_of_charges partition_cost spent_by
+looks_at_its_own = (others, (reserved 1 ∷ [], refl), refl, record { seen = refl; own = refl; faults = refl; closed = λ failure was. was })
+
+looks_at_anothers : HasLooked (with_limit (pass found None [] [])) (λ ledger. mine_by ledger.entry ledger.records 1 ≡ record { spent = 0; limit = None; seen = 2 }) (with_limit (pass found None [] []))
+unfolding cost_of_charges partition_cost spent_by
+looks_at_anothers = (found, ([], refl), refl, record { seen = refl; own = refl; faults = refl; closed = λ failure was. was })

@@ -36,7 +36,8 @@ unwritten_same old new next DiskFault h = still_same old new h.ledger
 reserved_same : (old new : Account) (ask : Ask) (result : Result Grant BookFault) → IsReserved old ask result new → SameLedger old new
 reserved_same old new ask (Ok grant) h = gained_same old new (reservation_for old.ledger.records ask grant.taken) h.1
 reserved_same old new ask (Err (Refused fault)) h = still_same old new (ap (λ (a : Account). a.ledger) h.1)
-reserved_same old new ask (Err (Unwritten fault)) h = unwritten_same old new (reservation_for old.ledger.records ask h.0.taken) fault h.2
+reserved_same old new ask (Err (Unwritten (Closed failed_at))) h = still_same old new (ap (λ (a : Account). a.ledger) h.1)
+reserved_same old new ask (Err (Unwritten DiskFault)) h = still_same old new h.2.ledger
 
 settled_same : (old new : Account) (number : ℕ) (outcome : Outcome) (result : Result ℕ AppendFault) → IsSettlementOf old number outcome result new → SameLedger old new
 settled_same old new number outcome (Ok seen) h = gained_same old new (settlement_for old.ledger.entry old.ledger.records number outcome) h.0
@@ -60,7 +61,8 @@ module _ (opened old new : Account) (sole : IsSole opened old) where
   untouched_reserved : (ask : Ask) (result : Result Grant BookFault) → IsReserved old ask result new → IsUntouched opened new
   untouched_reserved ask (Ok grant) h = untouched_gained (reservation_for old.ledger.records ask grant.taken) h.1
   untouched_reserved ask (Err (Refused fault)) h = untouched_same h.1
-  untouched_reserved ask (Err (Unwritten fault)) h = untouched_unwritten (reservation_for old.ledger.records ask h.0.taken) fault h.2
+  untouched_reserved ask (Err (Unwritten (Closed failed_at))) h = untouched_same h.1
+  untouched_reserved ask (Err (Unwritten DiskFault)) h = untouched_unwritten (reservation_for old.ledger.records ask h.0.taken) DiskFault h.2
 
   untouched_settled : (number : ℕ) (outcome : Outcome) (result : Result ℕ AppendFault) → IsSettlementOf old number outcome result new → IsUntouched opened new
   untouched_settled number outcome (Ok seen) h = untouched_gained (settlement_for old.ledger.entry old.ledger.records number outcome) h.0

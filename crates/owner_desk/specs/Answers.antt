@@ -1,5 +1,5 @@
 -- What a call answers, made on some records that begin with those that its pass had seen, and what the pass knows afterwards.
-use Rattle.std.specs.Prelude.{◌≡◌, ◌⊎◌, ℕ, List, [], ◌∷◌, ◌++◌, length, Result, Ok, Err, Some, None}
+use Rattle.std.specs.Prelude.{◌≡◌, ◌⊎◌, ℕ, ◌≤◌, List, [], ◌∷◌, ◌++◌, length, Result, Ok, Err, Option, Some, None}
 use mathlib.Core.List.{IsPrefix}
 use Rattle.journal_records.specs.declared.records.Outcome.{Outcome}
 use Rattle.journal_records.specs.declared.records.Reservation.{Reservation}
@@ -8,8 +8,10 @@ use Rattle.journal_records.specs.declared.records.Record.TheVariants.{Reserve}
 use Rattle.journal_records.specs.Records.{settling_back}
 use Rattle.budget_core.specs.declared.entry.Ask.{Ask}
 use Rattle.budget_core.specs.declared.entry.Grant.{Grant}
-use Rattle.budget_core.specs.declared.entry.ReserveFault.{ReserveFault}
-use Rattle.budget_core.specs.Ledger.{Ledger, start_of, money_verdict, reservation_for, settlement_for}
+use Rattle.budget_core.specs.Entries.{limit_of}
+use Rattle.budget_core.specs.Ledger.{Ledger, start_of, reservation_for, settlement_for}
+use Rattle.budget_core.specs.Mine.{spent_by}
+use Rattle.budget_ledger.specs.Booked.{book_verdict}
 use Rattle.budget_ledger.specs.declared.failure.Failure.{Failure}
 use Rattle.budget_ledger.specs.declared.book.AppendFault.{AppendFault}
 use Rattle.budget_ledger.specs.declared.book.AppendFault.TheVariants.{Closed, DiskFault}
@@ -22,9 +24,9 @@ abbrev pub Has : {A : Type 0} → A → List A → Type 0
 Has a [] = ⊥
 Has a (x ∷ xs) = (a ≡ x) ⊎ Has a xs
 
--- the verdict of the budget on an ask, on these records
-abbrev pub verdict_on : Pass → List Record → Ask → Result Grant ReserveFault
-verdict_on pass g asking = money_verdict pass.opened.ledger.entry (start_of pass.opened.ledger) g asking
+-- the verdict on an ask of the book with these records, which is closed so or isn't
+abbrev pub verdict_on : Pass → List Record → Option Failure → Ask → Result Grant BookFault
+verdict_on pass g closed asking = book_verdict pass.opened.ledger.entry (start_of pass.opened.ledger) g closed asking
 
 -- A record was added behind these, to a book that wasn't closed and isn't.
 pub record AddsRecord (before : Pass) (g : List Record) (next : Record) (after : Pass) : Type 0 where
@@ -57,12 +59,16 @@ IsUnadded before g next (Closed failed_at) after =
     (failure : Failure) × (after.failure ≡ Some failure) × (failed_at ≡ failure.failed_at) × PassStays before g after
 IsUnadded before g next DiskFault after = Fails before g next after
 
+-- A refusal is told by whether the book is closed, which the pass knows then.
 abbrev pub IsReservedOn : Pass → List Record → Ask → Result Grant BookFault → Pass → Type 0
 IsReservedOn before g asking (Ok grant) after =
-    (verdict_on before g asking ≡ Ok grant) × AddsRecord before g (reservation_for g asking grant.taken) after
-IsReservedOn before g asking (Err (Refused fault)) after = (verdict_on before g asking ≡ Err fault) × PassStays before g after
-IsReservedOn before g asking (Err (Unwritten fault)) after =
-    (grant : Grant) × (verdict_on before g asking ≡ Ok grant) × IsUnadded before g (reservation_for g asking grant.taken) fault after
+    (verdict_on before g None asking ≡ Ok grant) × AddsRecord before g (reservation_for g asking grant.taken) after
+IsReservedOn before g asking (Err (Refused fault)) after =
+    (verdict_on before g after.failure asking ≡ Err (Refused fault)) × PassStays before g after
+IsReservedOn before g asking (Err (Unwritten (Closed failed_at))) after =
+    (verdict_on before g after.failure asking ≡ Err (Unwritten (Closed failed_at))) × PassStays before g after
+IsReservedOn before g asking (Err (Unwritten DiskFault)) after =
+    (grant : Grant) × (verdict_on before g None asking ≡ Ok grant) × Fails before g (reservation_for g asking grant.taken) after
 
 abbrev pub IsSettledOn : Pass → List Record → (number : ℕ) → Outcome → Result ℕ AppendFault → Pass → Type 0
 IsSettledOn before g number outcome (Ok seen) after = AddsRecord before g (settlement_for before.opened.ledger.entry g number outcome) after
@@ -72,6 +78,11 @@ IsSettledOn before g number outcome (Err fault) after = IsUnadded before g (sett
 -- what came of an ask of the budget
 abbrev pub HasReserved : Pass → Ask → Result Grant BookFault → Pass → Type 0
 HasReserved before asking result after = (g : List Record) × IsPrefix before.seen g × IsReservedOn before g asking result after
+
+-- By all that the pass has seen, each analyst with a limit is within it.
+abbrev pub KeepsLimits : Pass → Type 0
+KeepsLimits pass = (analyst limit : ℕ) → limit_of pass.opened.ledger.entry analyst ≡ Some limit
+    → spent_by pass.opened.ledger.entry pass.seen analyst ≤ limit
 
 -- what came of a settlement
 abbrev pub HasSettled : Pass → (number : ℕ) → Outcome → Result ℕ AppendFault → Pass → Type 0

@@ -1,8 +1,8 @@
 //! An owner's desk: the book behind the lock.
 
-ghost use Rattle.std.specs.Prelude.{◌≡◌, ◌⊎◌, ℕ, ◌≤◌, ◌+◌, ◌-◌, ◌/◌, ◌++◌, [], sum_by, IfErr, IfOk, None, Some};
+ghost use Rattle.std.specs.Prelude.{◌≡◌, ◌⊎◌, ℕ, ◌≤◌, ◌+◌, ◌-◌, ◌/◌, ◌++◌, [], sum_by, IfErr, IfOk, IfSome, None, Some};
 ghost use mathlib.Core.List.{IsPrefix};
-ghost use Rattle.budget_core.specs.Answers.{left_of, recalled};
+ghost use Rattle.budget_core.specs.Answers.{left_of, mine_of, recalled};
 ghost use Rattle.budget_core.specs.Ledger.{IsAskOf, IsUnsettled};
 ghost use Rattle.budget_core.specs.Sound.{IsSound};
 ghost use Rattle.budget_ledger.specs.Account.{IsBook, Went};
@@ -11,14 +11,14 @@ ghost use Rattle.budget_ledger.specs.declared.failure.Failure.{Failure};
 ghost use Rattle.owner_lock.specs.Entries.{Ascends};
 ghost use Rattle.owner_lock.specs.Known.{whole_share};
 ghost use Rattle.owner_desk.specs.Passes.{IsJustOpened, Told, closing, ledger_on, records_told};
-ghost use Rattle.owner_desk.specs.Answers.{HasGranted, HasLooked, HasReserved, HasSettled};
+ghost use Rattle.owner_desk.specs.Answers.{HasGranted, HasLooked, HasReserved, HasSettled, KeepsLimits};
 ghost use Rattle.owner_desk.specs.Watched.{account_at};
 ghost use Rattle.owner_desk.specs.Shared.{IsKept};
 
 use crate::guarded::Guarded;
 use crate::held::{Held, Locked};
 use crate::noted::Noted;
-use budget_core::answers::{Left, Recall};
+use budget_core::answers::{Left, Mine, Recall};
 use budget_core::entry::{Ask, Grant};
 use budget_ledger::book::{AppendFault, Book, BookFault};
 use journal_records::records::Outcome;
@@ -129,6 +129,7 @@ impl<D: Disk> Desk<D> {
         ensures reserved { HasReserved pass.old.knows asking.now result pass.new.knows }
         // What was reserved may be settled by this pass.
         ensures granted { IfOk result (λ grant. HasGranted pass.new.knows grant.number) }
+        ensures limits { KeepsLimits pass.new.knows }
         ensures kept { IsKept pass.old pass.new }
     {
         self.owned.with(
@@ -197,6 +198,25 @@ impl<D: Disk> Desk<D> {
                 ensures told { result ≡ left_of (ledger_on guarded.old.opened guarded.old.records) }
                 ensures same { guarded.new ≡ guarded.old }
             { guarded.left() },
+        )
+    }
+
+    /// What an analyst has spent, and what it may spend at most.
+    pub fn mine<W: Wait>(&self, rt: &W, pass: &mut Pass<D>, analyst: u16) -> Mine
+        requires here { pass.old.lock ≡ self.now }
+        ensures told { HasLooked pass.old.knows (λ ledger. result ≡ mine_of ledger analyst) pass.new.knows }
+        // Nobody has spent more than its limit.
+        ensures limited { IfSome result.limit (λ limit. result.spent ≤ limit) }
+        ensures kept { IsKept pass.old pass.new }
+    {
+        self.owned.with(
+            rt,
+            &mut pass.ticket,
+            move |guarded: &mut Guarded<D>| -> Mine
+                ensures told { result ≡ mine_of (ledger_on guarded.old.opened guarded.old.records) analyst }
+                ensures limited { IfSome result.limit (λ limit. result.spent ≤ limit) }
+                ensures same { guarded.new ≡ guarded.old }
+            { guarded.mine(analyst) },
         )
     }
 }

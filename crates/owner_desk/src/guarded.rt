@@ -1,7 +1,7 @@
 //! A book that goes under the lock.
 
-ghost use Rattle.std.specs.Prelude.{◌≡◌};
-ghost use Rattle.budget_core.specs.Answers.{left_of, recalled};
+ghost use Rattle.std.specs.Prelude.{◌≡◌, ◌≤◌, IfSome};
+ghost use Rattle.budget_core.specs.Answers.{left_of, mine_of, recalled};
 ghost use Rattle.budget_core.specs.Ledger.{IsAskOf, IsUnsettled};
 ghost use Rattle.budget_core.specs.Sound.{IsSound};
 ghost use Rattle.budget_ledger.specs.Account.{IsBook};
@@ -10,7 +10,7 @@ ghost use Rattle.owner_desk.specs.Passes.{IsJustOpened, IsSole, ledger_on};
 ghost use Rattle.owner_desk.specs.Watched.{account_at};
 
 use crate::noted::Noted;
-use budget_core::answers::{Left, Recall};
+use budget_core::answers::{Left, Mine, Recall};
 use budget_core::entry::{Ask, Grant};
 use budget_ledger::book::{AppendFault, Book, BookFault};
 use journal_records::records::Outcome;
@@ -83,6 +83,13 @@ impl<D: Disk> Guarded<D> {
         ensures { result ≡ left_of (ledger_on self.now.opened self.now.records) }
     {
         self.book.left()
+    }
+
+    pub(crate) fn mine(&self, analyst: u16) -> Mine
+        ensures mine { result ≡ mine_of (ledger_on self.now.opened self.now.records) analyst }
+        ensures limited { IfSome result.limit (λ limit. result.spent ≤ limit) }
+    {
+        self.book.mine(analyst)
     }
 }
 

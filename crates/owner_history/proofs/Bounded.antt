@@ -1,5 +1,5 @@
 -- The displacement that records show is at most their cost times how far the datasets are apart, whatever views they name.
-use Rattle.std.proofs.Common.{◌≡◌, ℕ, ◌+◌, ◌*◌, ◌≤◌, List, [], ◌∷◌, Option, Some, None, slice_get, length, map, suc, Bool, true, false, not, cond, ◌==◌, ◌&&◌, refl, sym, subst, arith}
+use Rattle.std.proofs.Common.{◌≡◌, ℕ, ◌+◌, ◌*◌, ◌≤◌, List, [], ◌∷◌, Option, Some, None, slice_get, length, map, suc, Bool, true, false, not, cond, ◌==◌, ◌&&◌, refl, sym, ap, subst, arith}
 use Rattle.std.specs.Prelude.{⊤}
 use Rattle.std.specs.List.{filter}
 use Rattle.journal_records.specs.declared.records.Reservation.{Reservation}
@@ -10,6 +10,7 @@ use Rattle.journal_records.specs.declared.records.Record.{Record}
 use Rattle.budget_core.specs.Cost.{cost_of, charge_of, charge_by, comes_back, counts_in, charges_in}
 use Rattle.budget_core.specs.Entries.{Entry}
 use Rattle.budget_core.specs.Counts.{reservations_of, outcome_of}
+use Rattle.budget_core.specs.Mine.{is_by, charges_by, spent_by}
 use Rattle.metric_values.specs.Distances.{gap}
 use Rattle.metric_values.specs.Tables.{Dataset, IsDataset, apart}
 use Rattle.fz_ast.specs.Signature.{Signature, IsSignature}
@@ -19,8 +20,8 @@ use Rattle.answer_path.specs.PartViews.Views.{signature_in, rows_in}
 use Rattle.answer_path.specs.Program.{IsCharged}
 use Rattle.answer_path.specs.OwnerHouse.Owner.{Owner, HasData}
 use Rattle.owner_history.specs.Explains.{Explains}
-use Rattle.owner_history.specs.Sound.{IsDisplacementBounded}
-use Rattle.owner_history.specs.Shown.{IsDisplacedIf, IsDisplaced, AreDisplaced, IsShown}
+use Rattle.owner_history.specs.Sound.{IsDisplacementBounded, AreSharesBounded}
+use Rattle.owner_history.specs.Shown.{IsDisplacedIf, IsDisplaced, IsDisplacedWhere, AreDisplaced, is_anyones, IsShown, IsShownBy}
 use Rattle.answer_path.proofs.Charged.{charged_have_values}
 use Rattle.owner_history.proofs.Sums.{weighed, weighed-cons}
 use Rattle.owner_history.proofs.Apart.{far, charges-within}
@@ -101,27 +102,58 @@ module _ (tables : Signature) (partitions : List PartitionEntry) (rows other : D
       by true = weighed-cons (far partitions rows other) (charge_by r) (map charge_by (filter counts rs))
       by false = omega arith
 
-  -- all together at most the charges times how far the datasets are apart in their views
-  all_bounded : (entry : Entry) (records : List Record) (programs : List (List ℕ)) (reservations : List Reservation) → AreCharged tables partitions programs reservations
-      → (d : ℕ) × AreDisplaced tables partitions records rows other programs reservations d
-      × (d ≤ weighed (far partitions rows other) (map charge_by (filter (counts_in entry records) reservations)))
-  all_bounded entry records [] [] charged = (0, refl, omega arith)
-  all_bounded entry records [] (r ∷ rs) charged = absurd charged
-  all_bounded entry records (program ∷ programs) [] charged = absurd charged
-  all_bounded entry records (program ∷ programs) (r ∷ rs) charged =
-      let one = counted_bounded entry records program r charged.0 (counts_in entry records r) refl in
-      let more = all_bounded entry records programs rs charged.1 in
-      let sum = weighed_next (counts_in entry records) r rs in
+  weighed_tested : (test counts : Reservation → Bool) (r : Reservation) (rs : List Reservation) → weighed (far partitions rows other) (map charge_by (filter counts (filter test (r ∷ rs))))
+      ≡ cond (test r) (cond (counts r) (charge_of r.e r.p r.q * far partitions rows other r.view) 0) 0 + weighed (far partitions rows other) (map charge_by (filter counts (filter test rs)))
+  weighed_tested test counts r rs = by (test r)
+    where
+      by : (b : Bool) → weighed (far partitions rows other) (map charge_by (filter counts (cond b (r ∷ filter test rs) (filter test rs))))
+          ≡ cond b (cond (counts r) (charge_of r.e r.p r.q * far partitions rows other r.view) 0) 0 + weighed (far partitions rows other) (map charge_by (filter counts (filter test rs)))
+      by true = weighed_next counts r (filter test rs)
+      by false = omega arith
+
+  -- what doesn't pass the test adds nothing
+  tested_bounded : (entry : Entry) (records : List Record) (program : List ℕ) (r : Reservation) → IsChargedFor tables partitions program r → (b : Bool)
+      → (d : ℕ) × IsDisplacedWhere b tables partitions records rows other program r d
+      × (d ≤ cond b (cond (counts_in entry records r) (charge_of r.e r.p r.q * far partitions rows other r.view) 0) 0)
+  tested_bounded entry records program r c true = counted_bounded entry records program r c (counts_in entry records r) refl
+  tested_bounded entry records program r c false = (0, refl, omega arith)
+
+  -- all that pass a test together at most their charges times how far the datasets are apart in their views
+  all_bounded : (test : Reservation → Bool) (entry : Entry) (records : List Record) (programs : List (List ℕ)) (reservations : List Reservation) → AreCharged tables partitions programs reservations
+      → (d : ℕ) × AreDisplaced test tables partitions records rows other programs reservations d
+      × (d ≤ weighed (far partitions rows other) (map charge_by (filter (counts_in entry records) (filter test reservations))))
+  all_bounded test entry records [] [] charged = (0, refl, omega arith)
+  all_bounded test entry records [] (r ∷ rs) charged = absurd charged
+  all_bounded test entry records (program ∷ programs) [] charged = absurd charged
+  all_bounded test entry records (program ∷ programs) (r ∷ rs) charged =
+      let one = tested_bounded entry records program r charged.0 (test r) in
+      let more = all_bounded test entry records programs rs charged.1 in
+      let sum = weighed_tested test (counts_in entry records) r rs in
       (one.0 + more.0, (one.0, more.0, one.1, more.1, refl), omega (arith, one.2, more.2, sum))
+
+anyones : (reservations : List Reservation) → filter is_anyones reservations ≡ reservations
+anyones [] = refl
+anyones (r ∷ rs) = ap (λ (xs : List Reservation). r ∷ xs) (anyones rs)
 
 -- What records show is at most their cost times the distance.
 pub shown_bounded : (entry : Entry) (tables : Signature) (partitions : List PartitionEntry) (records : List Record) (rows other : Dataset) (programs : List (List ℕ)) → ArePair tables partitions rows other
     → AreCharged tables partitions programs (reservations_of records) → (d : ℕ) × IsShown tables partitions programs records rows other d × (d ≤ cost_of entry records * apart rows other)
 unfolding IsShown cost_of
 shown_bounded entry tables partitions records rows other programs pair charged =
-    let all = all_bounded tables partitions rows other pair entry records programs (reservations_of records) charged in
+    let all = all_bounded tables partitions rows other pair is_anyones entry records programs (reservations_of records) charged in
+    let each : weighed (far partitions rows other) (map charge_by (filter (counts_in entry records) (filter is_anyones (reservations_of records)))) ≡ weighed (far partitions rows other) (charges_in entry records)
+    = ap (λ (rs : List Reservation). weighed (far partitions rows other) (map charge_by (filter (counts_in entry records) rs))) (anyones (reservations_of records)) in
     let within = charges-within tables partitions rows other (charges_in entry records) pair.divided pair.first pair.second in
-    (all.0, all.1, omega (arith, all.2, within))
+    (all.0, all.1, omega (arith, all.2, each, within))
+
+-- What they show of an analyst's answers is at most what that analyst has spent times it.
+pub share_bounded : (entry : Entry) (tables : Signature) (partitions : List PartitionEntry) (records : List Record) (rows other : Dataset) (programs : List (List ℕ)) (analyst : ℕ) → ArePair tables partitions rows other
+    → AreCharged tables partitions programs (reservations_of records) → (d : ℕ) × IsShownBy analyst tables partitions programs records rows other d × (d ≤ spent_by entry records analyst * apart rows other)
+unfolding IsShownBy spent_by
+share_bounded entry tables partitions records rows other programs analyst pair charged =
+    let own = all_bounded tables partitions rows other pair (is_by analyst) entry records programs (reservations_of records) charged in
+    let within = charges-within tables partitions rows other (charges_by entry records analyst) pair.divided pair.first pair.second in
+    (own.0, own.1, omega (arith, own.2, within))
 
 charged_from : (tables : Signature) (partitions : List PartitionEntry) (programs : List (List ℕ)) (reservations : List Reservation) → length programs ≡ length reservations
     → ((i : ℕ) (program : List ℕ) (r : Reservation) → slice_get programs i ≡ Some program → slice_get reservations i ≡ Some r → IsChargedFor tables partitions program r)
@@ -132,11 +164,17 @@ charged_from tables partitions (program ∷ programs) [] same each = absurd (ome
 charged_from tables partitions (program ∷ programs) (r ∷ rs) same each =
     (each 0 program r refl refl, charged_from tables partitions programs rs (omega arith) (λ i other s at there. each (suc i) other s at there))
 
--- Whatever programs explain an owner's records, against any second dataset these show at most their cost times the distance.
-pub explained_bounded : (owner : Owner) (draws : ℕ → ℕ → ℕ) (programs : List (List ℕ)) (records : List Record) → HasData owner → Explains owner draws programs records → IsDisplacementBounded owner programs records
-explained_bounded owner draws programs records has ex = λ other others.
-    shown_bounded owner.entry owner.tables owner.partitions records owner.rows other programs (record { well = has.tables; divided = has.partitions; first = has.rows; second = others })
-    (charged_from owner.tables owner.partitions programs (reservations_of records) ex.each_has of)
-  where
-    of : (i : ℕ) (program : List ℕ) (r : Reservation) → slice_get programs i ≡ Some program → slice_get (reservations_of records) i ≡ Some r → IsChargedFor owner.tables owner.partitions program r
-    of i program r at there = (ex.explained i program r at there).charged
+module _ (owner : Owner) (draws : ℕ → ℕ → ℕ) (programs : List (List ℕ)) (records : List Record) (has : HasData owner) (ex : Explains owner draws programs records) where
+  pair_with : (other : Dataset) → IsDataset owner.tables other → ArePair owner.tables owner.partitions owner.rows other
+  pair_with other others = record { well = has.tables; divided = has.partitions; first = has.rows; second = others }
+
+  charged_all : AreCharged owner.tables owner.partitions programs (reservations_of records)
+  charged_all = charged_from owner.tables owner.partitions programs (reservations_of records) ex.each_has (λ i program r at there. (ex.explained i program r at there).charged)
+
+  -- Whatever programs explain an owner's records, against any second dataset these show at most their cost times the distance ..
+  pub explained_bounded : IsDisplacementBounded owner programs records
+  explained_bounded = λ other others. shown_bounded owner.entry owner.tables owner.partitions records owner.rows other programs (pair_with other others) charged_all
+
+  -- .. and an analyst's answers at most what that analyst has spent times it.
+  pub explained_shares : AreSharesBounded owner programs records
+  explained_shares = λ analyst other others. share_bounded owner.entry owner.tables owner.partitions records owner.rows other programs analyst (pair_with other others) charged_all

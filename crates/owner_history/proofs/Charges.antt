@@ -1,5 +1,5 @@
 -- what is known of programs that are charged, and of their values
-use Rattle.std.proofs.Common.{◌≡◌, ℕ, ◌+◌, ◌*◌, ◌-◌, ◌/◌, ◌%◌, ◌<◌, ◌≤◌, List, ◌∙◌, subst, arith}
+use Rattle.std.proofs.Common.{◌≡◌, ℕ, ◌+◌, ◌*◌, ◌-◌, ◌/◌, ◌%◌, ◌<◌, ◌≤◌, List, sym, ◌∙◌, ap, subst, arith}
 use Rattle.std.specs.Prelude.{ℤ}
 use Rattle.std.specs.Int.{IsGcd}
 use Rattle.std.proofs.Math.Nat.{mod-lt, mod-eq-sub-div-mul, mul-le-mul, le_of_mul-le-mul_left}
@@ -10,14 +10,16 @@ use Rattle.fz_frac.specs.Lowest.{lowest, gcd}
 use Rattle.fz_frac.proofs.Laws.{den_pos, den_of}
 use Rattle.fz_frac.proofs.Lowest.{gcd_is, pos_of_IsGcd, pos_low, coprime}
 use Rattle.fz_ast.specs.Signature.{Signature, IsSignature}
+use Rattle.fz_ast.specs.Terms.{Term}
 use Rattle.metric_values.specs.Distances.{gap}
 use Rattle.metric_values.specs.Tables.{Dataset, IsDataset, apart}
 use Rattle.answer_path.specs.OwnerCatalog.Entries.{PartitionEntry}
 use Rattle.answer_path.specs.PartViews.Partitions.{ArePartitions}
 use Rattle.answer_path.specs.PartViews.Views.{signature_in, rows_in}
-use Rattle.answer_path.specs.Judgement.{HasValue}
+use Rattle.answer_path.specs.Judgement.{accepted, judgement_of, HasValue}
+use Rattle.answer_path.specs.Reading.{read}
 use Rattle.answer_path.specs.Program.{IsCharged}
-use Rattle.answer_path.proofs.Programs.{accepted_is}
+use Rattle.answer_path.proofs.Programs.{accepted_is, same_term}
 use Rattle.answer_path.proofs.Charged.{charged_are_bounded}
 
 lowest_halves : (s : Distance) (p q : ℕ) → Fin p q ≡ lowest s → (0 < q) × (gcd p q ≡ 1)
@@ -37,6 +39,15 @@ charged_lowest tables program p q c =
     let i = accepted_is tables c.0 c.0 (Fin p q) c.2 in
     let h = lowest_halves i.1 p q i.4 in
     (omega (arith, h.0), subst (λ (g : ℕ). IsGcd p q g) h.1 (gcd_is p q))
+
+-- A program is charged one sensitivity.
+pub one_charge : (tables : Signature) (program : List ℕ) (p q r s : ℕ) → IsCharged tables program p q → IsCharged tables program r s → ◌≡◌ {A = ℕ × ℕ} (p, q) (r, s)
+one_charge tables program p q r s c d =
+    let same : c.0 ≡ d.0 = same_term program c.0 d.0 c.1 d.1 in
+    let both : accepted c.0 (Fin p q) ≡ accepted d.0 (Fin r s) = sym c.2 ∙ ap (λ (e : Term). judgement_of tables (read e)) same ∙ d.2 in
+    let over : p ≡ r = cc (both) in
+    let under : q ≡ s = cc (both) in
+    λ i. (over i, under i)
 
 moves : (p q g n : ℕ) → 0 < q → Fin g 1 ⊑ mul (Fin p q) (Fin n 1) → g * q ≤ p * n
 moves p q g n above h =

@@ -9,9 +9,11 @@ pub mod Grants
 pub mod Steps
 pub mod Recalls
 pub mod Sound
+pub mod Shares
 pub mod Examples
 mod ExamplesOfRecords
 mod ExamplesOfParts
+mod ExamplesOfLimits
 -- passed on to the crates above
 pub mod AnswerPath
 pub use Rattle.answer_path.proofs.OwnerDesk

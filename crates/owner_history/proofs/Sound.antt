@@ -5,15 +5,21 @@ use Rattle.std.proofs.Math.Seq.{take-length}
 use Rattle.journal_records.specs.declared.records.Record.{Record}
 use Rattle.budget_core.specs.Cost.{cost_of, budget_of}
 use Rattle.budget_core.specs.Entries.{Entry}
-use Rattle.budget_core.specs.Legal.{IsLegal}
+use Rattle.budget_core.specs.Legal.{IsHistory, IsLegal}
 use Rattle.budget_core.proofs.LegalLemmas.{legal-cost}
+use Rattle.budget_core.proofs.MineLemmas.{stays_within_limits}
 use Rattle.answer_path.specs.OwnerHouse.Owner.{Owner, HasData}
 use Rattle.owner_history.specs.Sound.{IsBacked, IsFound, IsOwed, MayBeFound}
-use Rattle.owner_history.proofs.Bounded.{explained_bounded}
+use Rattle.owner_history.specs.Limits.{AreWithinLimits}
+use Rattle.owner_history.proofs.Bounded.{explained_bounded, explained_shares}
 use Rattle.owner_history.proofs.Steps.{IsLawful, IsWell}
 
 beyond : {X : Type 0} (xs : List X) (k : ℕ) (x : X) → length xs ≤ k → slice_get xs k ≡ Some x → ⊥
 beyond xs k x past at = let within = slice_get_within xs k x at in omega arith
+
+-- In a history each analyst is within its limit.
+pub history_limited : (entry : Entry) (records : List Record) → IsHistory entry records → AreWithinLimits entry records
+history_limited entry records h = λ analyst limit is. stays_within_limits entry records analyst limit h is
 
 -- Records are legal after themselves.
 pub legal_self : (entry : Entry) (found : List Record) → IsLegal entry found found
@@ -29,7 +35,8 @@ pub lawful_found : (owner : Owner) (draws : ℕ → ℕ → ℕ) (found : List R
 lawful_found owner draws found f = record { history = f.history; legal = legal_self owner.entry found; later = omega arith }
 
 pub lawful_owed : (owner : Owner) (draws : ℕ → ℕ → ℕ) (found records : List Record) → cost_of owner.entry found ≤ budget_of owner.entry found → IsLawful owner draws found records → IsOwed owner found records
-lawful_owed owner draws found records within w = record { legal = w.legal; within = legal-cost owner.entry found records within w.legal }
+lawful_owed owner draws found records within w =
+    record { legal = w.legal; within = legal-cost owner.entry found records within w.legal; limited = history_limited owner.entry records w.history }
 
 -- what programs explain may be found
 pub found_may : (owner : Owner) (draws : ℕ → ℕ → ℕ) (found : List Record) (programs : List (List ℕ)) → IsFound owner draws programs found → MayBeFound owner found
@@ -43,6 +50,8 @@ pub well_backed : (owner : Owner) (draws : ℕ → ℕ → ℕ) (found : List Re
 well_backed owner draws found programs records has within w = record {
   legal = w.lawful.legal;
   within = legal-cost owner.entry found records within w.lawful.legal;
+  limited = history_limited owner.entry records w.lawful.history;
   explained = w.explained;
   bounded = explained_bounded owner draws programs records has w.explained;
+  shares = explained_shares owner draws programs records has w.explained;
 }

@@ -5,7 +5,7 @@ use Rattle.journal_records.specs.declared.records.Outcome.TheVariants.{Answered,
 use Rattle.journal_records.specs.declared.records.Reservation.{Reservation}
 use Rattle.journal_records.specs.declared.records.Record.{Record}
 use Rattle.budget_core.specs.Counts.{reservation_of, outcome_of}
-use Rattle.wire_lines.specs.Reply.{Replied, greeted, answered, recalled, remaining, ended, refused}
+use Rattle.wire_lines.specs.Reply.{Replied, greeted, answered, recalled, remaining, spending, ended, refused}
 use Rattle.wire_lines.specs.Refusal.{by_line, by_program, by_money, by_disk, by_number, no_memory}
 use Rattle.wire_lines.specs.declared.refusal.NumberRefusal.TheVariants.{Exhausted as NoNoise, Lost as NoAnswer, Unknown, NotYours}
 use Rattle.answer_path.specs.Query.{Query}
@@ -35,6 +35,7 @@ told_settlement (refused (by_disk refusal)) = None
 told_settlement (refused no_memory) = None
 told_settlement (recalled n standing seen) = None
 told_settlement (remaining spent budget seen) = None
+told_settlement (spending spent limit seen) = None
 told_settlement (greeted name) = None
 told_settlement ended = None
 
@@ -59,6 +60,7 @@ recall_in (recalled n (Some Lost) seen) = None
 recall_in (recalled n None seen) = None
 recall_in (answered n value taken) = None
 recall_in (remaining spent budget seen) = None
+recall_in (spending spent limit seen) = None
 recall_in (refused refusal) = None
 recall_in (greeted name) = None
 recall_in ended = None

@@ -1,5 +1,6 @@
 pub mod Explains
 pub mod Shown
+pub mod Limits
 pub mod Sound
 pub mod Granted
 -- passed on to the crates above

@@ -1,10 +1,11 @@
 -- How far all answers together would be displaced on another dataset.
-use Rattle.std.specs.Prelude.{◌≡◌, ℕ, ◌+◌, ◌*◌, ℤ, List, [], ◌∷◌, Option, Some, None}
+use Rattle.std.specs.Prelude.{◌≡◌, ℕ, ◌+◌, ◌*◌, ℤ, Bool, true, false, List, [], ◌∷◌, Option, Some, None}
 use Rattle.journal_records.specs.declared.records.Outcome.{Outcome}
 use Rattle.journal_records.specs.declared.records.Outcome.TheVariants.{Answered, Exhausted, Lost}
 use Rattle.journal_records.specs.declared.records.Record.{Record}
 use Rattle.journal_records.specs.declared.records.Reservation.{Reservation}
 use Rattle.budget_core.specs.Counts.{reservations_of, outcome_of}
+use Rattle.budget_core.specs.Mine.{is_by}
 use Rattle.fz_ast.specs.Signature.{Signature}
 use Rattle.metric_values.specs.Distances.{gap}
 use Rattle.metric_values.specs.Tables.{Dataset}
@@ -27,18 +28,33 @@ IsDisplaced tables partitions records rows other program reserved d =
     IsDisplacedIf (signature_in tables partitions reserved.view) (rows_in partitions reserved.view rows)
     (rows_in partitions reserved.view other) reserved.e program (outcome_of records reserved.number) d
 
--- added up over reservations and their programs
+-- A reservation that passes a test is displaced so; one that doesn't adds nothing.
+abbrev pub IsDisplacedWhere :
+    (passes : Bool) → Signature → List PartitionEntry → List Record → (rows other : Dataset) → List ℕ → Reservation → ℕ → Type 0
+IsDisplacedWhere true tables partitions records rows other program reserved d = IsDisplaced tables partitions records rows other program reserved d
+IsDisplacedWhere false tables partitions records rows other program reserved d = d ≡ 0
+
+-- added up over those reservations that pass the test, and their programs
 abbrev pub AreDisplaced :
-    Signature → List PartitionEntry → List Record → (rows other : Dataset) → List (List ℕ) → List Reservation → ℕ → Type 0
-AreDisplaced tables partitions records rows other [] [] d = d ≡ 0
-AreDisplaced tables partitions records rows other (program ∷ programs) (reservation ∷ reservations) d =
-    (m n : ℕ) × IsDisplaced tables partitions records rows other program reservation m
-    × AreDisplaced tables partitions records rows other programs reservations n × (d ≡ m + n)
-AreDisplaced tables partitions records rows other [] (reservation ∷ reservations) d = ⊥
-AreDisplaced tables partitions records rows other (program ∷ programs) [] d = ⊥
+    (test : Reservation → Bool) → Signature → List PartitionEntry → List Record → (rows other : Dataset) → List (List ℕ) → List Reservation → ℕ → Type 0
+AreDisplaced test tables partitions records rows other [] [] d = d ≡ 0
+AreDisplaced test tables partitions records rows other (program ∷ programs) (reservation ∷ reservations) d =
+    (m n : ℕ) × IsDisplacedWhere (test reservation) tables partitions records rows other program reservation m
+    × AreDisplaced test tables partitions records rows other programs reservations n × (d ≡ m + n)
+AreDisplaced test tables partitions records rows other [] (reservation ∷ reservations) d = ⊥
+AreDisplaced test tables partitions records rows other (program ∷ programs) [] d = ⊥
+
+-- anyone's reservation
+abbrev pub is_anyones : Reservation → Bool
+is_anyones reservation = true
 
 -- The displacement that these records show between two datasets of tables so partitioned, in millionths; there is none where
 -- a program that was answered has no value on one of them.
 unfoldable pub IsShown : Signature → List PartitionEntry → List (List ℕ) → List Record → (rows other : Dataset) → ℕ → Type 0
 IsShown tables partitions programs records rows other d =
-    AreDisplaced tables partitions records rows other programs (reservations_of records) d
+    AreDisplaced is_anyones tables partitions records rows other programs (reservations_of records) d
+
+-- what they show of this analyst's reservations alone
+unfoldable pub IsShownBy : (analyst : ℕ) → Signature → List PartitionEntry → List (List ℕ) → List Record → (rows other : Dataset) → ℕ → Type 0
+IsShownBy analyst tables partitions programs records rows other d =
+    AreDisplaced (is_by analyst) tables partitions records rows other programs (reservations_of records) d

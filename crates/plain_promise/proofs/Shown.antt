@@ -16,22 +16,23 @@ use Rattle.budget_core.specs.declared.entry.Grant.{Grant}
 use Rattle.budget_core.specs.Answers.{recalled_by, recalled_from, standing}
 use Rattle.budget_core.specs.Cost.{cost_of, budget_of}
 use Rattle.budget_core.specs.Counts.{asker_of, outcome_of}
-use Rattle.budget_core.specs.Entries.{Entry}
+use Rattle.budget_core.specs.Entries.{Entry, limit_of}
+use Rattle.budget_core.specs.Mine.{spent_by}
 use Rattle.budget_core.specs.Ledger.{reservation_numbered, returned_by, settlement_for}
 use Rattle.budget_core.specs.Legal.{IsHistory, IsReservationAfter}
 use Rattle.budget_core.proofs.Numbers.{outcome_of-append-new}
 use Rattle.wire_lines.specs.Refusal.{by_disk, by_line, by_money, by_number, by_program, no_memory}
-use Rattle.wire_lines.specs.Reply.{Replied, answered, ended, greeted, recalled, refused, remaining}
+use Rattle.wire_lines.specs.Reply.{Replied, answered, ended, greeted, recalled, refused, remaining, spending}
 use Rattle.wire_lines.specs.declared.refusal.MoneyRefusal.{MoneyRefusal}
-use Rattle.wire_lines.specs.declared.refusal.MoneyRefusal.TheVariants.{OverBudget as NoBudget, JournalFull}
+use Rattle.wire_lines.specs.declared.refusal.MoneyRefusal.TheVariants.{OverBudget as NoBudget, JournalFull, OverShare as NoShare}
 use Rattle.wire_lines.specs.declared.refusal.NumberRefusal.TheVariants.{Exhausted as NoNoise, Lost as NoAnswer, Unknown as NoNumber, NotYours as AnotherAnalysts}
 use Rattle.owner_desk.specs.Passes.{Told}
 use Rattle.owner_house.specs.Owner.{Owner, signature_of_view}
 use Rattle.successive_runs.specs.AnswerPath.Answered.{outcome_reply, granted_record, IsAskedBy, IsAsked}
-use Rattle.successive_runs.specs.AnswerPath.Demand.{Demand, asks, recalls, balances}
+use Rattle.successive_runs.specs.AnswerPath.Demand.{Demand, asks, recalls, balances, spends}
 use Rattle.successive_runs.specs.AnswerPath.Met.{IsMet}
 use Rattle.successive_runs.specs.AnswerPath.Query.{Query}
-use Rattle.successive_runs.specs.AnswerPath.Standing.{IsBalance, IsRecalled, recall_reply}
+use Rattle.successive_runs.specs.AnswerPath.Standing.{IsBalance, IsRecalled, IsSpending, recall_reply}
 use Rattle.successive_runs.specs.AnswerPath.Verdict.{Verdict, program_refused, money_refused, granted, IsVerdict}
 use Rattle.successive_runs.specs.OwnerHistory.Granted.{told_settlement}
 use Rattle.successive_runs.proofs.OwnerHistory.Prefixes.{outcome_prefix, prefix_self, prefix_by, prefix_trans}
@@ -52,11 +53,13 @@ one_length entry R (greeted name) k m h a b = absurd a
 one_length entry R (answered n v taken) k m h a b = reserved_once entry R n k m h a b
 one_length entry R (recalled n held seen) k m h a b = a ∙ sym b
 one_length entry R (remaining spent budget seen) k m h a b = a ∙ sym b
+one_length entry R (spending spent limit seen) k m h a b = a ∙ sym b
 one_length entry R ended k m h a b = absurd a
 one_length entry R (refused (by_line refusal)) k m h a b = absurd a
 one_length entry R (refused (by_program refusal)) k m h a b = absurd a
 one_length entry R (refused (by_money (NoBudget spent after budget seen))) k m h a b = a ∙ sym b
 one_length entry R (refused (by_money (JournalFull used unsettled capacity))) k m h a b = a ∙ sym b
+one_length entry R (refused (by_money (NoShare spent after limit seen))) k m h a b = a ∙ sym b
 one_length entry R (refused (by_disk refusal)) k m h a b = absurd a
 one_length entry R (refused (by_number (NoNoise n))) k m h a b = reserved_once entry R n k m h a b
 one_length entry R (refused (by_number (NoAnswer n))) k m h a b = reserved_once entry R n k m h a b
@@ -69,10 +72,12 @@ one_length entry R (refused no_memory) k m h a b = absurd a
 pub money_shows : (R : List Record) (refusal : MoneyRefusal) (k : ℕ) → k ≡ seen_by refusal → Shows R (refused (by_money refusal)) k
 money_shows R (NoBudget spent after budget seen) k is = is
 money_shows R (JournalFull used unsettled capacity) k is = is
+money_shows R (NoShare spent after limit seen) k is = is
 
 pub money_shown : (R : List Record) (refusal : MoneyRefusal) (k : ℕ) → Shows R (refused (by_money refusal)) k → k ≡ seen_by refusal
 money_shown R (NoBudget spent after budget seen) k is = is
 money_shown R (JournalFull used unsettled capacity) k is = is
+money_shown R (NoShare spent after limit seen) k is = is
 
 outcome_shows : (R : List Record) (k : ℕ) (grant : Grant) (outcome : Outcome) → IsReservedAt R grant.number k → Shows R (outcome_reply grant outcome) k
 outcome_shows R k grant (Answered value) at = at
@@ -99,6 +104,7 @@ number_shows R (refused (by_number (AnotherAnalysts m seen))) n k outcome said a
 number_shows R (greeted name) n k outcome said at = absurd (cc (said))
 number_shows R (recalled m held seen) n k outcome said at = absurd (cc (said))
 number_shows R (remaining spent budget seen) n k outcome said at = absurd (cc (said))
+number_shows R (spending spent limit seen) n k outcome said at = absurd (cc (said))
 number_shows R ended n k outcome said at = absurd (cc (said))
 number_shows R (refused (by_line refusal)) n k outcome said at = absurd (cc (said))
 number_shows R (refused (by_program refusal)) n k outcome said at = absurd (cc (said))
@@ -166,13 +172,14 @@ module _ (owner : Owner) (draws : ℕ → ℕ → ℕ) (start : ℕ) where
     where
       of : (v : Verdict) → IsVerdict owner.entry (signature_of_view owner query.view) start g query v → IsAskedBy owner draws query v g reply told after → IsShownOn reply seen after
       of (program_refused refusal) v by = absurd (subst (λ (w : Replied). Shows R w k) by.0 some)
-      of (money_refused refusal) v by =
+      of (money_refused refusal) v (said, inl says, by) =
           record {
             g = g;
             on = on;
             ends = subst (λ (w : List Record). IsPrefix g w) (sym by.2) (prefix_self g);
-            shows = λ T e. subst (λ (w : Replied). Shows T w (length g)) (sym by.0) (money_shows T refusal (length g) (says_seen owner draws start query g refusal v));
+            shows = λ T e. subst (λ (w : Replied). Shows T w (length g)) (sym (by.0 ∙ ap refused says)) (money_shows T refusal (length g) (says_seen owner draws start query g refusal v));
           }
+      of (money_refused refusal) v (said, inr (failed_at, above, says), by) = absurd (subst (λ (w : Replied). Shows R w k) (by.0 ∙ ap refused says) some)
       of (granted asking grant) v (inl two) =
           let end : List Record = settlement_for owner.entry two.u grant.number two.outcome ∷ [] in
           let whole : IsPrefix (g ++ granted_record asking grant ∷ []) after
@@ -208,11 +215,21 @@ module _ (owner : Owner) (draws : ℕ → ℕ → ℕ) (start : ℕ) where
     shows = λ T e. subst (λ (w : Replied). Shows T w (length g)) (sym is) refl;
   }
 
+  spending_on : (analyst : ℕ) (reply : Replied) (seen : List Record) (after : List Record) → IsSpending owner.entry analyst seen reply after → IsShownOn reply seen after
+  unfolding IsSpending
+  spending_on analyst reply seen after (g, on, is, same) = record {
+    g = g;
+    on = on;
+    ends = subst (λ (w : List Record). IsPrefix g w) (sym same) (prefix_self g);
+    shows = λ T e. subst (λ (w : Replied). Shows T w (length g)) (sym is) refl;
+  }
+
   pub shown_on : (demand : Demand) (reply : Replied) (seen : List Record) (told : List Told) (after R : List Record) (k : ℕ) → Shows R reply k → IsMet owner draws start demand seen reply told after → IsShownOn reply seen after
   unfolding IsMet
   shown_on (asks query) reply seen told after R k some met = asked_on query reply seen told after R k some met
   shown_on (recalls analyst number) reply seen told after R k some met = recalled_on analyst number reply seen after met.0
   shown_on balances reply seen told after R k some met = balanced_on reply seen after met.0
+  shown_on (spends analyst) reply seen told after R k some met = spending_on analyst reply seen after met.0
 
   -- a recall says what stands on the records after it
   pub recall_said : (analyst number : ℕ) (reply : Replied) (seen : List Record) (told : List Told) (after : List Record) → IsMet owner draws start (recalls analyst number) seen reply told after
@@ -230,6 +247,13 @@ module _ (owner : Owner) (draws : ℕ → ℕ → ℕ) (start : ℕ) where
   unfolding IsMet IsBalance
   balance_said reply seen told after ((g, on, is, same), none) =
       subst (λ (w : List Record). reply ≡ remaining (cost_of owner.entry w) (budget_of owner.entry w) (length w)) (sym same) is
+
+  -- and what an analyst is told of its own spending
+  pub spending_said : (analyst : ℕ) (reply : Replied) (seen : List Record) (told : List Told) (after : List Record) → IsMet owner draws start (spends analyst) seen reply told after
+      → reply ≡ spending (spent_by owner.entry after analyst) (limit_of owner.entry analyst) (length after)
+  unfolding IsMet IsSpending
+  spending_said analyst reply seen told after ((g, on, is, same), none) =
+      subst (λ (w : List Record). reply ≡ spending (spent_by owner.entry w analyst) (limit_of owner.entry analyst) (length w)) (sym same) is
 
   -- ---- what a grant leaves
 
@@ -265,7 +289,8 @@ module _ (owner : Owner) (draws : ℕ → ℕ → ℕ) (start : ℕ) where
     where
       of : (v : Verdict) → IsAskedBy owner draws query v g reply told after → IsGrantedOn n reply seen after
       of (program_refused refusal) by = absurd (let both : None ≡ Some (n, outcome) = sym (ap told_settlement by.0) ∙ said in cc (both))
-      of (money_refused refusal) by = absurd (let both : None ≡ Some (n, outcome) = sym (ap told_settlement by.0) ∙ said in cc (both))
+      of (money_refused refusal) (word, inl says, by) = absurd (let both : None ≡ Some (n, outcome) = sym (ap told_settlement (by.0 ∙ ap refused says)) ∙ said in cc (both))
+      of (money_refused refusal) (word, inr (failed_at, above, says), by) = absurd (let both : None ≡ Some (n, outcome) = sym (ap told_settlement (by.0 ∙ ap refused says)) ∙ said in cc (both))
       of (granted asking grant) (inr (refusal, is, rest)) = absurd (let both : None ≡ Some (n, outcome) = sym (ap told_settlement is) ∙ said in cc (both))
       of (granted asking grant) (inl two) =
           let both : Some (grant.number, two.outcome) ≡ Some (n, outcome) = sym (outcome_said grant two.outcome) ∙ sym (ap told_settlement two.reply_is) ∙ said in

@@ -121,9 +121,9 @@ stays told = record { still = λ failure is. is; adds_nothing = λ failure is. a
 answered_shuts : (draws : ℕ → ℕ → ℕ) (outcome : Outcome) (told : List Told)
     → ShutsFor draws clinic (asks a_query) unshut (record { turn = turn (Some 0) ask_line; reply = outcome_reply a_grant outcome; told = told }) unshut
 unfolding ShutsBy
-answered_shuts draws (Answered value) told = (stays told, refl)
-answered_shuts draws Exhausted told = (stays told, refl)
-answered_shuts draws Lost told = (stays told, refl)
+answered_shuts draws (Answered value) told = ((stays told, refl), tt)
+answered_shuts draws Exhausted told = ((stays told, refl), tt)
+answered_shuts draws Lost told = ((stays told, refl), tt)
 
 first_goes : (draws : ℕ → ℕ → ℕ → ℕ) → GoesOn house draws 0 (first_lines (outcome_at draws)) (fresh_pass opened) (answering (outcome_at draws))
 unfolding meant_by request_of

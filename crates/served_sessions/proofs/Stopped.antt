@@ -25,6 +25,7 @@ use Rattle.successive_runs.specs.Life.{Run, IsRun, all_sent}
 use Rattle.successive_runs.specs.Run.{WentOn}
 use Rattle.successive_runs.proofs.Files.{leaves_weaker, lines_are_runs}
 use Rattle.successive_runs.proofs.Numbered.{answer_stands}
+use Rattle.successive_runs.proofs.OwnerHistory.Sound.{history_limited}
 use Rattle.successive_runs.proofs.Ran.{IsGoneOn, gone_on}
 use Rattle.successive_runs.proofs.Sent.{borne_left}
 use Rattle.served_sessions.specs.Stopped.{HoldsAllTold}
@@ -47,6 +48,7 @@ module _ (house : House) (draws : ℕ → ℕ → ℕ → ℕ) (count : ℕ) (cr
     stands = stands;
     goes_on = g.goes_on;
     explained = g.explained;
+    limited = history_limited owner.entry left g.explained.history;
     borne_out = λ place x demand there meant. borne_left house draws o owner found earlier (run_with all_sent left) at inside f r g place x demand refl there meant;
     answers = λ place x query n taken value there meant is.
         let borne : IsBorneOutTo g.programs left (asks query) (answered n value taken)

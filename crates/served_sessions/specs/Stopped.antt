@@ -9,6 +9,7 @@ use Rattle.owner_house.specs.Owner.{Owner}
 use Rattle.owner_house.specs.House.{House}
 use Rattle.successive_runs.specs.AnswerPath.Demand.{Demand, asks}
 use Rattle.successive_runs.specs.AnswerPath.Query.{Query}
+use Rattle.successive_runs.specs.OwnerHistory.Limits.{AreWithinLimits}
 use Rattle.successive_runs.specs.OwnerHistory.Sound.{IsFound}
 use Rattle.successive_runs.specs.SessionCore.Exchanges.{Exchange}
 use Rattle.successive_runs.specs.SessionCore.Meant.{wants}
@@ -16,8 +17,8 @@ use Rattle.successive_runs.specs.SessionCore.Served.{IsBorneOutTo}
 use Rattle.successive_runs.specs.SessionCore.Turns.{meant_at}
 use Rattle.successive_runs.specs.Kept.{StandsAnswered}
 
--- The file stands for records of the owner's that programs explain which begin with the earlier ones. They bear out the replies to all these
--- lines, and each answer to a query stands in them, settled with this value.
+-- The file stands for records of the owner's that programs explain which begin with the earlier ones, with each analyst within its limit. They
+-- bear out the replies to all these lines, and each answer to a query stands in them, settled with this value.
 pub record HoldsAllTold (house : House) (draws : ℕ → ℕ → ℕ) (o : ℕ) (owner : Owner) (header : Header) (earlier : List (List ℕ))
     (xs : List Exchange) (file : List ℕ) : Type 0 where
   pub records : List Record
@@ -25,6 +26,7 @@ pub record HoldsAllTold (house : House) (draws : ℕ → ℕ → ℕ) (o : ℕ) 
   pub stands : Stands header records file
   pub goes_on : IsPrefix earlier programs
   pub explained : IsFound owner draws programs records
+  pub limited : AreWithinLimits owner.entry records
   pub borne_out : (place : ℕ) (x : Exchange) (demand : Demand) → slice_get xs place ≡ Some x → meant_at house x.turn ≡ wants o owner demand
       → IsBorneOutTo programs records demand x.reply
   pub answers : (place : ℕ) (x : Exchange) (query : Query) (n taken : ℕ) (value : ℤ) → slice_get xs place ≡ Some x

@@ -14,27 +14,28 @@ use Rattle.budget_core.specs.declared.answers.Recall.{Recall}
 use Rattle.budget_core.specs.declared.answers.Recall.TheVariants.{Unknown, NotYours, Answer, Open, Lost as IsLost, Exhausted as IsExhausted}
 use Rattle.budget_core.specs.Entries.{Entry}
 use Rattle.budget_core.specs.Ledger.{money_verdict, settlement_for}
-use Rattle.budget_core.specs.Answers.{recalled_from, left_by}
+use Rattle.budget_core.specs.Answers.{recalled_from, left_by, mine_by}
 use Rattle.fz_frac.specs.Distance.{Fin, Inf}
 use Rattle.fz_ast.specs.Signature.{Signature}
 use Rattle.budget_ledger.specs.declared.failure.Failure.{Failure}
 use Rattle.wire_lines.specs.Reply.{Replied, refused}
-use Rattle.wire_lines.specs.Refusal.{by_program, by_money, no_memory}
+use Rattle.wire_lines.specs.Refusal.{Refusal, by_program, by_money, no_memory}
+use Rattle.wire_lines.specs.declared.refusal.MoneyRefusal.{MoneyRefusal}
 use Rattle.owner_history.specs.OwnerCatalog.Entries.{PartitionEntry}
 use Rattle.owner_history.specs.PartViews.Holding.{Holding}
 use Rattle.owner_history.specs.PartViews.Views.{signature_in}
 use Rattle.owner_history.specs.OwnerHouse.Owner.{IsOwnerOf, Owner, signature_of_view, rows_of_view, HasData}
 use Rattle.owner_history.specs.OwnerDesk.Passes.{Told, closing, records_told}
 use Rattle.owner_history.specs.AnswerPath.Query.{Query}
-use Rattle.owner_history.specs.AnswerPath.Demand.{Demand, asks, recalls, balances}
+use Rattle.owner_history.specs.AnswerPath.Demand.{Demand, asks, recalls, balances, spends}
 use Rattle.owner_history.specs.AnswerPath.Reading.{Reading, IsReading}
 use Rattle.owner_history.specs.AnswerPath.Code.{AsksTooManyWalks}
 use Rattle.owner_history.specs.AnswerPath.Judgement.{HasTooManyWalks, Judgement, refused_for, accepted, judgement_of}
 use Rattle.owner_history.specs.AnswerPath.Program.{IsCharged}
 use Rattle.owner_history.specs.AnswerPath.Noise.{noise_at}
 use Rattle.owner_history.specs.AnswerPath.Verdict.{Verdict, program_refused, money_refused, granted, money_refusal, ask_for, verdict_by_money, IsVerdictBy, IsVerdict}
-use Rattle.owner_history.specs.AnswerPath.Answered.{outcome_reply, granted_record, grant_records, HasWorthIn, IsSettledAt, IsSettledBy, IsUnrecorded, IsAnsweredBy, IsAnswered, IsAskedBy, IsAsked}
-use Rattle.owner_history.specs.AnswerPath.Standing.{IsRecalled, IsBalance, recall_reply, left_reply}
+use Rattle.owner_history.specs.AnswerPath.Answered.{outcome_reply, granted_record, grant_records, HasWorthIn, IsSettledAt, IsSettledBy, IsUnrecorded, IsSaidFor, IsAnsweredBy, IsAnswered, IsAskedBy, IsAsked}
+use Rattle.owner_history.specs.AnswerPath.Standing.{IsRecalled, IsBalance, IsSpending, recall_reply, left_reply, mine_reply}
 use Rattle.owner_history.specs.AnswerPath.Met.{IsMet, IsMetExactly}
 use Rattle.owner_history.specs.AnswerPath.Laws.{OnePassCloses}
 use Rattle.owner_history.specs.AnswerPath.Shut.{Shut, StaysShut, disk_word, IsPendingOf, FailsBy, ShutsBy}
@@ -62,6 +63,7 @@ walks_held entry owner holding o (asks query) is walks =
     (subst (λ (ps : List PartitionEntry). HasTooManyWalks (signature_in owner.tables ps query.view) query.program) is.partitions_are walks)
 walks_held entry owner holding o (recalls analyst number) is walks = absurd walks
 walks_held entry owner holding o balances is walks = absurd walks
+walks_held entry owner holding o (spends analyst) is walks = absurd walks
 
 -- a prefix that is as long is the whole
 pub prefix_whole : {X : Type 0} (xs ys : List X) → IsPrefix xs ys → length ys ≤ length xs → xs ≡ ys
@@ -83,6 +85,7 @@ unfolding IsMetExactly
 exactly_adds owner draws start (asks query) seen reply told after (added, by, told_is, is) = (added, told_is, is)
 exactly_adds owner draws start (recalls analyst number) seen reply told after (said, none, is) = ([], none, is ∙ sym (append-nil seen))
 exactly_adds owner draws start balances seen reply told after (said, none, is) = ([], none, is ∙ sym (append-nil seen))
+exactly_adds owner draws start (spends analyst) seen reply told after (said, none, is) = ([], none, is ∙ sym (append-nil seen))
 
 -- a demand that adds nothing: all records that go on from those known after it bear out its reply
 pub record AddsNone (demand : Demand) (reply : Replied) (told : List Told) (after : List Record) : Type 0 where
@@ -100,11 +103,12 @@ recalled_on start analyst number reply g after later on said is =
 pub met_kind : (owner : Owner) (draws : ℕ → ℕ → ℕ) (start : ℕ) (demand : Demand) (seen : List Record) (reply : Replied) (told : List Told) (after : List Record)
     → IsMet owner draws start demand seen reply told after
     → AddsNone demand reply told after ⊎ ((query : Query) × (demand ≡ asks query) × IsAsked owner draws start query seen reply told after)
-unfolding IsMet IsRecalled IsBalance
+unfolding IsMet IsRecalled IsBalance IsSpending
 met_kind owner draws start (asks query) seen reply told after met = inr (query, refl, met)
 met_kind owner draws start (recalls analyst number) seen reply told after ((g, pre, said, is), none) =
     inl (record { none = none; borne = λ programs later on. recalled_on start analyst number reply g after later on said is })
 met_kind owner draws start balances seen reply told after ((g, pre, said, is), none) = inl (record { none = none; borne = λ programs later on. tt })
+met_kind owner draws start (spends analyst) seen reply told after ((g, pre, said, is), none) = inl (record { none = none; borne = λ programs later on. tt })
 
 -- The records known go on, by all that was told at least; where they go on by no more, nothing comes in between.
 pub record Grows (seen : List Record) (told : List Told) (after : List Record) : Type 0 where
@@ -148,7 +152,7 @@ grows_two seen mid first told after f g = record {
 module _ (owner : Owner) (draws : ℕ → ℕ → ℕ) (start : ℕ) (seen : List Record) (reply : Replied) (told : List Told) (after : List Record) where
   asked_grows : (query : Query) (g : List Record) (v : Verdict) → IsPrefix seen g → IsAskedBy owner draws query v g reply told after → Grows seen told after
   asked_grows query g (program_refused refusal) pre by = grows_none seen g told after pre by.1 by.2
-  asked_grows query g (money_refused refusal) pre by = grows_none seen g told after pre by.1 by.2
+  asked_grows query g (money_refused refusal) pre by = grows_none seen g told after pre by.3 by.4
   asked_grows query g (granted asking grant) pre (inl two) =
       let end : Record = settlement_for owner.entry two.u grant.number two.outcome in
       let reserves : Grows seen ((length g, granted_record asking grant) ∷ []) two.u = grows_one seen g (granted_record asking grant) _ two.u pre two.reserved refl in
@@ -160,11 +164,12 @@ module _ (owner : Owner) (draws : ℕ → ℕ → ℕ) (start : ℕ) (seen : Lis
 
   -- What is known goes on so with each demand.
   grows : (demand : Demand) → IsMet owner draws start demand seen reply told after → Grows seen told after
-  unfolding IsMet IsRecalled IsBalance IsAsked
+  unfolding IsMet IsRecalled IsBalance IsSpending IsAsked
   grows (asks query) (g, pre, inl (v, is, by)) = asked_grows query g v pre by
   grows (asks query) (g, pre, inr lack) = grows_none seen g told after pre lack.1 lack.2
   grows (recalls analyst number) ((g, pre, said, is), none) = grows_none seen g told after pre none is
   grows balances ((g, pre, said, is), none) = grows_none seen g told after pre none is
+  grows (spends analyst) ((g, pre, said, is), none) = grows_none seen g told after pre none is
 
   pub met_grows : (demand : Demand) → IsMet owner draws start demand seen reply told after → IsPrefix seen after
   met_grows demand met = (grows demand met).begins
@@ -187,6 +192,7 @@ abbrev pub tells_fault : Demand → Replied → Bool
 tells_fault (asks query) reply = is_fault (disk_word reply)
 tells_fault (recalls analyst number) reply = false
 tells_fault balances reply = false
+tells_fault (spends analyst) reply = false
 
 -- it is a query's
 pub fault_told : (demand : Demand) (reply : Replied) → tells_fault demand reply ≡ true → (query : Query) × (demand ≡ asks query) × (disk_word reply ≡ Some None)
@@ -198,6 +204,7 @@ fault_told (asks query) reply is = (query, refl, here (disk_word reply) is)
     here (Some (Some failed_at)) is = absurd (cc (is))
 fault_told (recalls analyst number) reply is = absurd (cc (is))
 fault_told balances reply is = absurd (cc (is))
+fault_told (spends analyst) reply is = absurd (cc (is))
 
 -- an append of the line's own failed, which shut the book
 pub record FailsNow (owner : Owner) (draws : ℕ → ℕ → ℕ) (demand : Demand) (told : List Told) (before after : Shut) : Type 0 where
@@ -213,7 +220,7 @@ pub record FailsNow (owner : Owner) (draws : ℕ → ℕ → ℕ) (demand : Dema
 pub demand_shuts : (owner : Owner) (draws : ℕ → ℕ → ℕ) (demand : Demand) (reply : Replied) (told : List Told) (before after : Shut) → ShutsBy owner draws demand reply told before after
     → MatchBool (tells_fault demand reply) (FailsNow owner draws demand told before after) (StaysShut told before.failure after.failure × (after.own ≡ before.own))
 unfolding ShutsBy
-demand_shuts owner draws (asks query) reply told before after by = here (disk_word reply) by
+demand_shuts owner draws (asks query) reply told before after by = here (disk_word reply) by.0
   where
     here : (word : Option (Option ℕ)) → FailsBy owner draws query word told before after
         → MatchBool (is_fault word) (FailsNow owner draws (asks query) told before after) (StaysShut told before.failure after.failure × (after.own ≡ before.own))
@@ -222,6 +229,7 @@ demand_shuts owner draws (asks query) reply told before after by = here (disk_wo
     here (Some (Some failed_at)) (failure, shut, at, stays, own) = (stays, own)
 demand_shuts owner draws (recalls analyst number) reply told before after by = by
 demand_shuts owner draws balances reply told before after by = by
+demand_shuts owner draws (spends analyst) reply told before after by = by
 
 closing_once : (c d : Option Failure) → closing c ≡ closing d → c ≡ d
 closing_once c d is = grind (arith, is)
@@ -233,6 +241,7 @@ unfolding IsMet ShutsBy
 demand_closes one owner draws start (asks query) seen after x before now met shuts own own_now = one owner draws start query seen x.reply x.told after before now met shuts own own_now
 demand_closes one owner draws start (recalls analyst number) seen after x before now met (stays, same) own own_now = closing_once now.failure before.failure (sym own_now ∙ same ∙ own)
 demand_closes one owner draws start balances seen after x before now met (stays, same) own own_now = closing_once now.failure before.failure (sym own_now ∙ same ∙ own)
+demand_closes one owner draws start (spends analyst) seen after x before now met (stays, same) own own_now = closing_once now.failure before.failure (sym own_now ∙ same ∙ own)
 
 -- there is one verdict
 judged_once : (entry : Entry) (start : ℕ) (records : List Record) (query : Query) (j : Judgement) (v w : Verdict) → IsVerdictBy entry start records query j v → IsVerdictBy entry start records query j w → v ≡ w
@@ -267,10 +276,15 @@ not_lost grant reply outcome had is lost = subst (λ (r : Replied). NothingFaile
 not_unwritten : (asking : Ask) (grant : Grant) (reply : Replied) (added : List Record) → NothingFailed reply → IsUnrecorded asking grant reply added → ⊥
 not_unwritten asking grant reply added had by = subst (λ (r : Replied). NothingFailed r) by.1 had
 
+-- nor of a book that is shut
+said_once : (refusal : MoneyRefusal) (reply : Replied) (said : Refusal) → NothingFailed reply → IsSaidFor refusal said → reply ≡ refused said → reply ≡ refused (by_money refusal)
+said_once refusal reply said had (inl same) is = is ∙ ap refused same
+said_once refusal reply said had (inr (failed_at, low, same)) is = absurd (subst (λ (r : Replied). NothingFailed r) (is ∙ ap refused same) had)
+
 answered_once : (owner : Owner) (draws : ℕ → ℕ → ℕ) (records : List Record) (query : Query) (v : Verdict) (reply other : Replied) (added more : List Record) → NothingFailed reply → NothingFailed other
     → IsAnsweredBy owner draws records query v reply added → IsAnsweredBy owner draws records query v other more → (reply ≡ other) × (added ≡ more)
 answered_once owner draws records query (program_refused refusal) reply other added more had has f g = (f.0 ∙ sym g.0, f.1 ∙ sym g.1)
-answered_once owner draws records query (money_refused refusal) reply other added more had has f g = (f.0 ∙ sym g.0, f.1 ∙ sym g.1)
+answered_once owner draws records query (money_refused refusal) reply other added more had has f g = (said_once refusal reply f.0 had f.1 f.2 ∙ sym (said_once refusal other g.0 has g.1 g.2), f.3 ∙ sym g.3)
 answered_once owner draws records query (granted asking grant) reply other added more had has (inr f) g = absurd (not_unwritten asking grant reply added had f)
 answered_once owner draws records query (granted asking grant) reply other added more had has (inl f) (inr g) = absurd (not_unwritten asking grant other more has g)
 answered_once owner draws records query (granted asking grant) reply other added more had has (inl f) (inl g) =
@@ -292,6 +306,7 @@ met_once owner draws start (asks query) seen reply other told more_told a b had 
     (both.0, is ∙ ap (λ rs. seen ++ rs) both.1 ∙ sym ends)
 met_once owner draws start (recalls analyst number) seen reply other told more_told a b had has f g = (f.0 ∙ sym g.0, f.2 ∙ sym g.2)
 met_once owner draws start balances seen reply other told more_told a b had has f g = (f.0 ∙ sym g.0, f.2 ∙ sym g.2)
+met_once owner draws start (spends analyst) seen reply other told more_told a b had has f g = (f.0 ∙ sym g.0, f.2 ∙ sym g.2)
 
 -- a query's answer, in which nothing fails
 record IsAnswer (owner : Owner) (draws : ℕ → ℕ → ℕ) (start : ℕ) (records : List Record) (query : Query) : Type 0 where
@@ -315,7 +330,7 @@ module _ (owner : Owner) (draws : ℕ → ℕ → ℕ) (start : ℕ) (records : 
       → ((v : _) → v ≡ verdict_by_money (ask_for query p q) money → IsVerdict owner.entry (signature_of_view owner query.view) start records query v) → IsAnswer owner draws start records query
   unfolding IsAnswered
   by_money_verdict p q (Err fault) is charged verdict =
-      record { reply = refused (by_money (money_refusal fault)); added = []; answered = (money_refused (money_refusal fault), verdict _ refl, (refl, refl)); had = tt }
+      record { reply = refused (by_money (money_refusal fault)); added = []; answered = (money_refused (money_refusal fault), verdict _ refl, (by_money (money_refusal fault), inl refl, (refl, refl))); had = tt }
   by_money_verdict p q (Ok grant) is charged verdict =
       let v = charged_have_values owner.tables owner.partitions owner.rows query.view query.program p q has.tables has.partitions has.rows charged in
       let made = settlement (HasWorthIn owner query) (noise_at query.e (draws grant.number)) grant v.0 v.1 in
@@ -372,3 +387,5 @@ met_exists owner draws start (recalls analyst number) seen has =
     record { reply = recall_reply number r; told = []; added = []; meets = (refl, refl, append-nil seen); had = recall_had number r }
 met_exists owner draws start balances seen has =
     record { reply = left_reply (left_by owner.entry seen); told = []; added = []; meets = (refl, refl, append-nil seen); had = tt }
+met_exists owner draws start (spends analyst) seen has =
+    record { reply = mine_reply (mine_by owner.entry seen analyst); told = []; added = []; meets = (refl, refl, append-nil seen); had = tt }

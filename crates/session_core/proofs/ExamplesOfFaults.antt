@@ -7,10 +7,11 @@ use Rattle.journal_records.specs.declared.records.Outcome.TheVariants.{Answered,
 use Rattle.journal_records.specs.declared.records.Record.{Record}
 use Rattle.journal_records.specs.Records.{settling}
 use Rattle.budget_core.specs.Cost.{cost_of, budget_of}
+use Rattle.budget_core.specs.Mine.{spent_by}
 use Rattle.partition_charge.specs.Cost.{cost_of_charges, partition_cost}
 use Rattle.budget_ledger.specs.declared.failure.Failure.{Failure}
 use Rattle.wire_lines.specs.Request.{request_of}
-use Rattle.wire_lines.specs.Reply.{answered, recalled, remaining, refused, reply_text}
+use Rattle.wire_lines.specs.Reply.{answered, recalled, remaining, spending, refused, reply_text}
 use Rattle.wire_lines.specs.Refusal.{by_line, by_disk, by_number}
 use Rattle.wire_lines.specs.declared.refusal.LineRefusal.TheVariants.{Unknown, NoHello}
 use Rattle.wire_lines.specs.declared.refusal.DiskRefusal.TheVariants.{Closed, Fault}
@@ -24,7 +25,7 @@ use Rattle.owner_history.specs.AnswerPath.Verdict.{granted}
 use Rattle.owner_history.specs.AnswerPath.Answered.{granted_record, IsAnswered}
 use Rattle.owner_history.proofs.AnswerPath.Answering.{money_says}
 use Rattle.owner_history.specs.OwnerHouse.House.{house_of}
-use Rattle.owner_history.specs.AnswerPath.Demand.{asks, recalls, balances}
+use Rattle.owner_history.specs.AnswerPath.Demand.{asks, recalls, balances, spends}
 use Rattle.session_core.specs.Meant.{says, wants, meant_by}
 use Rattle.session_core.specs.Exchanges.{Exchange}
 use Rattle.session_core.specs.Transcript.{LeadExactly, ClosesBy, ClosesOn}
@@ -34,7 +35,7 @@ use Rattle.session_core.proofs.Examples.{three_rows, the_owner, a_query, an_ask,
 abbrev clinic : Owner
 clinic = the_owner three_rows
 
--- Anybody may see what is spent. A recall needs a hello, and an owner that there is.
+-- Anybody may see what is spent. A recall and what is spent by oneself need a hello, and an owner that there is.
 left_by_nobody : meant_by (house_of three_rows) None (codes "left clinic") ≡ wants 0 clinic balances
 unfolding meant_by request_of
 left_by_nobody = refl
@@ -54,6 +55,18 @@ unknown_first = refl
 unknown_left : meant_by (house_of three_rows) (Some 1) (codes "left nobody") ≡ says (refused (by_line (Unknown 1))) (Some 1)
 unfolding meant_by request_of
 unknown_left = refl
+
+own_of_nobody : meant_by (house_of three_rows) None (codes "mine clinic") ≡ says (refused (by_line NoHello)) None
+unfolding meant_by request_of
+own_of_nobody = refl
+
+own_of_bob : meant_by (house_of three_rows) (Some 1) (codes "mine clinic") ≡ wants 0 clinic (spends 1)
+unfolding meant_by request_of
+own_of_bob = refl
+
+own_of_no_owner : meant_by (house_of three_rows) None (codes "mine nobody") ≡ says (refused (by_line (Unknown 1))) None
+unfolding meant_by request_of
+own_of_no_owner = refl
 
 -- ---- after an answer
 
@@ -79,6 +92,20 @@ found_leads draws =
 answered_text : flat_map reply_text (map (λ (x : Exchange). x.reply) answered_lines) ≡ codes "recall 0 answer 2 2\nno 61 0 2\nno 60 1 2\nleft 1000000 10000000 2\n"
 unfolding reply_text digits
 answered_text = refl
+
+-- ann has spent what she asked for, and bob nothing
+abbrev own_lines : List Exchange
+own_lines = quiet (Some 0) (codes "mine clinic") (spending 1000000 None 2) ∷ quiet (Some 1) (codes "mine clinic") (spending 0 None 2) ∷ []
+
+own_leads : (draws : ℕ → ℕ → ℕ → ℕ) → LeadExactly (house_of three_rows) draws 0 0 (made (Answered (pos 2))) own_lines (made (Answered (pos 2)))
+unfolding meant_by request_of cost_of_charges partition_cost spent_by IsMetExactly
+own_leads draws =
+    let records = made (Answered (pos 2)) in
+    (records, (refl, refl, refl), (records, (refl, refl, refl), refl))
+
+not_anothers_own : (draws : ℕ → ℕ → ℕ → ℕ) (last : List Record) → LeadExactly (house_of three_rows) draws 0 0 (made (Answered (pos 2))) (quiet (Some 1) (codes "mine clinic") (spending 1000000 None 2) ∷ []) last → ⊥
+unfolding meant_by request_of cost_of_charges partition_cost spent_by IsMetExactly
+not_anothers_own draws last (after, (said, told, is), ends) = cc (said)
 
 -- another value isn't recalled, nor is bob told ann's
 not_another_value : (draws : ℕ → ℕ → ℕ → ℕ) (last : List Record) → LeadExactly (house_of three_rows) draws 0 0 (made (Answered (pos 2))) (quiet (Some 0) (codes "recall clinic 0") (recalled 0 (Some (Answered (pos 3))) 2) ∷ []) last → ⊥
@@ -166,22 +193,22 @@ shut_by draws =
     let outcome : Outcome = outcome_with 3 (noise_at 1000000 (draws 0 0)) in
     let shut : Shut = shut_own outcome in (
       shut,
-      (failure outcome, refl, refl, (outcome, opened, settled_with _ 3 (noise_at 1000000 (draws 0 0)) three_value, refl), refl),
-      (shut, (failure outcome, refl, refl, stays_shut outcome, refl), (shut, (stays_shut outcome, refl), (shut, (stays_shut outcome, refl), refl))),
+      ((failure outcome, refl, refl, (outcome, opened, settled_with _ 3 (noise_at 1000000 (draws 0 0)) three_value, refl), refl), tt),
+      (shut, ((failure outcome, refl, refl, stays_shut outcome, refl), tt), (shut, (stays_shut outcome, refl), (shut, (stays_shut outcome, refl), refl))),
     )
 
 -- another's failure may be told, though this worker hadn't seen it; but it is nobody's here, nor at another count
 shut_by_another : (draws : ℕ → ℕ → ℕ) (outcome : Outcome) → ShutsFor draws clinic (asks a_query) unshut (quiet (Some 0) ask_line (refused (by_disk (Closed 3)))) (record { failure = Some (failure outcome); own = [] })
 unfolding ShutsBy
-shut_by_another draws outcome = (failure outcome, refl, refl, record { still = λ other is. absurd (cc (is)); adds_nothing = λ other is. refl }, refl)
+shut_by_another draws outcome = ((failure outcome, refl, refl, record { still = λ other is. absurd (cc (is)); adds_nothing = λ other is. refl }, refl), tt)
 
 not_its_own : (draws : ℕ → ℕ → ℕ) (outcome : Outcome) → ShutsFor draws clinic (asks a_query) unshut (quiet (Some 0) ask_line (refused (by_disk (Closed 3)))) (shut_own outcome) → ⊥
 unfolding ShutsBy
-not_its_own draws outcome (other, shut, count, stays, own) = cc (own)
+not_its_own draws outcome ((other, shut, count, stays, own), said_open) = cc (own)
 
 not_shut_at_another_count : (draws : ℕ → ℕ → ℕ) (outcome : Outcome) → ShutsFor draws clinic (asks a_query) unshut (quiet (Some 0) ask_line (refused (by_disk (Closed 4)))) (record { failure = Some (failure outcome); own = [] }) → ⊥
 unfolding ShutsBy
-not_shut_at_another_count draws outcome (other, shut, counted, stays, own) =
+not_shut_at_another_count draws outcome ((other, shut, counted, stays, own), said_open) =
     let same : failure outcome ≡ other = cc (shut) in
     let count : 4 ≡ 3 = subst (λ (f : Failure). 4 ≡ f.failed_at) (sym same) counted in
     cc (count)
@@ -190,7 +217,7 @@ not_shut_at_another_count draws outcome (other, shut, counted, stays, own) =
 not_added_when_shut : (draws : ℕ → ℕ → ℕ) (outcome : Outcome) (after : Shut)
     → ShutsFor draws clinic (asks a_query) (shut_own outcome) (record { turn = turn (Some 0) ask_line; reply = answered 0 (pos 2) 1000000; told = enumerate_from 0 (made (Answered (pos 2))) }) after → ⊥
 unfolding ShutsBy
-not_added_when_shut draws outcome after (stays, own) = cc (stays.adds_nothing (failure outcome) refl)
+not_added_when_shut draws outcome after ((stays, own), said_open) = cc (stays.adds_nothing (failure outcome) refl)
 
 -- the turn of the 52 left number 0 open, and no other
 left_open : LeavesOpen 0 unsettled

@@ -4,7 +4,7 @@ use Rattle.std.specs.List.{onto_first}
 use Rattle.std.proofs.lemmas.Bool.{cases_Bool}
 use Rattle.std.proofs.lemmas.Slice.Eq.{bytes_eq-Decides}
 use Rattle.wire_lines.specs.Lines.{lf, lines_of, pieces_of, without_cr}
-use Rattle.wire_lines.specs.Request.{Asked, hello, ask, askpart, recall, left, bye, request_of}
+use Rattle.wire_lines.specs.Request.{Asked, hello, ask, askpart, recall, left, mine, bye, request_of}
 use Rattle.wire_lines.specs.declared.refusal.LineRefusal.{LineRefusal}
 use Rattle.wire_lines.proofs.Cuts.{no_lines}
 use Rattle.wire_lines.proofs.Requests.{grammar_from, grammar_to}
@@ -33,6 +33,7 @@ bye_bytes line = here (request_of line) refl
     here (Ok (askpart name partition key epsilon program)) reads = other (ap is_bye_request reads)
     here (Ok (recall name number)) reads = other (ap is_bye_request reads)
     here (Ok (left name)) reads = other (ap is_bye_request reads)
+    here (Ok (mine name)) reads = other (ap is_bye_request reads)
     here (Err refusal) reads = other (ap is_bye_request reads)
 
 -- Lines are their first block, and the blocks behind it.

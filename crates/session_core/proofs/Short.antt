@@ -5,7 +5,7 @@ use Rattle.std.specs.Fmt.{digits}
 use Rattle.wire_lines.specs.Lines.{space}
 use Rattle.wire_lines.specs.Reply.{ended, refused, reply_text}
 use Rattle.wire_lines.specs.Refusal.{by_line, IsFormRefusal}
-use Rattle.wire_lines.specs.Request.{Asked, hello, ask, askpart, recall, left, request_of}
+use Rattle.wire_lines.specs.Request.{Asked, hello, ask, askpart, recall, left, mine, request_of}
 use Rattle.wire_lines.specs.declared.refusal.LineRefusal.{LineRefusal}
 use Rattle.wire_lines.specs.declared.refusal.LineRefusal.TheVariants.{Malformed, TooLong, Unknown, NoEpsilon, NoHello}
 use Rattle.wire_lines.proofs.Requests.{grammar_from}
@@ -73,6 +73,11 @@ pub left_long : (line owner : List ℕ) → request_of line ≡ Ok (left owner) 
 left_long line owner reads few =
     let written = (grammar_from line (left owner) reads).1 in
     omega (arith, ap length written.1 ∙ length-append (codes "left ") owner, written.0.0)
+
+pub mine_long : (line owner : List ℕ) → request_of line ≡ Ok (mine owner) → length line < 6 → ⊥
+mine_long line owner reads few =
+    let written = (grammar_from line (mine owner) reads).1 in
+    omega (arith, ap length written.1 ∙ length-append (codes "mine ") owner, written.0.0)
 
 -- what a line comes to, by how it is read
 pub meant_of : (house : House) (who : Option ℕ) (line : List ℕ) (request : Result Asked LineRefusal) → request_of line ≡ request → meant_by_request house who request ≡ meant_by house who line

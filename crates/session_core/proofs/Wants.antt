@@ -5,7 +5,7 @@ use Rattle.std.specs.Prelude.{Result, Ok, Err, ⊤}
 use mathlib.Core.Logic.{inl, inr}
 use Rattle.budget_core.specs.Entries.{IsEpsilon}
 use Rattle.wire_lines.proofs.Requests.{grammar_from}
-use Rattle.wire_lines.specs.Request.{Asked, hello, ask, askpart, recall, left, bye, request_of}
+use Rattle.wire_lines.specs.Request.{Asked, hello, ask, askpart, recall, left, mine, bye, request_of}
 use Rattle.wire_lines.specs.declared.refusal.LineRefusal.{LineRefusal}
 use Rattle.wire_lines.specs.declared.refusal.LineRefusal.TheVariants.{Unknown, NoEpsilon, NoHello}
 use Rattle.wire_lines.specs.Reply.{greeted, ended, refused}
@@ -13,10 +13,10 @@ use Rattle.wire_lines.specs.Refusal.{by_line}
 use Rattle.owner_history.specs.PartViews.Partitions.{HasPart}
 use Rattle.owner_history.specs.OwnerHouse.Owner.{Owner}
 use Rattle.owner_history.specs.AnswerPath.Query.{Query}
-use Rattle.owner_history.specs.AnswerPath.Demand.{Demand, asks, recalls, balances}
+use Rattle.owner_history.specs.AnswerPath.Demand.{Demand, asks, recalls, balances, spends}
 use Rattle.owner_history.specs.AnswerPath.Code.{IsQueryOf}
 use Rattle.owner_history.specs.OwnerHouse.House.{House, IsOwnerIn, analyst_named, owner_named}
-use Rattle.session_core.specs.Meant.{Meant, Subject, says, wants, whole_named, part_named, meant_by, meant_by_request, meant_by_hello, meant_by_ask, meant_by_recall, meant_by_left}
+use Rattle.session_core.specs.Meant.{Meant, Subject, says, wants, whole_named, part_named, meant_by, meant_by_request, meant_by_hello, meant_by_ask, meant_by_recall, meant_by_left, meant_by_mine}
 use Rattle.session_core.specs.Turns.{is_bye, is_bye_request}
 use Rattle.session_core.specs.Served.{IsAskFor}
 use Rattle.session_core.specs.Code.{IsAnalyst}
@@ -90,6 +90,13 @@ module _ (house : House) (line : List ℕ) (P : Meant → Type 0) where
   left_case who c name (Some found) named other =
       c.demands found.0 found.1 balances (owner_stands house name found named, λ known query is. absurd (cc (is))) other
 
+  mine_case : (who : Option ℕ) → Cases who → (name : List ℕ) (found : Option (ℕ × Owner)) → owner_named house name ≡ found → is_bye line ≡ false
+      → P (meant_by_mine who found)
+  mine_case who c name None named other = c.refuses (Unknown 1) other
+  mine_case None c name (Some found) named other = c.refuses NoHello other
+  mine_case (Some analyst) c name (Some found) named other =
+      c.demands found.0 found.1 (spends analyst) (owner_stands house name found named, λ known query is. absurd (cc (is))) other
+
   hello_case : (who : Option ℕ) → Cases who → (name : List ℕ) (found : Option ℕ) → analyst_named house name ≡ found → is_bye line ≡ false
       → P (meant_by_hello house who name found)
   hello_case who c name None named other = c.refuses (Unknown 1) other
@@ -109,6 +116,7 @@ module _ (house : House) (line : List ℕ) (P : Meant → Type 0) where
       (part_in_range line name partition key program e writes, inr (name, partition, key, e, writes))) (ap is_bye_request reads)
   request_case who c (Ok (recall name number)) reads = recall_case who c name number (owner_named house name) refl (ap is_bye_request reads)
   request_case who c (Ok (left name)) reads = left_case who c name (owner_named house name) refl (ap is_bye_request reads)
+  request_case who c (Ok (mine name)) reads = mine_case who c name (owner_named house name) refl (ap is_bye_request reads)
   request_case who c (Ok bye) reads = c.ends (ap is_bye_request reads)
 
   pub line_cases : (who : Option ℕ) → LineCases house who line P → P (meant_by house who line)

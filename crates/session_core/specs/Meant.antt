@@ -3,12 +3,12 @@ use Rattle.std.specs.Prelude.{ℕ, List, Result, Ok, Err, Option, Some, None, ok
 use Rattle.partition_charge.specs.declared.view.View.{View}
 use Rattle.partition_charge.specs.declared.view.View.TheVariants.{Whole, Part}
 use Rattle.wire_lines.specs.Reply.{Replied, greeted, ended, refused}
-use Rattle.wire_lines.specs.Request.{Asked, hello, ask, askpart, recall, left, bye, request_of, ◌>>=◌}
+use Rattle.wire_lines.specs.Request.{Asked, hello, ask, askpart, recall, left, mine, bye, request_of, ◌>>=◌}
 use Rattle.wire_lines.specs.Refusal.{by_line}
 use Rattle.wire_lines.specs.declared.refusal.LineRefusal.{LineRefusal}
 use Rattle.wire_lines.specs.declared.refusal.LineRefusal.TheVariants.{Unknown, NoEpsilon, NoHello}
 use Rattle.owner_history.specs.OwnerHouse.Owner.{Owner}
-use Rattle.owner_history.specs.AnswerPath.Demand.{Demand, asks, recalls, balances}
+use Rattle.owner_history.specs.AnswerPath.Demand.{Demand, asks, recalls, balances, spends}
 use Rattle.owner_history.specs.OwnerHouse.House.{House, analyst_named, owner_named, partition_named, partition_at, key_named}
 
 -- What a line comes to by itself, by the house's names and by who speaks: a reply and who speaks then, or a demand of an
@@ -62,6 +62,12 @@ abbrev pub meant_by_left : Option ℕ → Option (ℕ × Owner) → Meant
 meant_by_left who None = says (refused (by_line (Unknown 1))) who
 meant_by_left who (Some found) = wants found.0 found.1 balances
 
+-- What is spent by oneself is told to who said hello.
+abbrev pub meant_by_mine : Option ℕ → Option (ℕ × Owner) → Meant
+meant_by_mine who None = says (refused (by_line (Unknown 1))) who
+meant_by_mine None (Some found) = says (refused (by_line NoHello)) None
+meant_by_mine (Some analyst) (Some found) = wants found.0 found.1 (spends analyst)
+
 abbrev pub meant_by_request : House → Option ℕ → Result Asked LineRefusal → Meant
 meant_by_request house who (Err refusal) = says (refused (by_line refusal)) who
 meant_by_request house who (Ok (hello name)) = meant_by_hello house who name (analyst_named house name)
@@ -70,6 +76,7 @@ meant_by_request house who (Ok (askpart name partition key epsilon program)) =
     meant_by_ask who (part_named house name partition key) epsilon program
 meant_by_request house who (Ok (recall name number)) = meant_by_recall who (owner_named house name) number
 meant_by_request house who (Ok (left name)) = meant_by_left who (owner_named house name)
+meant_by_request house who (Ok (mine name)) = meant_by_mine who (owner_named house name)
 meant_by_request house who (Ok bye) = says ended who
 
 unfoldable pub meant_by : House → Option ℕ → List ℕ → Meant

@@ -13,7 +13,7 @@ use Rattle.wire_lines.specs.Request.{ask, askpart, request_of}
 use Rattle.owner_history.specs.OwnerHouse.Owner.{Owner}
 use Rattle.owner_history.specs.AnswerPath.Query.{Query}
 use Rattle.owner_history.specs.OwnerDesk.Passes.{Told}
-use Rattle.owner_history.specs.AnswerPath.Demand.{Demand, asks, recalls, balances}
+use Rattle.owner_history.specs.AnswerPath.Demand.{Demand, asks, recalls, balances, spends}
 use Rattle.owner_history.specs.AnswerPath.Met.{IsMet}
 use Rattle.owner_history.specs.AnswerPath.Shut.{Shut, ShutsBy}
 use Rattle.owner_history.specs.Granted.{told_settlement, IsBorneOut, IsRecallBorneOut}
@@ -49,6 +49,7 @@ abbrev pub IsBorneOutTo : (programs : List (List ℕ)) → List Record → Deman
 IsBorneOutTo programs records (asks query) reply = IsBorneOut programs records query reply
 IsBorneOutTo programs records (recalls analyst number) reply = IsRecallBorneOut records analyst reply
 IsBorneOutTo programs records balances reply = ⊤
+IsBorneOutTo programs records (spends analyst) reply = ⊤
 
 -- where the turn asks this owner: what it added stands in the owner's records, which bear out what its reply says
 abbrev pub IsHeldTo : (o : ℕ) → (programs : List (List ℕ)) → List Record → Meant → Exchange → Type 0

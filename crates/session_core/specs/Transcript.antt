@@ -6,7 +6,7 @@ use Rattle.budget_core.specs.Counts.{reservations_of}
 use Rattle.budget_ledger.specs.declared.failure.Failure.{Failure}
 use Rattle.wire_lines.specs.Reply.{Replied, reply_text}
 use Rattle.owner_history.specs.OwnerHouse.Owner.{Owner}
-use Rattle.owner_history.specs.AnswerPath.Demand.{Demand, asks, recalls, balances}
+use Rattle.owner_history.specs.AnswerPath.Demand.{Demand, asks, recalls, balances, spends}
 use Rattle.owner_history.specs.AnswerPath.Closing.{Closes}
 use Rattle.owner_history.specs.AnswerPath.Met.{IsMetExactly}
 use Rattle.owner_history.specs.OwnerHouse.House.{House}
@@ -22,11 +22,12 @@ abbrev pub LeadExactly :
     House → (ℕ → ℕ → ℕ → ℕ) → (o start : ℕ) → (seen : List Record) → List Exchange → (last : List Record) → Type 0
 LeadExactly house draws o start seen xs last = Lead house o (MeetsExactly (draws o) start) seen xs last
 
--- What a demand does to the owner's book, where no other line shuts it: a recall and a balance leave it as it is.
+-- What a demand does to the owner's book, where no other line shuts it: only a query may.
 abbrev pub ClosesBy : (ℕ → ℕ → ℕ) → Owner → Demand → (before : Option Failure) → Exchange → (after : Option Failure) → Type 0
 ClosesBy draws owner (asks query) before x after = Closes owner draws query x.reply x.told before after
 ClosesBy draws owner (recalls analyst number) before x after = after ≡ before
 ClosesBy draws owner balances before x after = after ≡ before
+ClosesBy draws owner (spends analyst) before x after = after ≡ before
 
 -- One owner's book through some exchanges: a 52 shuts it, and from then on each query that would be granted is told 42.
 abbrev pub ClosesOn :

@@ -3,7 +3,7 @@
 ghost use Rattle.std.specs.Prelude.{◌≡◌, IfSome, IfOk, Some, ◌<◌, length};
 ghost use Rattle.budget_core.specs.Entries.{IsEpsilon};
 ghost use Rattle.owner_history.specs.OwnerHouse.House.{house_of, analyst_named, owner_named};
-ghost use Rattle.session_core.specs.Meant.{meant_by, meant_by_ask, meant_by_hello, meant_by_left, meant_by_recall, part_named, whole_named};
+ghost use Rattle.session_core.specs.Meant.{meant_by, meant_by_ask, meant_by_hello, meant_by_left, meant_by_mine, meant_by_recall, part_named, whole_named};
 ghost use Rattle.session_core.specs.Code.{found_in, meaning_of, IsAnalyst, IsMeaningIn, IsShort, IsSubjectIn};
 
 use owner_history::{Demand, House, Query};
@@ -56,6 +56,7 @@ pub fn read_line<'a>(house: &House, who: Option<u16>, line: &'a [u8]) -> LineMea
         }
         Ok(Request::Recall { owner, number }) => read_recall(house, who, owner, number),
         Ok(Request::Left { owner }) => read_left(house, who, owner),
+        Ok(Request::Mine { owner }) => read_mine(house, who, owner),
         Ok(Request::Bye) => LineMeaning::Says {
             reply: Reply::Bye,
             who,
@@ -188,6 +189,23 @@ fn read_left<'a>(house: &House, who: Option<u16>, owner: &[u8]) -> LineMeaning<'
         Some(owner) => LineMeaning::Wants {
             owner,
             demand: Demand::Balances,
+        },
+    }
+}
+
+// The owner is looked for before the analyst, who sees what it spent itself.
+fn read_mine<'a>(house: &House, who: Option<u16>, owner: &[u8]) -> LineMeaning<'a>
+    requires known { IsAnalyst (house_of house.now) who }
+    ensures meaning { meaning_of (house_of house.now) result
+        ≡ meant_by_mine who (owner_named (house_of house.now) owner.now) }
+    ensures proper { IsMeaningIn (house_of house.now) result }
+{
+    match (who, house.owner(owner)) {
+        (_, None) => refuse(LineRefusal::Unknown { word: 1 }, who),
+        (None, Some(_)) => refuse(LineRefusal::NoHello, who),
+        (Some(analyst), Some(owner)) => LineMeaning::Wants {
+            owner,
+            demand: Demand::Spends { analyst },
         },
     }
 }

@@ -74,7 +74,8 @@ module _ (draws : ℕ → ℕ → ℕ) (owner : Owner) (found records : List Rec
   kind_asked : (query : Query) (g : List Record) (x : Exchange) (after : List Record) (v : Verdict) → IsPrefix found g → IsPrefix after records → IsVerdict owner.entry (signature_of_view owner query.view) start g query v
       → IsAskedBy owner draws query v g x.reply x.told after → IsKind (asks query) x
   kind_asked query g x after (program_refused refusal) pre ends is by = inl (by.1, says_none query x (ap told_settlement by.0))
-  kind_asked query g x after (money_refused refusal) pre ends is by = inl (by.1, says_none query x (ap told_settlement by.0))
+  kind_asked query g x after (money_refused refusal) pre ends is (said, inl same, by) = inl (by.1, says_none query x (ap told_settlement (by.0 ∙ ap refused same)))
+  kind_asked query g x after (money_refused refusal) pre ends is (said, inr (failed_at, low, same), by) = inl (by.1, says_none query x (ap told_settlement (by.0 ∙ ap refused same)))
   kind_asked query g x after (granted asking grant) pre ends is (inl two) =
       let more : List Record = granted_record asking grant ∷ [] in
       let end : List Record = settlement_for owner.entry two.u grant.number two.outcome ∷ [] in

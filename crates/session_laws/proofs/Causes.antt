@@ -127,7 +127,7 @@ module _ (house : House) (draws : ℕ → ℕ → ℕ → ℕ) (o : ℕ) where
         let same : 0 + place ≡ place = omega arith in
         let p = part_has crew (crew place) 0 xs place x at (ap crew same) in
         let s = shut_at unshut (part_of crew (crew place) 0 xs) (all.ends (crew place)) w.0 p.0 x owner (asks query) p.1 meant in
-        (s.0, s.1, s.2, λ failure is. w.1 failure (s.3 failure is))
+        (s.0, s.1, s.2.0, λ failure is. w.1 failure (s.3 failure is))
 
     not_before : (j k : ℕ) (owner other : Owner) (query and : Query) → IsShutAt house o xs j owner query None → IsShutAt house o xs k other and None → j < k → ⊥
     not_before j k owner other query and r s lt =

@@ -1,15 +1,17 @@
 -- a refusal has the least code of all that could come
-use Rattle.std.proofs.Common.{◌≡◌, ℕ, ◌+◌, ◌≤◌, Bool, true, false, cond, List, length, Option, Some, None, refl, sym, ◌∙◌, ap, subst, arith, ltb-true}
+use Rattle.std.proofs.Common.{◌≡◌, ℕ, ◌+◌, ◌<◌, ◌≤◌, Bool, true, false, List, [], ◌∷◌, length, Option, Some, None, refl, sym, ◌∙◌, ap, subst, arith, ltb-true}
 use Rattle.std.proofs.Common.{ltb-false, nat_lt}
-use Rattle.std.specs.Prelude.{Result, Ok, Err, ok_or, min}
+use Rattle.std.specs.Prelude.{Result, Ok, Err, ok_or, min, unwrap_or}
 use mathlib.Core.Logic.{inl, inr}
 use Rattle.journal_records.specs.declared.records.Record.{Record}
+use Rattle.journal_records.specs.Records.{is_some_and}
 use Rattle.budget_core.specs.declared.entry.Ask.{Ask}
 use Rattle.budget_core.specs.declared.entry.ReserveFault.TheVariants.{OverBudget as IsOver, Full}
+use Rattle.budget_core.specs.Bars.{first_bar}
 use Rattle.budget_core.specs.Cost.{cost_of, budget_of}
 use Rattle.budget_core.specs.Counts.{open_from}
-use Rattle.budget_core.specs.Entries.{Entry}
-use Rattle.budget_core.specs.Ledger.{cost_with, next_number, rise_of}
+use Rattle.budget_core.specs.Entries.{Entry, limit_of}
+use Rattle.budget_core.specs.Ledger.{cost_with, grant_for, is_over_share, over_share, spent_with}
 use Rattle.fz_frac.specs.Distance.{Distance, Fin, Inf}
 use Rattle.fz_ast.specs.Signature.{Signature}
 use Rattle.fz_ast.specs.Terms.{Term}
@@ -21,11 +23,11 @@ use Rattle.wire_lines.specs.Codes.{code_of, line_code, program_code, money_code}
 use Rattle.wire_lines.specs.Refusal.{ProgramRefusal, no_token, no_term, too_nested}
 use Rattle.wire_lines.specs.Refusal.{Refusal, by_line, by_program, by_money, by_disk, by_number, no_memory}
 use Rattle.wire_lines.specs.Reply.{refused}
-use Rattle.wire_lines.specs.Request.{hello, ask, askpart, recall, left, bye, ◌>>=◌}
+use Rattle.wire_lines.specs.Request.{hello, ask, askpart, recall, left, mine, bye, ◌>>=◌}
 use Rattle.wire_lines.specs.declared.refusal.LineRefusal.{LineRefusal}
 use Rattle.wire_lines.specs.declared.refusal.LineRefusal.TheVariants.{Unknown, NoEpsilon, NoHello}
 use Rattle.wire_lines.specs.declared.refusal.MoneyRefusal.{MoneyRefusal}
-use Rattle.wire_lines.specs.declared.refusal.MoneyRefusal.TheVariants.{OverBudget, JournalFull}
+use Rattle.wire_lines.specs.declared.refusal.MoneyRefusal.TheVariants.{OverBudget, JournalFull, OverShare}
 use Rattle.session_core.specs.OwnerHouse.Owner.{signature_of_view}
 use Rattle.session_core.specs.OwnerHouse.House.{House, owner_named, partition_named, partition_at, key_named}
 use Rattle.session_core.specs.AnswerPath.Judgement.{Judgement, refused_for, accepted, judgement_of, judged_by, shaped_by, fault_refusal, shape_refusal}
@@ -56,6 +58,17 @@ charged_once : (tables : Signature) (program : List ℕ) (p q x y : ℕ) → IsC
 charged_once tables program p q x y c d =
     let both : accepted c.0 (Fin p q) ≡ accepted d.0 (Fin x y) = sym c.2 ∙ ap (judgement_of tables) (one_reading program (read c.0) (read d.0) c.1 d.1) ∙ d.2 in
     cc (both)
+
+-- ---- an analyst's limit, where there is one
+
+beyond_limit : (limit : Option ℕ) (n : ℕ) → is_some_and (λ l. nat_lt l n) limit ≡ true → (limit ≡ Some (unwrap_or limit 0)) × (unwrap_or limit 0 < n)
+beyond_limit None n is = absurd (cc (is))
+beyond_limit (Some l) n is = (refl, ltb-true l n is)
+
+within_limit : (limit : Option ℕ) (n l : ℕ) → is_some_and (λ l. nat_lt l n) limit ≡ false → limit ≡ Some l → l < n → ⊥
+within_limit limit n l is at lt =
+    let low : nat_lt l n ≡ false = ap (is_some_and (λ l. nat_lt l n)) (sym at) ∙ is in
+    omega (arith, lt, ltb-false l n low)
 
 -- ---- what a question asks
 
@@ -91,6 +104,7 @@ question_of house line question (askpart name partition key epsilon program, is,
 question_of house line question (hello name, is, holds) = absurd (cc (holds))
 question_of house line question (recall name number, is, holds) = absurd (cc (holds))
 question_of house line question (left name, is, holds) = absurd (cc (holds))
+question_of house line question (mine name, is, holds) = absurd (cc (holds))
 question_of house line question (bye, is, holds) = absurd (cc (holds))
 
 -- ---- the program's bytes and its term
@@ -317,18 +331,21 @@ module _ (start : ℕ → ℕ) (records : ℕ → List Record) where
           → RefusesAsk entry (start subject.number) g the_ask (OverBudget spent after budget seen) → ⊥
       within is spent after budget seen of = omega (arith, of.0, ltb-false (budget_of entry g) (cost_with entry g the_ask) is)
 
-      abbrev told : (over full : Bool) → Verdict
-      told over full = verdict_by_money the_ask (cond over (Err (IsOver (cost_of entry g) (cost_with entry g the_ask) (budget_of entry g) (length g)))
-          (cond full (Err (Full (length g) still_open entry.capacity))
-          (Ok (record { number = next_number g; taken = rise_of entry g the_ask; seen = length g + 1 }))))
+      with_room : nat_lt entry.capacity (length g + still_open + 2) ≡ false → (used unsettled capacity : ℕ)
+          → RefusesAsk entry (start subject.number) g the_ask (JournalFull used unsettled capacity) → ⊥
+      with_room is used unsettled capacity of = omega (arith, of.0, ltb-false entry.capacity (length g + still_open + 2) is)
 
-      money_first : (over full : Bool) → nat_lt (budget_of entry g) (cost_with entry g the_ask) ≡ over → nat_lt entry.capacity (length g + still_open + 2) ≡ full
-          → First (told over full)
-      money_first true full over_is full_is = (
+      abbrev told : (over full beyond : Bool) → Verdict
+      told over full beyond = verdict_by_money the_ask (first_bar ((over, IsOver (cost_of entry g) (cost_with entry g the_ask) (budget_of entry g) (length g))
+          ∷ (full, Full (length g) still_open entry.capacity) ∷ (beyond, over_share entry g the_ask) ∷ []) (grant_for entry g the_ask))
+
+      money_first : (over full beyond : Bool) → nat_lt (budget_of entry g) (cost_with entry g the_ask) ≡ over → nat_lt entry.capacity (length g + still_open + 2) ≡ full
+          → is_over_share entry g the_ask ≡ beyond → First (told over full beyond)
+      money_first true full beyond over_is full_is beyond_is = (
         (subject, the_ask, asking, (ltb-true (budget_of entry g) (cost_with entry g the_ask) over_is, refl, refl, refl, refl)),
         each_asked (λ other. 40 ≤ code_of other) (λ r of. money_high r),
       )
-      money_first false true over_is full_is = (
+      money_first false true beyond over_is full_is beyond_is = (
         (subject, the_ask, asking, (ltb-true entry.capacity (length g + still_open + 2) full_is, refl, refl, refl)),
         each_asked
             (λ other. 41 ≤ code_of other) later,
@@ -337,11 +354,21 @@ module _ (start : ℕ → ℕ) (records : ℕ → List Record) where
           later : (r : MoneyRefusal) → RefusesAsk entry (start subject.number) g the_ask r → 41 ≤ money_code r
           later (OverBudget spent after budget seen) of = absurd (within over_is spent after budget seen of)
           later (JournalFull used unsettled capacity) of = omega arith
-      money_first false false over_is full_is = each_asked (λ other. ⊥) never
+          later (OverShare spent after limit seen) of = omega arith
+      money_first false false true over_is full_is beyond_is =
+          let past = beyond_limit (limit_of entry analyst) (spent_with entry g the_ask) beyond_is in
+          ((subject, the_ask, asking, (past.0, past.1, refl, refl, refl)), each_asked (λ other. 43 ≤ code_of other) last)
+        where
+          last : (r : MoneyRefusal) → RefusesAsk entry (start subject.number) g the_ask r → 43 ≤ money_code r
+          last (OverBudget spent after budget seen) of = absurd (within over_is spent after budget seen of)
+          last (JournalFull used unsettled capacity) of = absurd (with_room full_is used unsettled capacity of)
+          last (OverShare spent after limit seen) of = omega arith
+      money_first false false false over_is full_is beyond_is = each_asked (λ other. ⊥) never
         where
           never : (r : MoneyRefusal) → RefusesAsk entry (start subject.number) g the_ask r → ⊥
           never (OverBudget spent after budget seen) of = within over_is spent after budget seen of
-          never (JournalFull used unsettled capacity) of = omega (arith, of.0, ltb-false entry.capacity (length g + still_open + 2) full_is)
+          never (JournalFull used unsettled capacity) of = with_room full_is used unsettled capacity of
+          never (OverShare spent after limit seen) of = within_limit (limit_of entry analyst) (spent_with entry g the_ask) limit beyond_is of.0 of.1
 
     -- what the verdict on the query is, by what its bytes come to
     abbrev TheVerdict : Judgement → Verdict → Type 0
@@ -357,7 +384,7 @@ module _ (start : ℕ → ℕ) (records : ℕ → List Record) where
         let a = accepted_as tables (read t) u (Fin p q) judged in
         subst First (sym is)
         (money_first p q (u, subst (λ (r : Reading). IsReading program r) a.0 reads, a.1)
-        (λ r of. none r (of_term the_question subject refl t reads r of)) _ _ refl refl)
+        (λ r of. none r (of_term the_question subject refl t reads r of)) _ _ _ refl refl refl)
 
     verdict_first : (reading : Reading) → IsReading program reading → (v : Verdict) → TheVerdict (judgement_of tables reading) v → First v
     unfolding judgement_of

@@ -3,17 +3,17 @@ use Rattle.std.proofs.Common.{◌≡◌, ℕ, ◌+◌, List, map, slice_get, Opt
 use Rattle.std.specs.List.{AllByRecursion}
 use Rattle.budget_core.specs.Answers.{recalled_from}
 use Rattle.budget_ledger.specs.declared.failure.Failure.{Failure}
-use Rattle.wire_lines.specs.Reply.{Replied, greeted, answered, recalled, remaining, ended, refused}
+use Rattle.wire_lines.specs.Reply.{Replied, greeted, answered, recalled, remaining, spending, ended, refused}
 use Rattle.wire_lines.specs.Refusal.{by_line, by_program, by_money, by_disk, by_number, no_memory}
 use Rattle.wire_lines.specs.declared.refusal.DiskRefusal.TheVariants.{Closed, Fault}
 use Rattle.wire_lines.specs.declared.refusal.NumberRefusal.TheVariants.{Exhausted as NoNoise, Lost as NoAnswer, Unknown, NotYours}
 use Rattle.session_core.specs.OwnerHouse.Owner.{Owner}
 use Rattle.session_core.specs.OwnerHouse.House.{House}
-use Rattle.session_core.specs.AnswerPath.Demand.{Demand, asks, balances, recalls}
+use Rattle.session_core.specs.AnswerPath.Demand.{Demand, asks, balances, recalls, spends}
 use Rattle.session_core.specs.AnswerPath.Query.{Query}
 use Rattle.session_core.specs.AnswerPath.Met.{IsMet}
 use Rattle.session_core.specs.AnswerPath.Shut.{disk_word}
-use Rattle.session_core.specs.AnswerPath.Standing.{IsRecalled, IsBalance}
+use Rattle.session_core.specs.AnswerPath.Standing.{IsRecalled, IsBalance, IsSpending}
 use Rattle.session_core.specs.Meant.{wants}
 use Rattle.session_core.specs.Turns.{meant_at}
 use Rattle.session_core.specs.Exchanges.{Exchange, ArePlain, IsPlain}
@@ -47,6 +47,7 @@ had_all (refused no_memory) had none = had
 had_all (greeted name) had none = tt
 had_all (recalled number standing seen) had none = tt
 had_all (remaining spent budget seen) had none = tt
+had_all (spending spent limit seen) had none = tt
 had_all ended had none = tt
 
 module _ (house : House) (draws : ℕ → ℕ → ℕ → ℕ) (count : ℕ) (crew : ℕ → ℕ) (found : Journals) (xs : List Exchange) (records : Journals) (closed : ℕ → Option Failure) (plain : ArePlain house xs)
@@ -73,13 +74,16 @@ module _ (house : House) (draws : ℕ → ℕ → ℕ → ℕ) (count : ℕ) (cr
         absurd (let both : Some its.0 ≡ None = sym its.1 ∙ unshut o owner here in cc (both))
 
     by_demand : (demand : Demand) → meant_at house x.turn ≡ wants o owner demand → NothingFailed x.reply
-    unfolding IsMet IsRecalled IsBalance
+    unfolding IsMet IsRecalled IsBalance IsSpending
     by_demand (asks query) meant = had_all x.reply (had k x at) (no_word query meant (disk_word x.reply) refl)
     by_demand (recalls analyst number) meant =
         let m = (met (recalls analyst number) meant).meets.0 in
         subst NothingFailed (sym m.2) (recall_had number (recalled_from (first_new (found o)) m.0 number analyst))
     by_demand balances meant =
         let m = (met balances meant).meets.0 in
+        subst NothingFailed (sym m.2) tt
+    by_demand (spends analyst) meant =
+        let m = (met (spends analyst) meant).meets.0 in
         subst NothingFailed (sym m.2) tt
 
   -- Nothing failed, where no book was shut and memory sufficed.

@@ -5,8 +5,9 @@ use Rattle.budget_core.specs.declared.entry.Ask.{Ask}
 use Rattle.budget_core.specs.declared.entry.Grant.{Grant}
 use Rattle.budget_core.specs.Cost.{cost_of, budget_of}
 use Rattle.budget_core.specs.Counts.{open_from}
-use Rattle.budget_core.specs.Entries.{Entry}
-use Rattle.budget_core.specs.Ledger.{cost_with}
+use Rattle.budget_core.specs.Entries.{Entry, limit_of}
+use Rattle.budget_core.specs.Ledger.{cost_with, spent_with}
+use Rattle.budget_core.specs.Mine.{spent_by}
 use Rattle.fz_ast.specs.Signature.{Signature}
 use Rattle.fz_ast.specs.Terms.{Term}
 use Rattle.linear_types.specs.Inferred.{Fault}
@@ -15,11 +16,11 @@ use Rattle.session_core.specs.ShapeLaw.Walk.{ShapeFault, Stops, shape}
 use Rattle.wire_lines.specs.Codes.{code_of}
 use Rattle.wire_lines.specs.Refusal.{ProgramRefusal, no_token, no_term, too_nested, Refusal, by_line, by_program, by_money, by_disk, by_number, no_memory}
 use Rattle.wire_lines.specs.Reply.{refused}
-use Rattle.wire_lines.specs.Request.{Asked, hello, ask, askpart, recall, left, bye, request_of}
+use Rattle.wire_lines.specs.Request.{Asked, hello, ask, askpart, recall, left, mine, bye, request_of}
 use Rattle.wire_lines.specs.declared.refusal.LineRefusal.{LineRefusal}
 use Rattle.wire_lines.specs.declared.refusal.LineRefusal.TheVariants.{NoEpsilon, NoHello}
 use Rattle.wire_lines.specs.declared.refusal.MoneyRefusal.{MoneyRefusal}
-use Rattle.wire_lines.specs.declared.refusal.MoneyRefusal.TheVariants.{OverBudget, JournalFull}
+use Rattle.wire_lines.specs.declared.refusal.MoneyRefusal.TheVariants.{OverBudget, JournalFull, OverShare}
 use Rattle.session_core.specs.OwnerHouse.Owner.{Owner, signature_of_view}
 use Rattle.session_core.specs.OwnerHouse.House.{House}
 use Rattle.session_core.specs.AnswerPath.Judgement.{fault_refusal, shape_refusal}
@@ -43,6 +44,7 @@ question_in house (askpart name partition key epsilon program) =
 question_in house (hello name) = None
 question_in house (recall name number) = None
 question_in house (left name) = None
+question_in house (mine name) = None
 question_in house bye = None
 
 -- The line asks this. (What breaks the form of lines, by 10 or 11, asks nothing.)
@@ -88,7 +90,8 @@ pub record IsAsking (who : Option ℕ) (question : Question) (subject : Subject)
   pub charged : IsCharged (signature_of_view subject.owner subject.view) question.program p q
   pub is : asking ≡ ask_for (record { analyst = analyst; view = subject.view; e = e; program = question.program }) p q
 
--- 40: the cost would be over the budget. 41: there is no room for what is open and for two records more.
+-- 40: the cost would be over the budget. 41: there is no room for what is open and for two records more. 43: what the analyst would have
+-- spent is over its limit.
 abbrev pub RefusesAsk : Entry → (start : ℕ) → List Record → Ask → MoneyRefusal → Type 0
 RefusesAsk entry start records asking (OverBudget spent after budget seen) =
     (budget_of entry records < cost_with entry records asking) × (spent ≡ cost_of entry records) × (after ≡ cost_with entry records asking)
@@ -97,6 +100,9 @@ RefusesAsk entry start records asking (OverBudget spent after budget seen) =
 RefusesAsk entry start records asking (JournalFull used unsettled capacity) =
     (entry.capacity < length records + open_from start records + 2) × (used ≡ length records) × (unsettled ≡ open_from start records)
     × (capacity ≡ entry.capacity)
+RefusesAsk entry start records asking (OverShare spent after limit seen) =
+    (limit_of entry asking.analyst ≡ Some limit) × (limit < spent_with entry records asking) × (spent ≡ spent_by entry records asking.analyst)
+    × (after ≡ spent_with entry records asking) × (seen ≡ length records)
 
 -- Each of these could refuse a question, where this analyst speaks and each owner has these records, those before start found.
 -- (A disk, a number and want of memory have other causes.)

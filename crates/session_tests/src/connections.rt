@@ -52,9 +52,9 @@ fn listed_draws(rt: HostRuntime) -> Result<(), Fail> {
 // comes back, so that the next ask is granted, and before that it stays.
 #[rattlefmt::skip]
 const EXHAUSTED: [(u8, &[u8]); 3] = [
-    (1, b"hello ann\nno 50 0\nleft 1000000 1000000 2\nno 40 1000000 2000000 1000000 2\n"),
-    (2, b"hello ann\nno 50 0\nleft 1000000 1000000 2\nno 40 1000000 2000000 1000000 2\n"),
-    (3, b"hello ann\nno 50 0\nleft 0 1000000 2\nno 50 1\n"),
+    (1, b"hello ann\nno 50 0\nleft 1000000 1000000 2\nmine 1000000 none 2\nno 40 1000000 2000000 1000000 2\n"),
+    (2, b"hello ann\nno 50 0\nleft 1000000 1000000 2\nmine 1000000 none 2\nno 40 1000000 2000000 1000000 2\n"),
+    (3, b"hello ann\nno 50 0\nleft 0 1000000 2\nmine 0 none 2\nno 50 1\n"),
 ];
 
 // The bytes of a new journal, in the layout of version 1 or of the later ones, as one of this version.
@@ -86,7 +86,7 @@ fn told_by_zeros<R: Threads + Wait + Sync>(
     ];
     let journal = in_version(alloc, &made_of(rt, alloc, &held)?, version)?;
     let mut house = served_of(alloc, &held, MemDisk::new(alloc, &journal, LARGE, &[])?)?;
-    let input = b"hello ann\nask census 1 size people\nleft census\nask census 1 size people\n";
+    let input = b"hello ann\nask census 1 size people\nleft census\nmine census\nask census 1 size people\n";
     let mut link = MemLink::new(alloc, input, 256, 256, &[])?;
     house.serve(rt, alloc, &mut link, &ListStreams::new(&[]));
     link.written().to_vec(alloc)

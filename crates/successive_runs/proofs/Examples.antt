@@ -144,9 +144,9 @@ stays told = record { still = λ failure is. is; adds_nothing = λ failure is. a
 
 answered_shuts : (draws : ℕ → ℕ → ℕ) (grant : Grant) (outcome : Outcome) (told : List Told) → ShutsFor draws clinic (asks a_query) unshut (answering grant outcome told) unshut
 unfolding ShutsBy
-answered_shuts draws grant (Answered value) told = (stays told, refl)
-answered_shuts draws grant Exhausted told = (stays told, refl)
-answered_shuts draws grant Lost told = (stays told, refl)
+answered_shuts draws grant (Answered value) told = ((stays told, refl), tt)
+answered_shuts draws grant Exhausted told = ((stays told, refl), tt)
+answered_shuts draws grant Lost told = ((stays told, refl), tt)
 
 first_leads : (draws : ℕ → ℕ → ℕ → ℕ) → LeadExactly house draws 0 0 [] (first_line (outcome_at draws 0) ∷ []) (made (outcome_at draws 0))
 unfolding meant_by request_of cost_of cost_of_charges partition_cost budget_of signature_in rows_in IsMetExactly IsAnswered
@@ -359,7 +359,7 @@ shut_by_failure draws = record {
 }
   where
     each : (i : ℕ) → i < 1 → ShutsOn house draws 0 unshut (part_of one_worker i 0 (unsettled ∷ [])) (shut_by (outcome_at draws 0)) × StillShut (Some (failed (outcome_at draws 0))) (Some (failed (outcome_at draws 0)))
-    each zero lt = ((shut_by (outcome_at draws 0), (failed (outcome_at draws 0), refl, refl, (outcome_at draws 0, opened, settled_with (HasWorthIn clinic a_query) 3 (noise_at 1000000 (draws 0 0)) three_value, refl), refl), refl), λ failure is. is)
+    each zero lt = ((shut_by (outcome_at draws 0), ((failed (outcome_at draws 0), refl, refl, (outcome_at draws 0, opened, settled_with (HasWorthIn clinic a_query) 3 (noise_at 1000000 (draws 0 0)) three_value, refl), refl), tt), refl), λ failure is. is)
     each (suc i) lt = absurd (omega (arith, lt))
 
 may_settle : (outcome : Outcome) → MayFollow clinic.entry opened (settling 0 outcome)

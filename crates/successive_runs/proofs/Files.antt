@@ -19,6 +19,7 @@ use Rattle.owner_house.specs.Owner.{Owner}
 use Rattle.owner_house.specs.House.{House, IsOwnerIn, house_of}
 use Rattle.owner_house.proofs.Owners.{entry_said, in_catalog, register_owners}
 use Rattle.query_server.specs.OwnerHistory.Sound.{IsFound}
+use Rattle.query_server.proofs.OwnerHistory.Sound.{history_limited}
 use Rattle.query_server.proofs.OwnerHistory.Prefixes.{prefix_self, prefix_by, prefix_trans}
 use Rattle.query_server.specs.AnswerPath.Demand.{Demand}
 use Rattle.query_server.specs.SessionCore.Code.{IsAnalyst}
@@ -121,7 +122,7 @@ module _ (house : House) (draws : ℕ → ℕ → ℕ → ℕ) (count : ℕ) (cr
     left_may : (bytes : List ℕ) → Left none_sent bytes → MayBeGoneOnFrom owner (draws o) header earlier bytes
     left_may bytes (left, stands, r) =
         let g = gone_on house draws o owner found earlier (the_run none_sent left) at inside f r left r.leaves in
-        (left, g.programs, stands, g.goes_on, g.explained)
+        (left, g.programs, stands, g.goes_on, g.explained, history_limited owner.entry left g.explained.history)
 
     pub lines_may_be_gone_on : WhereTold (Passes (MayBeGoneOnFrom owner (draws o) header earlier)) (noted Synced before.trace) after.trace × IfSome after.trace (Leaves (MayBeGoneOnFrom owner (draws o) header earlier))
     lines_may_be_gone_on = (

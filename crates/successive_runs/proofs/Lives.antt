@@ -12,9 +12,10 @@ use Rattle.owner_house.specs.Owner.{HasData, Owner}
 use Rattle.owner_house.specs.House.{House, IsOwnerIn}
 use Rattle.query_server.specs.OwnerHistory.Granted.{told_settlement, IsGranted}
 use Rattle.query_server.specs.OwnerHistory.Sound.{IsFound}
-use Rattle.query_server.proofs.OwnerHistory.Bounded.{explained_bounded}
+use Rattle.query_server.proofs.OwnerHistory.Bounded.{explained_bounded, explained_shares}
 use Rattle.query_server.proofs.OwnerHistory.Explaining.{explains_none}
 use Rattle.query_server.proofs.OwnerHistory.Prefixes.{prefix_self, prefix_trans}
+use Rattle.query_server.proofs.OwnerHistory.Sound.{history_limited}
 use Rattle.query_server.specs.AnswerPath.Query.{Query}
 use Rattle.query_server.specs.AnswerPath.Demand.{Demand, asks, recalls}
 use Rattle.query_server.specs.SessionCore.Meant.{wants}
@@ -173,7 +174,9 @@ module _ (draws : ℕ → ℕ → ℕ → ℕ) (o : ℕ) (owner : Owner) where
     programs = k.programs;
     goes_on = k.goes_on;
     explained = k.explained;
+    limited = history_limited owner.entry last k.explained.history;
     bounded = explained_bounded owner (draws o) k.programs last has k.explained.explained;
+    shares = explained_shares owner (draws o) k.programs last has k.explained.explained;
     borne_out = k.borne;
     answers = λ i place query n taken value w.
         answer_stands owner (draws o) k.programs last k.explained query n value (k.borne i place (asks query) (answered n value taken) w n (Answered value) refl);
@@ -196,7 +199,9 @@ some_told owner draws found earlier P Q last some k = record {
   programs = k.programs;
   goes_on = k.goes_on;
   explained = k.explained;
+  limited = k.limited;
   bounded = k.bounded;
+  shares = k.shares;
   borne_out = λ i place demand reply w. k.borne_out i place demand reply (some i place demand reply w);
   answers = λ i place query n taken value w. k.answers i place query n taken value (some i place (asks query) (answered n value taken) w);
   recalls = λ i place analyst asked n seen value w. k.recalls i place analyst asked n seen value (some i place (recalls analyst asked) (recalled n (Some (Answered value)) seen) w);

@@ -4,6 +4,7 @@ use Rattle.std.specs.Prelude.{ℤ}
 use Rattle.std.specs.Option.{option_or}
 use Rattle.std.proofs.lemmas.Option.{slice_get_within}
 use Rattle.std.proofs.lemmas.List.Elements.{filter_map-append}
+use mathlib.Core.Logic.{inl, inr}
 use mathlib.Core.List.{IsPrefix}
 use Rattle.journal_records.specs.declared.records.Outcome.{Outcome}
 use Rattle.journal_records.specs.declared.records.Outcome.TheVariants.{Answered}
@@ -14,8 +15,8 @@ use Rattle.journal_records.specs.Records.{reservation_in}
 use Rattle.budget_core.specs.Counts.{reservations_of, reservation_of, outcome_of}
 use Rattle.budget_core.specs.Entries.{Entry}
 use Rattle.budget_core.specs.Legal.{MayFollow, IsHistory}
-use Rattle.budget_core.proofs.Histories.{history-induction, slice_get-append-lt, slice_get-append-seam}
-use Rattle.budget_core.proofs.Numbers.{reservation_of-append, option_or-None, reservations-granted}
+use Rattle.budget_core.proofs.Histories.{history-induction, push_cases, slice_get-append-lt, slice_get-append-seam}
+use Rattle.budget_core.proofs.Numbers.{reservation_of-append, reservation_of-append-old, reservation_of-next, option_or-None, reservations-granted, reservations-settled, reservations-with}
 use Rattle.wire_lines.specs.Reply.{Replied}
 use Rattle.owner_house.specs.Owner.{Owner}
 use Rattle.query_server.specs.OwnerHistory.Explains.{IsNoisedValue, ExplainsOutcome}
@@ -23,7 +24,7 @@ use Rattle.query_server.specs.OwnerHistory.Granted.{IsGranted, IsSettledFor}
 use Rattle.query_server.specs.OwnerHistory.Sound.{IsFound}
 use Rattle.query_server.proofs.OwnerHistory.Steps.{granted_on, settled_for_on}
 use Rattle.query_server.specs.AnswerPath.Query.{Query}
-use Rattle.query_server.specs.AnswerPath.Demand.{Demand, asks, recalls, balances}
+use Rattle.query_server.specs.AnswerPath.Demand.{Demand, asks, recalls, balances, spends}
 use Rattle.query_server.specs.SessionCore.Served.{IsBorneOutTo}
 use Rattle.query_server.proofs.SessionLaws.Listed.{stands_at}
 use Rattle.successive_runs.specs.Kept.{StandsAnswered, StandsRecalled}
@@ -73,9 +74,26 @@ module _ (owner : Owner) (draws : ℕ → ℕ → ℕ) (programs : List (List �
       let p = stands_at programs n (subst (λ (k : ℕ). n < k) (sym f.explained.each_has) within) in
       record { settled = s; program = p.0; numbered = p.1; noised = noised_at n s.reserved p.0 value s.numbered p.1 s.settled }
 
+-- What stands at a number is the number's reservation.
+pub numbered_at : (entry : Entry) (records : List Record) → IsHistory entry records → (n : ℕ) (r : Reservation) → slice_get (reservations_of records) n ≡ Some r → reservation_of records n ≡ Some r
+numbered_at entry = history-induction entry (λ records. (n : ℕ) (r : Reservation) → slice_get (reservations_of records) n ≡ Some r → reservation_of records n ≡ Some r) (λ n r is. absurd (cc (is))) step
+  where
+    step : (xs : List Record) (x : Record) → IsHistory entry xs → MayFollow entry xs x → ((n : ℕ) (r : Reservation) → slice_get (reservations_of xs) n ≡ Some r → reservation_of xs n ≡ Some r)
+        → (n : ℕ) (r : Reservation) → slice_get (reservations_of (xs ++ x ∷ [])) n ≡ Some r → reservation_of (xs ++ x ∷ []) n ≡ Some r
+    step xs (Settle s) h may before n r is =
+        reservation_of-append-old xs (Settle s) n r (before n r (ap (λ (rs : List Reservation). slice_get rs n) (sym (reservations-settled xs s)) ∙ is))
+    step xs (Granted g) h may before n r is =
+        reservation_of-append-old xs (Granted g) n r (before n r (ap (λ (rs : List Reservation). slice_get rs n) (sym (reservations-granted xs g)) ∙ is))
+    step xs (Reserve s) h may before n r is = elim (push_cases (reservations_of xs) s n r (ap (λ (rs : List Reservation). slice_get rs n) (sym (reservations-with xs s)) ∙ is)) [
+      | inl known ↦ reservation_of-append-old xs (Reserve s) n r (before n r known.1)
+      | inr last ↦ subst (λ (k : ℕ). reservation_of (xs ++ Reserve s ∷ []) k ≡ Some r) (may.numbered ∙ sym last.0)
+          (reservation_of-next entry xs s h may.numbered ∙ ap (λ (t : Reservation). Some t) last.1)
+    ]
+
 -- What a reply says stays so.
 pub borne_on : (programs more : List (List ℕ)) (records after : List Record) → IsPrefix programs more → IsPrefix records after → (demand : Demand) (reply : Replied)
     → IsBorneOutTo programs records demand reply → IsBorneOutTo more after demand reply
 borne_on programs more records after p r (asks query) reply borne = λ n outcome said. granted_on programs more records after query n outcome p r (borne n outcome said)
 borne_on programs more records after p r (recalls analyst number) reply borne = λ n outcome said. settled_for_on records after analyst n outcome r (borne n outcome said)
 borne_on programs more records after p r balances reply borne = tt
+borne_on programs more records after p r (spends analyst) reply borne = tt

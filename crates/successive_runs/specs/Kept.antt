@@ -11,17 +11,19 @@ use Rattle.owner_house.specs.Owner.{Owner}
 use Rattle.owner_house.specs.House.{House}
 use Rattle.query_server.specs.OwnerHistory.Explains.{IsNoisedValue}
 use Rattle.query_server.specs.OwnerHistory.Granted.{IsGranted, IsSettledFor, told_settlement}
-use Rattle.query_server.specs.OwnerHistory.Sound.{IsFound, IsDisplacementBounded}
+use Rattle.query_server.specs.OwnerHistory.Limits.{AreWithinLimits}
+use Rattle.query_server.specs.OwnerHistory.Sound.{IsFound, IsDisplacementBounded, AreSharesBounded}
 use Rattle.query_server.specs.AnswerPath.Query.{Query}
 use Rattle.query_server.specs.AnswerPath.Demand.{Demand, asks, recalls}
 use Rattle.query_server.specs.SessionCore.Served.{IsBorneOutTo}
 use Rattle.successive_runs.specs.Houses.{Housed, WasSentIn}
 use Rattle.successive_runs.specs.Life.{Run, WasSent}
 
--- A file stands for records that programs explain, which begin with these.
+-- A file stands for records that programs explain, which begin with these, and each analyst is within its limit.
 abbrev pub MayBeGoneOnFrom : Owner → (ℕ → ℕ → ℕ) → Header → (earlier : List (List ℕ)) → (bytes : List ℕ) → Type 0
 MayBeGoneOnFrom owner draws header earlier bytes =
     (left : List Record) × (programs : List (List ℕ)) × Stands header left bytes × IsPrefix earlier programs × IsFound owner draws programs left
+    × AreWithinLimits owner.entry left
 
 -- The query was granted the number, whose reservation has its analyst, view and epsilon; it stands settled with this answer, which is
 -- its program's value on its part plus what the sampler draws for the number.
@@ -41,16 +43,19 @@ pub record StandsRecalled (owner : Owner) (draws : ℕ → ℕ → ℕ) (program
 
 -- Behind the owner's records, which begin with those found, stand programs that begin with the earlier ones and explain all records;
 -- these are legal and within the budget, and against any second dataset epsilon times displacement, added up over all answers, is at
--- most what is spent times the distance. What any reply that was told says of a number stands in them; each answer that was told, to its
--- query or to a recall, stands, and is its program's value plus its number's noise. No number was told to two lines. `Told` says which line
--- of which run demanded what, and was told which reply.
+-- most what is spent times the distance. Each analyst is within its limit, and its own answers come to at most what it has spent times the
+-- distance. What any reply that was told says of a number stands in them; each answer that was told, to its query or to a recall, stands,
+-- and is its program's value plus its number's noise. No number was told to two lines. `Told` says which line of which run demanded what,
+-- and was told which reply.
 pub record KeepAll (owner : Owner) (draws : ℕ → ℕ → ℕ) (found : List Record) (earlier : List (List ℕ))
     (Told : (i place : ℕ) → Demand → Replied → Type 0) (last : List Record) : Type 0 where
   pub begins : IsPrefix found last
   pub programs : List (List ℕ)
   pub goes_on : IsPrefix earlier programs
   pub explained : IsFound owner draws programs last
+  pub limited : AreWithinLimits owner.entry last
   pub bounded : IsDisplacementBounded owner programs last
+  pub shares : AreSharesBounded owner programs last
   pub borne_out : (i place : ℕ) (demand : Demand) (reply : Replied) → Told i place demand reply → IsBorneOutTo programs last demand reply
   pub answers : (i place : ℕ) (query : Query) (n taken : ℕ) (value : ℤ) → Told i place (asks query) (answered n value taken)
       → StandsAnswered owner draws programs last query n value

@@ -6,9 +6,9 @@ use Rattle.wire_lines.specs.Lines.{lines_of, words_of, joined}
 use Rattle.wire_lines.specs.Name.{is_name}
 use Rattle.wire_lines.specs.Number.{number_of}
 use Rattle.wire_lines.specs.Epsilon.{epsilon_of}
-use Rattle.wire_lines.specs.Request.{hello, ask, askpart, recall, left, bye, line_limit, request_of, fault_of}
+use Rattle.wire_lines.specs.Request.{hello, ask, askpart, recall, left, mine, bye, line_limit, request_of, fault_of}
 use Rattle.wire_lines.specs.Refusal.{by_line, by_program, by_money, by_disk, by_number, no_memory, no_token, no_term, too_nested, ill_typed, too_sensitive, out_of_range, unbounded, no_number, too_deep, too_long, too_wide}
-use Rattle.wire_lines.specs.Reply.{greeted, answered, recalled, remaining, ended, refused, reply_text}
+use Rattle.wire_lines.specs.Reply.{greeted, answered, recalled, remaining, spending, ended, refused, reply_text}
 use Rattle.wire_lines.specs.declared.refusal.LineRefusal.TheVariants.{Malformed, TooLong, Unknown, NoEpsilon, NoHello}
 use Rattle.wire_lines.specs.declared.refusal.MoneyRefusal.TheVariants.{OverBudget, JournalFull, OverShare}
 use Rattle.wire_lines.specs.declared.refusal.DiskRefusal.TheVariants.{Closed, Fault as DiskFault}
@@ -264,6 +264,10 @@ a_left : request_of (codes "left census") ≡ Ok (left (codes "census"))
 unfolding request_of
 a_left = refl
 
+a_mine : request_of (codes "mine census") ≡ Ok (mine (codes "census"))
+unfolding request_of
+a_mine = refl
+
 a_bye : request_of (codes "bye") ≡ Ok bye
 unfolding request_of
 a_bye = refl
@@ -389,6 +393,22 @@ left_space_behind = refl
 left_two_words : request_of (codes "left census 0") ≡ Err (Malformed 2)
 unfolding request_of
 left_two_words = refl
+
+mine_alone : request_of (codes "mine") ≡ Err (Malformed 1)
+unfolding request_of
+mine_alone = refl
+
+mine_two_spaces : request_of (codes "mine  census") ≡ Err (Malformed 1)
+unfolding request_of
+mine_two_spaces = refl
+
+mine_space_behind : request_of (codes "mine census ") ≡ Err (Malformed 2)
+unfolding request_of
+mine_space_behind = refl
+
+mine_two_words : request_of (codes "mine census x") ≡ Err (Malformed 2)
+unfolding request_of
+mine_two_words = refl
 
 askpart_alone : request_of (codes "askpart") ≡ Err (Malformed 1)
 unfolding request_of
@@ -532,6 +552,15 @@ what_is_left = refl
 nothing_spent : reply_text (remaining 0 1000000000000000000 0) ≡ codes "left 0 1000000000000000000 0\n"
 unfolding reply_text digits
 nothing_spent = refl
+
+-- spent, limit, records seen
+what_is_mine : reply_text (spending 1000000 (Some 1000000) 4) ≡ codes "mine 1000000 1000000 4\n"
+unfolding reply_text digits
+what_is_mine = refl
+
+mine_without_a_limit : reply_text (spending 0 None 0) ≡ codes "mine 0 none 0\n"
+unfolding reply_text digits
+mine_without_a_limit = refl
 
 a_farewell : reply_text ended ≡ codes "bye\n"
 unfolding reply_text digits

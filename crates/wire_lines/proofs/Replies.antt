@@ -14,7 +14,7 @@ use Rattle.std.proofs.lemmas.List.Splits.{length-slice_split, slice_split_none, 
 use Rattle.wire_lines.specs.Lines.{lf, space, words_of, pieces_of}
 use Rattle.fz_frac.specs.Distance.{Distance, Fin, Inf}
 use Rattle.wire_lines.specs.Refusal.{ProgramRefusal, no_token, no_term, too_nested, ill_typed, too_sensitive, out_of_range, unbounded, no_number, too_deep, too_long, too_wide, Refusal, by_line, by_program, by_money, by_disk, by_number, no_memory}
-use Rattle.wire_lines.specs.Reply.{Replied, greeted, answered, recalled, remaining, ended, refused, Datum, number, signed, text, ratio, datum_text, sensitivity_text, reply_words, refusal_words, reply_text, HasSize, IsReply, type_fault_text}
+use Rattle.wire_lines.specs.Reply.{Replied, greeted, answered, recalled, remaining, spending, ended, refused, Datum, number, signed, text, ratio, datum_text, sensitivity_text, limit_word, reply_words, refusal_words, reply_text, HasSize, IsReply, type_fault_text}
 use Rattle.wire_lines.specs.declared.refusal.LineRefusal.{LineRefusal}
 use Rattle.wire_lines.specs.declared.refusal.LineRefusal.TheVariants.{Malformed, TooLong, Unknown, NoEpsilon, NoHello}
 use Rattle.wire_lines.specs.declared.refusal.MoneyRefusal.TheVariants.{OverBudget, JournalFull, OverShare}
@@ -144,12 +144,16 @@ recalled_value ws =
     (recalled (num ws 0) (Some (Answered (signed_value (nth ws 2)))) (num ws 3))
     (recalled (num ws 0) (unanswered_value (nth ws 1)) (num ws 2))
 
+abbrev limit_value : List ℕ → Option ℕ
+limit_value word = cond (bytes_eq word (codes "none")) None (Some (value word))
+
 abbrev rows : List (List ℕ × (List (List ℕ) → Replied))
 rows =
     (codes "hello", λ ws. greeted (nth ws 0))
     ∷ (codes "answer", λ ws. answered (num ws 0) (signed_value (nth ws 1)) (num ws 2))
     ∷ (codes "recall", λ ws. recalled_value ws)
     ∷ (codes "left", λ ws. remaining (num ws 0) (num ws 1) (num ws 2))
+    ∷ (codes "mine", λ ws. spending (num ws 0) (limit_value (nth ws 1)) (num ws 2))
     ∷ (codes "bye", λ ws. ended)
     ∷ (codes "10", λ ws. refused (by_line (Malformed (num ws 0))))
     ∷ (codes "11", λ ws. refused (by_line TooLong))
@@ -216,9 +220,14 @@ no_slash : (digits : List ℕ) → list_all is_ascii_digit digits ≡ true → A
 no_slash [] h = tt
 no_slash (b ∷ digits) h = let (one, others) = and_parts (is_ascii_digit b) (list_all is_ascii_digit digits) h in (not_digit b 47 one refl, no_slash digits others)
 
-not_inf : (digits : List ℕ) → list_all is_ascii_digit digits ≡ true → bytes_eq digits (codes "inf") ≡ false
-not_inf [] h = refl
-not_inf (b ∷ digits) h = and_left (eqb b 105) _ (not_digit b 105 (and_parts (is_ascii_digit b) (list_all is_ascii_digit digits) h).0 refl)
+-- a numeral is no text with another first byte than a digit
+not_text : (digits : List ℕ) (c : ℕ) (bytes : List ℕ) → list_all is_ascii_digit digits ≡ true → is_ascii_digit c ≡ false → bytes_eq digits (c ∷ bytes) ≡ false
+not_text [] c bytes h other = refl
+not_text (b ∷ digits) c bytes h other = and_left (eqb b c) _ (not_digit b c (and_parts (is_ascii_digit b) (list_all is_ascii_digit digits) h).0 other)
+
+limit_is : (limit : Option ℕ) → HasSize (limit_word limit) → limit_value (datum_text (limit_word limit)) ≡ limit
+limit_is None h = refl
+limit_is (Some n) h = rw (not_text (decimal n) 110 (codes "one") (decimal_digits n h) refl) (ap (λ (k : ℕ). Some k) (value_is n h))
 
 ratio_is : (r : Distance) → HasSize (ratio r) → ratio_value (sensitivity_text r) ≡ r
 ratio_is Inf h = refl
@@ -228,7 +237,7 @@ ratio_is (Fin p q) (first, second) =
     slice_split_at _ (decimal p) 47 (decimal q) (All-from_recursion _ (decimal p) (no_slash (decimal p) (decimal_digits p first))) refl
     ∙ ap (λ ws. decimal p ∷ ws) (slice_split_none _ (decimal q) (All-from_recursion _ (decimal q) (no_slash (decimal q) (decimal_digits q second)))) in
     elim (cases_Bool (eqb q 1)) [
-      | inl whole ↦ rw (whole, one, not_inf (decimal p) (decimal_digits p first), value_is p first) (ap (Fin p) (sym (eqb-true q 1 whole)))
+      | inl whole ↦ rw (whole, one, not_text (decimal p) 105 (codes "nf") (decimal_digits p first) refl, value_is p first) (ap (Fin p) (sym (eqb-true q 1 whole)))
       | inr part ↦ rw (part, two, value_is p first, value_is q second) refl
     ]
 
@@ -240,6 +249,7 @@ read_back_is (recalled n None seen) h = rw (value_is n h.0, value_is seen h.1.1.
 read_back_is (recalled n (Some Lost) seen) h = rw (value_is n h.0, value_is seen h.1.1.0) refl
 read_back_is (recalled n (Some Exhausted) seen) h = rw (value_is n h.0, value_is seen h.1.1.0) refl
 read_back_is (remaining spent budget seen) h = rw (value_is spent h.0, value_is budget h.1.0, value_is seen h.1.1.0) refl
+read_back_is (spending spent limit seen) h = rw (value_is spent h.0, limit_is limit h.1.0, value_is seen h.1.1.0) refl
 read_back_is ended h = refl
 read_back_is (refused (by_line (Malformed n))) h = rw (value_is n h.0) refl
 read_back_is (refused (by_line TooLong)) h = refl
@@ -315,6 +325,7 @@ kind_no_lf (greeted analyst) = refl
 kind_no_lf (answered n z taken) = refl
 kind_no_lf (recalled n outcome seen) = refl
 kind_no_lf (remaining spent budget seen) = refl
+kind_no_lf (spending spent limit seen) = refl
 kind_no_lf ended = refl
 kind_no_lf (refused refusal) = refusal_no_lf refusal
 

@@ -11,9 +11,9 @@ use Rattle.std.proofs.lemmas.Slice.Eq.{bytes_eq-Decides}
 use Rattle.wire_lines.specs.Lines.{space, words_of, joined}
 use Rattle.wire_lines.specs.Number.{IsNumberText, is_number}
 use Rattle.wire_lines.specs.Epsilon.{epsilon_of}
-use Rattle.wire_lines.specs.Request.{Asked, hello, ask, askpart, recall, left, bye, IsWord, IsAmount, IsRequest, line_limit, one_word, one_number, all_rest, fault_from, fault_among, fault_of, word_at, rest_at, end_at, hello_from, ask_from, askpart_from, recall_from, left_from, bye_from, request_from, request_of, asked, reading, HasEpsilonInRange}
+use Rattle.wire_lines.specs.Request.{Asked, hello, ask, askpart, recall, left, mine, bye, IsWord, IsAmount, IsRequest, line_limit, one_word, one_number, all_rest, fault_from, fault_among, fault_of, word_at, rest_at, end_at, hello_from, ask_from, askpart_from, recall_from, left_from, mine_from, bye_from, request_from, request_of, asked, reading, HasEpsilonInRange}
 use Rattle.wire_lines.specs.declared.request.Request.{Request}
-use Rattle.wire_lines.specs.declared.request.Request.TheVariants.{Hello, Ask, AskPart, Recall, Left, Bye}
+use Rattle.wire_lines.specs.declared.request.Request.TheVariants.{Hello, Ask, AskPart, Recall, Left, Mine, Bye}
 use Rattle.wire_lines.specs.declared.refusal.LineRefusal.{LineRefusal}
 use Rattle.wire_lines.specs.declared.refusal.LineRefusal.TheVariants.{Malformed, TooLong, Unknown, NoEpsilon, NoHello}
 use Rattle.wire_lines.specs.Refusal.{IsFormRefusal}
@@ -161,6 +161,14 @@ left_found ((b ∷ bytes) ∷ []) r apart h =
     let same : left (b ∷ bytes) ≡ r = cc in
     subst (λ q. IsRequest (joined (codes "left" ∷ (b ∷ bytes) ∷ [])) q) same (a_word (b ∷ bytes) (omega arith) apart.0, refl)
 
+mine_found : (words : List (List ℕ)) (r : Asked) → AllByRecursion HasNoSpace words → mine_from words ≡ Ok r → IsRequest (joined (codes "mine" ∷ words)) r
+mine_found [] r apart h = absurd cc
+mine_found ([] ∷ words) r apart h = absurd cc
+mine_found ((b ∷ bytes) ∷ w ∷ words) r apart h = absurd cc
+mine_found ((b ∷ bytes) ∷ []) r apart h =
+    let same : mine (b ∷ bytes) ≡ r = cc in
+    subst (λ q. IsRequest (joined (codes "mine" ∷ (b ∷ bytes) ∷ [])) q) same (a_word (b ∷ bytes) (omega arith) apart.0, refl)
+
 bye_found : (words : List (List ℕ)) (r : Asked) → bye_from words ≡ Ok r → IsRequest (joined (codes "bye" ∷ words)) r
 bye_found [] r h = let same : bye ≡ r = cc in subst (λ q. IsRequest (codes "bye") q) same refl
 bye_found (w ∷ words) r h = absurd cc
@@ -185,10 +193,14 @@ from_found (kind ∷ words) r apart h = elim (cases_Bool (bytes_eq kind (codes "
         | inr not_recall ↦ elim (cases_Bool (bytes_eq kind (codes "left"))) [
           | inl is_left ↦
               subst (λ k. IsRequest (joined (k ∷ words)) r) (sym (kind_is kind (codes "left") is_left)) (left_found words r apart.1 (rw (not_hello, not_ask, not_askpart, not_recall, is_left) at h))
-          | inr not_left ↦ elim (cases_Bool (bytes_eq kind (codes "bye"))) [
-            | inl is_bye ↦
-                subst (λ k. IsRequest (joined (k ∷ words)) r) (sym (kind_is kind (codes "bye") is_bye)) (bye_found words r (rw (not_hello, not_ask, not_askpart, not_recall, not_left, is_bye) at h))
-            | inr not_bye ↦ let none : Err (Malformed 0) ≡ Ok r = rw (not_hello, not_ask, not_askpart, not_recall, not_left, not_bye) at h in absurd cc
+          | inr not_left ↦ elim (cases_Bool (bytes_eq kind (codes "mine"))) [
+            | inl is_mine ↦
+                subst (λ k. IsRequest (joined (k ∷ words)) r) (sym (kind_is kind (codes "mine") is_mine)) (mine_found words r apart.1 (rw (not_hello, not_ask, not_askpart, not_recall, not_left, is_mine) at h))
+            | inr not_mine ↦ elim (cases_Bool (bytes_eq kind (codes "bye"))) [
+              | inl is_bye ↦
+                  subst (λ k. IsRequest (joined (k ∷ words)) r) (sym (kind_is kind (codes "bye") is_bye)) (bye_found words r (rw (not_hello, not_ask, not_askpart, not_recall, not_left, not_mine, is_bye) at h))
+              | inr not_bye ↦ let none : Err (Malformed 0) ≡ Ok r = rw (not_hello, not_ask, not_askpart, not_recall, not_left, not_mine, not_bye) at h in absurd cc
+            ]
           ]
         ]
       ]
@@ -234,6 +246,10 @@ left_taken : (words : List (List ℕ)) (owner : List ℕ) → IsWord owner → w
 left_taken words [] word e = absurd (omega arith)
 left_taken words (b ∷ bytes) word e = ap left_from e
 
+mine_taken : (words : List (List ℕ)) (owner : List ℕ) → IsWord owner → words ≡ owner ∷ [] → mine_from words ≡ Ok (mine owner)
+mine_taken words [] word e = absurd (omega arith)
+mine_taken words (b ∷ bytes) word e = ap mine_from e
+
 pub request_taken : (line : List ℕ) (r : Asked) → IsRequest line r → request_from (words_of line) ≡ Ok r
 request_taken line (hello analyst) (word, spelled) =
     ap request_from (words_cut line (codes "hello") analyst (literal_word (codes "hello") refl) spelled)
@@ -266,6 +282,9 @@ request_taken line (recall owner number) (digits, word, written, spelled) =
 request_taken line (left owner) (word, spelled) =
     ap request_from (words_cut line (codes "left") owner (literal_word (codes "left") refl) spelled)
     ∙ left_taken (words_of owner) owner word (words_one owner word.1)
+request_taken line (mine owner) (word, spelled) =
+    ap request_from (words_cut line (codes "mine") owner (literal_word (codes "mine") refl) spelled)
+    ∙ mine_taken (words_of owner) owner word (words_one owner word.1)
 request_taken line bye spelled = ap (λ bytes. request_from (words_of bytes)) spelled
 
 -- A reading and a fault that say the same, the fault being one of the first six words.
@@ -325,6 +344,13 @@ left_agrees ([] ∷ words) = (refl, omega arith)
 left_agrees ((b ∷ bytes) ∷ []) = tt
 left_agrees ((b ∷ bytes) ∷ w ∷ words) = (refl, omega arith)
 
+mine_agrees : (words : List (List ℕ)) → Agree (mine_from words) (fault_from 1 (one_word ∷ []) words)
+unfolding Agree
+mine_agrees [] = (refl, omega arith)
+mine_agrees ([] ∷ words) = (refl, omega arith)
+mine_agrees ((b ∷ bytes) ∷ []) = tt
+mine_agrees ((b ∷ bytes) ∷ w ∷ words) = (refl, omega arith)
+
 bye_agrees : (words : List (List ℕ)) → Agree (bye_from words) (fault_from 1 [] words)
 unfolding Agree
 bye_agrees [] = tt
@@ -343,9 +369,12 @@ agree (kind ∷ words) = elim (cases_Bool (bytes_eq kind (codes "hello"))) [
         | inl is_recall ↦ rw (not_hello, not_ask, not_askpart, is_recall) (recall_agrees words)
         | inr not_recall ↦ elim (cases_Bool (bytes_eq kind (codes "left"))) [
           | inl is_left ↦ rw (not_hello, not_ask, not_askpart, not_recall, is_left) (left_agrees words)
-          | inr not_left ↦ elim (cases_Bool (bytes_eq kind (codes "bye"))) [
-            | inl is_bye ↦ rw (not_hello, not_ask, not_askpart, not_recall, not_left, is_bye) (bye_agrees words)
-            | inr not_bye ↦ rw (not_hello, not_ask, not_askpart, not_recall, not_left, not_bye) (refl, omega arith)
+          | inr not_left ↦ elim (cases_Bool (bytes_eq kind (codes "mine"))) [
+            | inl is_mine ↦ rw (not_hello, not_ask, not_askpart, not_recall, not_left, is_mine) (mine_agrees words)
+            | inr not_mine ↦ elim (cases_Bool (bytes_eq kind (codes "bye"))) [
+              | inl is_bye ↦ rw (not_hello, not_ask, not_askpart, not_recall, not_left, not_mine, is_bye) (bye_agrees words)
+              | inr not_bye ↦ rw (not_hello, not_ask, not_askpart, not_recall, not_left, not_mine, not_bye) (refl, omega arith)
+            ]
           ]
         ]
       ]
@@ -448,6 +477,7 @@ result_epsilon line (Ok (AskPart owner partition key None program)) h = tt
 result_epsilon line (Ok (AskPart owner partition key (Some n) program)) h = let (amount, first, second, third, fourth, (whole, fraction, numeral, written, value, low, high), spelled) = (grammar_from line (askpart owner.now partition.now key.now (Some n) program.now) (sym h)).1 in (low, high)
 result_epsilon line (Ok (Recall owner number)) h = tt
 result_epsilon line (Ok (Left owner)) h = tt
+result_epsilon line (Ok (Mine owner)) h = tt
 result_epsilon line (Ok Bye) h = tt
 result_epsilon line (Err fault) h = tt
 

@@ -11,7 +11,7 @@ use Rattle.wire_lines.specs.Codes.{code_of, code_text}
 use Rattle.wire_lines.specs.Refusal.{ProgramRefusal, no_token, no_term, too_nested, ill_typed, too_sensitive, out_of_range, unbounded, no_number, too_deep}
 use Rattle.wire_lines.specs.Refusal.{too_long, too_wide, Refusal, by_line, by_program, by_money, by_disk, by_number, no_memory, refusal_at}
 use Rattle.wire_lines.specs.declared.reply.Reply.{Reply}
-use Rattle.wire_lines.specs.declared.reply.Reply.TheVariants.{Hello, Answer, Recalled, Left, Bye, Refused}
+use Rattle.wire_lines.specs.declared.reply.Reply.TheVariants.{Hello, Answer, Recalled, Left, Mine, Bye, Refused}
 use Rattle.journal_records.specs.declared.records.Outcome.{Outcome}
 use Rattle.journal_records.specs.declared.records.Outcome.TheVariants.{Answered, Exhausted, Lost}
 use Rattle.wire_lines.specs.declared.reply.Field.{Field}
@@ -33,6 +33,7 @@ pub data Replied : Type 0 where
   answered : ℕ → ℤ → ℕ → Replied
   recalled : ℕ → Option Outcome → ℕ → Replied
   remaining : (spent budget seen : ℕ) → Replied
+  spending : (spent : ℕ) (limit : Option ℕ) (seen : ℕ) → Replied
   ended : Replied
   refused : Refusal → Replied
 
@@ -120,11 +121,17 @@ outcome_words (Some Exhausted) = text (codes "exhausted") ∷ []
 outcome_words (Some Lost) = text (codes "lost") ∷ []
 outcome_words None = text (codes "open") ∷ []
 
+-- the most that an analyst may spend, if there is one
+abbrev pub limit_word : Option ℕ → Datum
+limit_word (Some limit) = number limit
+limit_word None = text (codes "none")
+
 abbrev pub reply_words : Replied → List ℕ × List Datum
 reply_words (greeted analyst) = (codes "hello", text analyst ∷ [])
 reply_words (answered n value taken) = (codes "answer", number n ∷ signed value ∷ number taken ∷ [])
 reply_words (recalled n outcome seen) = (codes "recall", number n ∷ outcome_words outcome ++ (number seen ∷ []))
 reply_words (remaining spent budget seen) = (codes "left", number spent ∷ number budget ∷ number seen ∷ [])
+reply_words (spending spent limit seen) = (codes "mine", number spent ∷ limit_word limit ∷ number seen ∷ [])
 reply_words ended = (codes "bye", [])
 reply_words (refused refusal) = refusal_words refusal
 
@@ -149,6 +156,7 @@ replied (Hello analyst) = greeted analyst.bytes.now
 replied (Answer n value taken) = answered n value taken
 replied (Recalled n outcome seen) = recalled n outcome seen
 replied (Left spent budget seen) = remaining spent budget seen
+replied (Mine spent limit seen) = spending spent limit seen
 replied Bye = ended
 replied (Refused refusal) = refused (refusal_at refusal)
 

@@ -8,7 +8,7 @@ use Rattle.wire_lines.specs.Lines.{space, words_of, joined}
 use Rattle.wire_lines.specs.Number.{IsNumberText, is_number, number_of}
 use Rattle.wire_lines.specs.Epsilon.{IsEpsilonText, epsilon_of}
 use Rattle.wire_lines.specs.declared.request.Request.{Request}
-use Rattle.wire_lines.specs.declared.request.Request.TheVariants.{Hello, Ask, AskPart, Recall, Left, Bye}
+use Rattle.wire_lines.specs.declared.request.Request.TheVariants.{Hello, Ask, AskPart, Recall, Left, Mine, Bye}
 use Rattle.wire_lines.specs.declared.refusal.LineRefusal.{LineRefusal}
 use Rattle.wire_lines.specs.declared.refusal.LineRefusal.TheVariants.{Malformed, TooLong}
 
@@ -23,6 +23,7 @@ pub data Asked : Type 0 where
   askpart : (owner partition key : List ℕ) → Option ℕ → (program : List ℕ) → Asked
   recall : (owner : List ℕ) (number : ℕ) → Asked
   left : (owner : List ℕ) → Asked
+  mine : (owner : List ℕ) → Asked
   bye : Asked
 
 -- a word has a byte, and no space
@@ -47,6 +48,7 @@ IsRequest line (recall owner number) =
     (digits : List ℕ) × IsWord owner × IsNumberText digits number
     × (line ≡ codes "recall " ++ owner ++ (space ∷ digits))
 IsRequest line (left owner) = IsWord owner × (line ≡ codes "left " ++ owner)
+IsRequest line (mine owner) = IsWord owner × (line ≡ codes "mine " ++ owner)
 IsRequest line bye = line ≡ codes "bye"
 
 -- What stands at a place of a line: a word, a word that is a number, or the rest of the line.
@@ -63,7 +65,8 @@ slots_of kind =
     else (if bytes_eq kind (codes "askpart") then Some (one_word ∷ one_word ∷ one_word ∷ one_word ∷ all_rest ∷ [])
     else (if bytes_eq kind (codes "recall") then Some (one_word ∷ one_number ∷ [])
     else (if bytes_eq kind (codes "left") then Some (one_word ∷ [])
-    else (if bytes_eq kind (codes "bye") then Some [] else None)))))
+    else (if bytes_eq kind (codes "mine") then Some (one_word ∷ [])
+    else (if bytes_eq kind (codes "bye") then Some [] else None))))))
 
 -- from word number n on, the first word that is missing, empty, too many or no number where one is due
 abbrev pub fault_from : ℕ → List Slot → List (List ℕ) → Option ℕ
@@ -159,6 +162,11 @@ left_from words = do
   owner ← word_alone words
   Ok (left owner)
 
+abbrev pub mine_from : List (List ℕ) → Result Asked LineRefusal
+mine_from words = do
+  owner ← word_alone words
+  Ok (mine owner)
+
 abbrev pub bye_from : List (List ℕ) → Result Asked LineRefusal
 bye_from words = do
   _ ← end_at 1 words
@@ -172,7 +180,8 @@ request_from (kind ∷ words) =
     else (if bytes_eq kind (codes "askpart") then askpart_from words
     else (if bytes_eq kind (codes "recall") then recall_from words
     else (if bytes_eq kind (codes "left") then left_from words
-    else (if bytes_eq kind (codes "bye") then bye_from words else Err (Malformed 0))))))
+    else (if bytes_eq kind (codes "mine") then mine_from words
+    else (if bytes_eq kind (codes "bye") then bye_from words else Err (Malformed 0)))))))
 
 -- A line over the limit isn't looked at.
 unfoldable pub request_of : List ℕ → Result Asked LineRefusal
@@ -185,6 +194,7 @@ asked (Ask owner epsilon program) = ask owner.now epsilon program.now
 asked (AskPart owner partition key epsilon program) = askpart owner.now partition.now key.now epsilon program.now
 asked (Recall owner number) = recall owner.now number
 asked (Left owner) = left owner.now
+asked (Mine owner) = mine owner.now
 asked Bye = bye
 
 abbrev pub reading : Result Request LineRefusal → Result Asked LineRefusal
@@ -212,4 +222,5 @@ HasEpsilonInRange (AskPart owner partition key None program) = ⊤
 HasEpsilonInRange (AskPart owner partition key (Some n) program) = (0 < n) × (n ≤ epsilon_limit)
 HasEpsilonInRange (Recall owner number) = ⊤
 HasEpsilonInRange (Left owner) = ⊤
+HasEpsilonInRange (Mine owner) = ⊤
 HasEpsilonInRange Bye = ⊤

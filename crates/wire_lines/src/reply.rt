@@ -3,7 +3,7 @@
 ghost use Rattle.std.specs.Prelude.{◌≡◌, ◌+◌, ◌≤◌, ◌<◌, ◌^◌, ◌++◌, [], ◌∷◌, codes, length, take, map, decimal, IsTrue};
 ghost use Rattle.fz_frac.specs.Sens.{distance_of};
 ghost use Rattle.wire_lines.specs.Refusal.{program_refusal_at, refusal_at};
-ghost use Rattle.wire_lines.specs.Reply.{IsReply, HasSize, number, text, ratio, recalled, reply_words};
+ghost use Rattle.wire_lines.specs.Reply.{IsReply, HasSize, number, text, ratio, recalled, limit_word, reply_words};
 ghost use Rattle.wire_lines.specs.Reply.{reply_text, replied, line_text, no_words, line_data, program_data, money_data};
 ghost use Rattle.wire_lines.specs.Reply.{disk_data, number_data, refusal_words, datum_text, sensitivity_text, type_fault_text, datum_of};
 ghost use Rattle.wire_lines.specs.Codes.{line_code, program_code, money_code, disk_code, number_code};
@@ -45,6 +45,13 @@ pub enum Reply<'a> {
     Left {
         spent: u64,
         budget: u64,
+        seen: u32,
+    },
+    /// In millionths what the analyst has spent, and what it may spend at most, where it has a limit; and the records
+    /// seen.
+    Mine {
+        spent: u64,
+        limit: Option<u64>,
         seen: u32,
     },
     /// The session ends.
@@ -342,6 +349,16 @@ fn write_recalled(
     }
 }
 
+/// The word of a limit.
+fn limit_field<'a>(limit: Option<u64>) -> Field<'a>
+    ensures { datum_of result ≡ limit_word limit }
+{
+    match limit {
+        Some(limit) => Amount(limit),
+        None => Field::Name(Name { bytes: b"none" }),
+    }
+}
+
 /// Writes the line of a reply.
 #[tactic(auto, unfolding(crate::specs::Reply::reply_text))]
 fn write_line(reply: &Reply<'_>, out: &mut [u8; REPLY_LIMIT]) -> usize
@@ -372,6 +389,11 @@ fn write_line(reply: &Reply<'_>, out: &mut [u8; REPLY_LIMIT]) -> usize
             budget,
             seen,
         } => { put_line(out, b"left", &[Amount(spent), Amount(budget), Number(seen)]) }
+        Reply::Mine {
+            spent,
+            limit,
+            seen,
+        } => { put_line(out, b"mine", &[Amount(spent), limit_field(limit), Number(seen)]) }
         Reply::Bye => put_line(out, b"bye", &[]),
         Reply::Refused(refusal) => write_refusal(refusal, out),
     }

@@ -3,7 +3,7 @@
 ghost use Rattle.std.specs.Prelude.{◌≡◌, ◌≤◌, ◌<◌, ◌↔◌, ℕ, length, IfOk, IfErr, Ok, Err, Some, ◌∷◌};
 ghost use Rattle.wire_lines.specs.Request.{Asked, IsRequest, HasEpsilonInRange, line_limit, request_of, fault_of, reading};
 ghost use Rattle.wire_lines.specs.Request.{asked, word_at, number_at, end_at, hello_from, ask_from, askpart_from};
-ghost use Rattle.wire_lines.specs.Request.{recall_from, left_from, bye_from, words_behind, word_and_words, number_and_words};
+ghost use Rattle.wire_lines.specs.Request.{recall_from, left_from, mine_from, bye_from, words_behind, word_and_words, number_and_words};
 ghost use Rattle.wire_lines.specs.Lines.{words_of};
 ghost use Rattle.wire_lines.specs.Refusal.{IsFormRefusal};
 ghost use Rattle.std.specs.Result.{result_map_both};
@@ -45,6 +45,10 @@ pub enum Request<'a> {
     },
     /// `left OWNER`
     Left {
+        owner: &'a [u8],
+    },
+    /// `mine OWNER`
+    Mine {
         owner: &'a [u8],
     },
     /// `bye`
@@ -158,6 +162,15 @@ fn read_left(rest: Option<&[u8]>) -> Result<Request<'_>, LineRefusal>
     Ok(Request::Left { owner })
 }
 
+/// Reads what is left of a line behind `mine`.
+fn read_mine(rest: Option<&[u8]>) -> Result<Request<'_>, LineRefusal>
+    ensures { reading result ≡ mine_from (words_behind rest.entry) }
+{
+    let (owner, rest) = next_word(rest, 1)?;
+    expect_end(rest, 2)?;
+    Ok(Request::Mine { owner })
+}
+
 /// Reads what is left of a line behind `bye`.
 fn read_bye(rest: Option<&[u8]>) -> Result<Request<'_>, LineRefusal>
     ensures { reading result ≡ bye_from (words_behind rest.entry) }
@@ -185,6 +198,8 @@ fn read_line(line: &[u8]) -> Result<Request<'_>, LineRefusal>
         read_recall(rest)
     } else if kind == b"left".as_slice() {
         read_left(rest)
+    } else if kind == b"mine".as_slice() {
+        read_mine(rest)
     } else if kind == b"bye".as_slice() {
         read_bye(rest)
     } else {

@@ -153,7 +153,7 @@ said_open : (draws : ℕ → ℕ → ℕ → ℕ) (y : Exchange) (ends after : S
 unfolding ShutsBy
 said_open draws y ends after closed shuts same still counted (inl said) = said
 said_open draws y ends after closed shuts same still counted (inr (n, is)) =
-    absurd (here (subst (λ (w : Option (Option ℕ)). FailsBy owner (draws 0) query w y.told unshut after) (ap (λ (r : Replied). disk_word r) is) shuts))
+    absurd (here (subst (λ (w : Option (Option ℕ)). FailsBy owner (draws 0) query w y.told unshut after) (ap (λ (r : Replied). disk_word r) is) shuts.0))
   where
     here : FailsBy owner (draws 0) query (Some (Some n)) y.told unshut after → ⊥
     here (failure, shut, at, stays, own) =

@@ -1,4 +1,4 @@
-use Rattle.std.proofs.Common.{ap, refl, subst, sym}
+use Rattle.std.proofs.Common.{[], ap, refl, subst, sym}
 use Rattle.fz_ast.specs.Signature.{Signature}
 use Rattle.wire_lines.specs.Refusal.{refusal_at}
 use Rattle.wire_lines.specs.Reply.{refused, replied}
@@ -41,6 +41,7 @@ returns-in-Err g c =
     record {
       step = λ owner is. let one = turn owner is in (one.told, one.asked, one.own);
       shuts = λ owner is other own. shuts_by owner draws query pass pass (refused refusal) (turn owner is) other own;
+      said_open = (turn (owner_with [] pass.opened.ledger.entry dataset) (record { entry_is = refl; tables_are = refl; rows_are = refl; partitions_are = refl })).said_open;
       due = λ owner is other own. due_by owner draws query pass pass (refused refusal) (turn owner is) other own;
       same = λ unasked. refl;
       walks = λ walks. ap refused (walks_refused (signature_in dataset.tables dataset.partitions query.view) query.program refusal walks why);
@@ -54,6 +55,10 @@ returns-in-Ok-clause-step g c = λ owner is. let turn = c.answer_judged.ensures.
 pub returns-in-Ok-clause-shuts : goal.returns-in-Ok-clause-shuts
 returns-in-Ok-clause-shuts g c = λ owner is other own.
     shuts_by owner _ _ c.args.pass.now.knows c.answer_judged.new.pass.knows (replied c.answer_judged.result) (c.answer_judged.ensures.turn owner is) other own
+
+pub returns-in-Ok-clause-said_open : goal.returns-in-Ok-clause-said_open
+returns-in-Ok-clause-said_open g c =
+    (c.answer_judged.ensures.turn (owner_with [] c.args.pass.now.knows.opened.ledger.entry c.args.dataset.now) (record { entry_is = refl; tables_are = refl; rows_are = refl; partitions_are = refl })).said_open
 
 pub returns-in-Ok-clause-due : goal.returns-in-Ok-clause-due
 returns-in-Ok-clause-due g c = λ owner is other own.

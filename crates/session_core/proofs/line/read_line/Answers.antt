@@ -1,10 +1,10 @@
 use Rattle.std.proofs.Common.{◌≡◌, ◌∙◌, sym, ap, subst, Ok, Err}
-use Rattle.wire_lines.specs.Request.{request_of, reading, hello, ask, askpart, recall, left, bye}
+use Rattle.wire_lines.specs.Request.{request_of, reading, hello, ask, askpart, recall, left, mine, bye}
 use Rattle.owner_history.specs.OwnerHouse.House.{house_of}
 use Rattle.session_core.specs.Meant.{meant_by_ask}
 use Rattle.session_core.specs.Code.{meaning_of, IsShort}
 use Rattle.session_core.specs.declared.line.LineMeaning.{LineMeaning}
-use Rattle.session_core.proofs.Short.{meant_of, ended_short, refusal_short, hello_long, ask_long, askpart_long, recall_long, left_long}
+use Rattle.session_core.proofs.Short.{meant_of, ended_short, refusal_short, hello_long, ask_long, askpart_long, recall_long, left_long, mine_long}
 use Rattle.session_core.proofs.line.read_line.Goals as goal
 
 pub returns-in-Ok-Hello : goal.returns-in-Ok-Hello
@@ -56,6 +56,15 @@ returns-in-Ok-Left c =
       meaning = c.read_left.ensures.meaning ∙ meant_of (house_of c.args.house.now) c.args.who c.args.line.now (Ok (left c.in-Ok-Left.owner.now)) reads;
       proper = c.read_left.ensures.proper;
       short = λ few. absurd (left_long c.args.line.now c.in-Ok-Left.owner.now reads few);
+    }
+
+pub returns-in-Ok-Mine : goal.returns-in-Ok-Mine
+returns-in-Ok-Mine c =
+    let reads : request_of c.args.line.now ≡ Ok (mine c.in-Ok-Mine.owner.now) = sym c.read_request.ensures.exact ∙ ap reading c.in-Ok-Mine.is ∙ ap (λ r. reading (Ok r)) c.in-Ok-Mine.field-0-is in
+    record {
+      meaning = c.read_mine.ensures.meaning ∙ meant_of (house_of c.args.house.now) c.args.who c.args.line.now (Ok (mine c.in-Ok-Mine.owner.now)) reads;
+      proper = c.read_mine.ensures.proper;
+      short = λ few. absurd (mine_long c.args.line.now c.in-Ok-Mine.owner.now reads few);
     }
 
 pub returns-in-Ok-Bye-clause-meaning : goal.returns-in-Ok-Bye-clause-meaning

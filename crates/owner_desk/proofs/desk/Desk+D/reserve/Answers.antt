@@ -1,10 +1,12 @@
-use Rattle.std.proofs.Common.{IfOk, ◌≡◌, subst}
+use Rattle.std.proofs.Common.{IfOk, ◌≡◌, ◌∙◌, ap, subst, sym}
 use Rattle.owner_lock.specs.Passes.{known}
+use Rattle.budget_core.specs.Sound.{IsSound}
 use Rattle.budget_ledger.specs.Booked.{IsReserved}
+use Rattle.owner_desk.specs.Passes.{ledger_on}
 use Rattle.owner_desk.specs.Answers.{HasReserved}
 use Rattle.owner_desk.specs.Watched.{Watched, account_at}
 use Rattle.owner_desk.specs.Shared.{Shared, opened_in, pass_with}
-use Rattle.owner_desk.proofs.Calls.{has_granted, has_reserved}
+use Rattle.owner_desk.proofs.Calls.{has_granted, has_limits, has_reserved}
 use Rattle.owner_desk.proofs.desk.Desk+D.reserve.Goals as goal
 
 pub returns-clause-reserved : goal.returns-clause-reserved
@@ -27,3 +29,11 @@ returns-clause-granted g c =
     subst (λ (z : Watched). IsReserved (account_at z) c.args.asking.now c.with.result (account_at y)) called.shows
     (subst (λ (z : Watched). IsReserved (account_at called.shown.now) c.args.asking.now c.with.result (account_at z)) called.leaves called.met.0) in
     has_granted (opened_in v.fixed) v w x y meets after c.pass.invariant c.args.asking.now c.with.result said
+
+pub returns-clause-limits : goal.returns-clause-limits
+returns-clause-limits g c =
+    let (x, y, meets, called, after) = c.with.ensures.ran in
+    let v = known c.pass.inside.ticket in
+    let w = known c.with.new.pass in
+    let same : y.opened ≡ x.opened = ap (λ (z : Watched). z.opened) (sym called.leaves) ∙ called.met.1 ∙ ap (λ (z : Watched). z.opened) called.shows in
+    has_limits (opened_in v.fixed) v w x y meets after c.pass.invariant same (subst (λ (z : Watched). IsSound (ledger_on z.opened z.records)) called.leaves called.met.2)
