@@ -1,12 +1,13 @@
 -- The program's commands, as clap is told of them.
 use Rattle.std.specs.Prelude.{ℕ, ◌-◌, ◌^◌, [], ◌∷◌, true, Some, pos, codes}
+use Rattle.worker_pool.specs.Workers.{worker_limit}
 use Rattle.clap.specs.Words.{App, Rule, Text, new_app, new_rule, with_rule, with_subcommand}
 use Rattle.clap.specs.declared.builder.value_parser.ValueParser.{ValueParser}
 use Rattle.clap.specs.declared.builder.value_parser.ValueParser.TheVariants as parser
 
 -- the most workers of a run, a service or a generated run
 abbrev pub greatest_workers : ℕ
-greatest_workers = 16
+greatest_workers = worker_limit
 
 -- the greatest amount of a grant, in millionths of epsilon
 abbrev pub greatest_amount : ℕ

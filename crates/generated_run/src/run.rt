@@ -9,6 +9,7 @@ ghost use Rattle.owner_house.specs.House.{house_of};
 ghost use Rattle.owner_house.specs.Owner.{Owner};
 ghost use Rattle.generated_run.specs.Answered.{IsAnsweredOver};
 ghost use Rattle.generated_run.specs.Tally.{most_asks, tally_of};
+ghost use Rattle.worker_pool.specs.Workers.{worker_limit};
 
 use crate::counting::{Tally, count_up};
 use budget_ledger::book::Book;
@@ -52,7 +53,7 @@ fn answer<R: Threads + Wait + Sync, D: Disk + Send + Drop, G: Gate + Sync>(
     script: &[u8],
     workers: u32,
 ) -> Result<Book<D>, AllocError>
-    requires workers { (1 ≤ workers) × (workers ≤ 16) }
+    requires workers { (1 ≤ workers) × (workers ≤ worker_limit) }
     requires book { IsBook book }
     requires fresh { (book.ledger.records ≡ []) × (book.ledger.found ≡ []) × (book.storage.closed ≡ None) }
     requires one { length (house_of house.now).owners ≡ 1 }
@@ -93,7 +94,7 @@ pub fn run_generated<R: Threads + Wait + Sync, G: Gate + Sync>(
     workers: u32,
 ) -> Result<Tally, AllocError>
     requires asks { (1 ≤ asks) × (asks ≤ most_asks) }
-    requires workers { (1 ≤ workers) × (workers ≤ 16) }
+    requires workers { (1 ≤ workers) × (workers ≤ worker_limit) }
     ensures tally { IfOk result (λ tally. tally ≡ tally_of seed asks) }
 {
     let house = generated_house(alloc, seed, asks)?;

@@ -6,9 +6,10 @@ use outside_doors::memory::MemDoors;
 use outside_links::memory::MemLink;
 use std::alloc::{AllocError, Global};
 use std::collections::VecDeque;
+use worker_pool::MOST_WORKERS;
 
-/// How many doors a service may need.
-pub const DOORS: usize = 16;
+/// How many doors a service may need: one for each worker.
+pub const DOORS: usize = MOST_WORKERS;
 
 /// How much a connection of a test takes, and how much of it at once.
 pub const ROOM_OF_LINK: usize = 4_096;

@@ -3,7 +3,7 @@
 ghost use Rattle.std.specs.Prelude.{◌≤◌, length};
 ghost use Rattle.query_server.specs.Shelves.{AreAtHome};
 
-use crate::doors::idle_doors;
+use crate::doors::{DOORS, idle_doors};
 use crate::{ROOM, words_of};
 use fz_outside::files::{Files, MemFile, MemFiles};
 use fz_outside::sink::{MemSink, Sink};
@@ -80,7 +80,7 @@ impl<B: Bay + Drop> Journals<B> {
     ) -> Status
     where
         O::L: Send,
-        requires doors { 16 ≤ length doors.old.items }
+        requires doors { DOORS ≤ length doors.old.items }
     {
         run_server(
             rt,

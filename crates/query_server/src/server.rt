@@ -203,7 +203,7 @@ pub fn run_server<
 where
     O::L: Send,
     requires home { AreAtHome (B.owners bay.old) (B.shelf bay.old) }
-    requires doors { 16 ≤ length doors.old.items }
+    requires doors { greatest_workers ≤ length doors.old.items }
     // What is written, whatever files and source hold or tell: it is due for some contents of the files, at each read, and of the
     // source, and for the ones that are told. Where something failed it is a prefix of that. And only files are read that the
     // words name, or the catalogs of these, in the order of work.

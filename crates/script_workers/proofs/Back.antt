@@ -12,6 +12,7 @@ use Rattle.session_core.specs.Blocks.{own_blocks}
 use Rattle.session_core.specs.Bundles.{Bundle, handed_on}
 use Rattle.session_core.specs.Code.{ArePasses, pass_at}
 use Rattle.script_workers.specs.declared.texts.Texts.{Texts}
+use Rattle.worker_pool.specs.Workers.{worker_limit}
 use Rattle.script_workers.specs.Texts.{KeepsTexts}
 use Rattle.script_workers.specs.Crews.{AreFor, HasDone, HasTakenAll, needed, replies_text}
 use Rattle.script_workers.proofs.Brought.{none_weighs, pass_handed, sum_none}
@@ -20,14 +21,14 @@ needed_grows : (k n : ℕ) → needed n ≤ needed (k + n)
 needed_grows zero n = let same : n ≡ 0 + n = omega arith in subst (λ (m : ℕ). needed n ≤ needed m) same (omega arith)
 needed_grows (suc k) n = let next : suc (k + n) ≡ suc k + n = omega arith in subst (λ (m : ℕ). needed n ≤ needed m) next (omega (arith, needed_grows k n))
 
-needed_within : (n : ℕ) → n ≤ 16 → needed n ≤ whole_share
+needed_within : (n : ℕ) → n ≤ worker_limit → needed n ≤ whole_share
 needed_within n few =
-    let all : 16 - n + n ≡ 16 = omega (arith, few) in
-    let most : needed 16 ≡ 65536 = refl in
-    omega (arith, most, subst (λ (m : ℕ). needed n ≤ needed m) all (needed_grows (16 - n) n))
+    let all : worker_limit - n + n ≡ worker_limit = omega (arith, few) in
+    let most : needed worker_limit ≡ 65536 = refl in
+    omega (arith, most, subst (λ (m : ℕ). needed n ≤ needed m) all (needed_grows (worker_limit - n) n))
 
 -- Whole shares are enough for sixteen workers.
-pub whole_enough : (n : ℕ) (shares : List ℕ) → n ≤ 16 → All (λ s. s ≡ whole_share) shares → All (λ s. needed n ≤ s) shares
+pub whole_enough : (n : ℕ) (shares : List ℕ) → n ≤ worker_limit → All (λ s. s ≡ whole_share) shares → All (λ s. needed n ≤ s) shares
 whole_enough n shares few whole = λ k d lt. subst (λ (s : ℕ). needed n ≤ s) (sym (whole k d lt)) (needed_within n few)
 
 pub all_back : (old mid new : List ℕ) (n : ℕ) (out back : ℕ → ℕ) → All (λ s. s ≡ whole_share) old → length old ≡ n → length new ≡ n

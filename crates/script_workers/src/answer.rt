@@ -6,6 +6,7 @@ ghost use Rattle.session_core.specs.OwnerHouse.House.{house_of};
 ghost use Rattle.session_core.specs.Blocks.{script_blocks};
 ghost use Rattle.session_core.specs.Code.{AreFresh, ArePasses, room_for_lines};
 ghost use Rattle.session_core.specs.Worked.{HasWorked, HaveAddedNone};
+ghost use Rattle.worker_pool.specs.Workers.{worker_limit};
 
 use crate::crew::{bring_in, hire_all, work};
 use crate::order::put_in_order;
@@ -48,7 +49,7 @@ pub fn answer_script<R: Threads + Wait + Sync, D: Disk + Send, S: Streams + Sync
 ) -> Result<Vec<u8>, AllocError>
 where
     S::W: Send,
-    requires workers { (0 < workers) × (workers ≤ 16) }
+    requires workers { (0 < workers) × (workers ≤ worker_limit) }
     requires here { passes.old.locks ≡ desks.now }
     requires passes { ArePasses (house_of house.now) passes.old.knows }
     requires fresh { AreFresh (house_of house.now) passes.old.knows }

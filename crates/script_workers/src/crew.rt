@@ -6,6 +6,7 @@ ghost use Rattle.session_core.specs.Blocks.{script_blocks};
 ghost use Rattle.session_core.specs.Code.{ArePasses, pass_at};
 ghost use Rattle.script_workers.specs.Crews.{HasDone, HasRoomFor, HasTakenAll, IsHired, needed};
 ghost use Rattle.script_workers.specs.Starts.{blocks_at};
+ghost use Rattle.worker_pool.specs.Workers.{worker_limit};
 
 use crate::needs::needs_of_all;
 use crate::worker::{Worker, hire, serve};
@@ -20,9 +21,6 @@ use std::sync::Wait;
 use std::thread::Threads;
 use worker_pool::work_each;
 
-/// The most workers.
-pub(crate) const MOST_WORKERS: usize = 16;
-
 /// Hires so many workers, or as many as there is memory for.
 pub(crate) fn hire_all<D: Disk>(
     alloc: Global,
@@ -34,7 +32,7 @@ pub(crate) fn hire_all<D: Disk>(
 ) -> Result<(), AllocError>
     requires here { passes.old.locks ≡ desks.now }
     requires shares { All (λ s. needed count ≤ s) passes.old.shares }
-    requires few { (0 < count) × (count ≤ 16) }
+    requires few { (0 < count) × (count ≤ worker_limit) }
     requires room { (crew.old.items ≡ []) × (count ≤ vec_capacity crew.old) }
     ensures len { OnOk result (length crew.new.items ≡ count) }
     ensures hired { (i : ℕ) (d : _) → i < length crew.new.items →

@@ -3,9 +3,10 @@
 ghost use Rattle.std.specs.Prelude.{◌≡◌, ◌<◌, ◌≤◌, ℕ, slice_index_or};
 ghost use Rattle.session_core.specs.Blocks.{script_blocks};
 ghost use Rattle.script_workers.specs.Crews.{AreNeeds};
+ghost use Rattle.worker_pool.specs.Workers.{worker_limit};
 
-use crate::crew::MOST_WORKERS;
 use session_core::blocks::pass_block;
+use worker_pool::MOST_WORKERS;
 
 /// What a worker's blocks ask for.
 #[derive(Clone, Copy)]
@@ -18,7 +19,7 @@ pub(crate) struct Needs {
 
 /// What each worker's blocks ask for, in one pass over the script: block k is worker `k % count`'s.
 pub(crate) fn needs_of_all(script: &[u8], count: usize) -> [Needs; MOST_WORKERS]
-    requires count { (0 < count) × (count ≤ 16) }
+    requires count { (0 < count) × (count ≤ worker_limit) }
     ensures { (i : ℕ) (d : _) → i < count → AreNeeds count i (script_blocks script.now) (slice_index_or result i d) }
 {
     let mut needs = [Needs { room: 0, blocks: 0 }; MOST_WORKERS];

@@ -6,10 +6,11 @@ ghost use Rattle.session_core.specs.Code.{room_for_lines};
 ghost use Rattle.script_workers.specs.Crews.{AreFor};
 ghost use Rattle.script_workers.specs.Starts.{blocks_at};
 ghost use Rattle.script_workers.specs.Texts.{KeepsTexts, in_all};
+ghost use Rattle.worker_pool.specs.Workers.{worker_limit};
 
-use crate::crew::MOST_WORKERS;
 use crate::worker::Worker;
 use session_core::Knows;
+use worker_pool::MOST_WORKERS;
 
 // Puts a text at the end, for which there is room.
 fn push_all(out: &mut Vec<u8>, text: &[u8])
@@ -24,7 +25,7 @@ fn push_all(out: &mut Vec<u8>, text: &[u8])
 
 /// Puts the texts of the workers' blocks in the script's order.
 pub(crate) fn put_in_order<T: Knows>(starts: &[&[u8]], crew: &[Worker<T>], out: &mut Vec<u8>)
-    requires few { (0 < length crew.now) × (length crew.now ≤ 16) }
+    requires few { (0 < length crew.now) × (length crew.now ≤ worker_limit) }
     requires texts { (i : ℕ) (d : _) → i < length crew.now → (own : List (List ℕ)) × KeepsTexts (slice_index_or crew.now i d).texts own
         × AreFor own (own_blocks (length crew.now) i 0 (blocks_at starts.now)) }
     requires room { (out.old.items ≡ []) × (sum_by room_for_lines (blocks_at starts.now) ≤ vec_capacity out.old) }

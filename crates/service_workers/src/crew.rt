@@ -9,6 +9,7 @@ ghost use Rattle.held_sessions.specs.SessionCore.Code.{ArePasses, pass_at};
 ghost use Rattle.script_workers.specs.Crews.{HasTakenAll, needed};
 ghost use Rattle.service_workers.specs.Services.{door_of};
 ghost use Rattle.service_workers.specs.Code.{HasAttended, IsPosted, worse_of, worst_of};
+ghost use Rattle.worker_pool.specs.Workers.{worker_limit};
 
 use crate::posting::{Posting, Service};
 use crate::worker::{Place, Worker, attend_own};
@@ -97,7 +98,7 @@ pub(crate) fn work<
 ) -> Result<Vec<Worker<Token<D>, O>>, NotStarted<Worker<Token<D>, O>>>
 where
     O::L: Send,
-    requires some { (0 < length crew.items) × (length crew.items ≤ 16) }
+    requires some { (0 < length crew.items) × (length crew.items ≤ worker_limit) }
     requires ports { posting.now.port + length crew.items ≤ 2 ^ 16 }
     requires each { 0 < posting.now.each }
     requires here { (i : ℕ) (d : _) → i < length crew.items → (slice_index_or crew.items i d).passes.locks ≡ desks.now }
@@ -117,7 +118,7 @@ where
 {
     let count = crew.len();
     let job = |index: usize, worker: &mut Worker<Token<D>, O>|
-        requires { (index < count) × (count ≤ 16) × (posting.now.port + count ≤ 2 ^ 16) × (0 < posting.now.each)
+        requires { (index < count) × (count ≤ worker_limit) × (posting.now.port + count ≤ 2 ^ 16) × (0 < posting.now.each)
             × (worker.old.passes.locks ≡ desks.now) × ArePasses (house_of house.now) worker.old.passes.knows }
         ensures { HasAttended (house_of house.entry.now) (draws_of streams.entry.now) posting.entry.now.each worker.new.end
             (door_of (O.coming worker.old.door) (O.served worker.old.door) (O.faults worker.old.door))

@@ -8,6 +8,7 @@ ghost use Rattle.held_sessions.specs.SessionCore.Code.{AreFresh, ArePasses};
 ghost use Rattle.held_sessions.specs.SessionCore.Worked.{HaveAddedNone};
 ghost use Rattle.service_workers.specs.Services.{IsService, door_of};
 ghost use Rattle.service_workers.specs.Code.{IsPosted};
+ghost use Rattle.worker_pool.specs.Workers.{worker_limit};
 
 use crate::crew::{bring_in, hire_all, work};
 use crate::posting::{Posting, Service};
@@ -40,7 +41,7 @@ pub fn serve_all<R: Threads + Wait + Sync, D: Disk + Send, G: Gate + Sync, O: Do
 ) -> Result<Service, AllocError>
 where
     O::L: Send,
-    requires workers { (0 < workers) × (workers ≤ 16) }
+    requires workers { (0 < workers) × (workers ≤ worker_limit) }
     requires doors { workers ≤ length doors.old.items }
     requires ports { posting.now.port + workers ≤ 2 ^ 16 }
     requires some { 0 < posting.now.each }

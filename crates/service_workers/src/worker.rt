@@ -7,6 +7,7 @@ ghost use Rattle.held_sessions.specs.SessionCore.Code.{ArePasses};
 ghost use Rattle.held_sessions.specs.SessionEnds.{NoMemory};
 ghost use Rattle.service_workers.specs.Services.{door_of};
 ghost use Rattle.service_workers.specs.Code.{HasAttended, HasHeld, IsPosted, end_by};
+ghost use Rattle.worker_pool.specs.Workers.{worker_limit};
 
 use crate::posting::{Posting, Service};
 use fz_outside::Failed;
@@ -138,7 +139,7 @@ fn attend<R: Wait, D: Disk, S: Streams, G: Gate, O: Doors>(
     posting: &Posting<'_>,
     place: Place,
 ) -> Service
-    requires place { (place.index < place.count) × (place.count ≤ 16) }
+    requires place { (place.index < place.count) × (place.count ≤ worker_limit) }
     requires port { posting.now.port + place.count ≤ 2 ^ 16 }
     requires some { 0 < posting.now.each }
     requires here { passes.old.locks ≡ server.now.desks.now }
@@ -163,7 +164,7 @@ pub(crate) fn attend_own<R: Wait, D: Disk, S: Streams, G: Gate, O: Doors + Drop>
     posting: &Posting<'_>,
     place: Place,
 )
-    requires place { (place.index < place.count) × (place.count ≤ 16) }
+    requires place { (place.index < place.count) × (place.count ≤ worker_limit) }
     requires port { posting.now.port + place.count ≤ 2 ^ 16 }
     requires some { 0 < posting.now.each }
     requires here { worker.old.passes.locks ≡ server.now.desks.now }

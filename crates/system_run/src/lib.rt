@@ -19,12 +19,13 @@ use std::process::ExitCode;
 use std::sync::Wait;
 use std::thread::Threads;
 use std::{env, fs, io};
+use worker_pool::MOST_WORKERS;
 
 /// The most owners of a catalog. The journal of owner N is `journals/N.bud`.
 const OWNERS: u32 = 64;
 
-/// The most workers of a service, of which each has a door.
-const DOORS: usize = 16;
+/// Each worker of a service has a door.
+const DOORS: usize = MOST_WORKERS;
 
 // The words behind the program's own name. A word that isn't UTF-8 is no command, so then no words are.
 fn words_of(rt: &HostRuntime, alloc: Global) -> Result<Vec<String>, AllocError> {

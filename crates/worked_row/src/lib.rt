@@ -3,6 +3,7 @@
 
 ghost use Rattle.std.specs.Prelude.{◌≡◌, ◌⊎◌, ◌≤◌, length, Some, [], ◌∷◌, codes, map, string_bytes, replicate, IfOk};
 ghost use Rattle.fz_outside.specs.Files.{bytes_of};
+ghost use Rattle.command_words.specs.Program.{greatest_workers};
 ghost use Rattle.query_server.specs.Shelves.{AreAtHome};
 ghost use Rattle.worked_row.specs.Held.{IsJournalMade};
 ghost use Rattle.worked_row.specs.Row.{catalog_text, table_text, row, row_without, row_lost, row_failed};
@@ -73,7 +74,7 @@ pub fn row_one<R: Threads + Wait + Sync, B: Bay, O: Doors + Drop + Send>(
 where
     O::L: Send,
     requires home { AreAtHome (B.owners bay.old) (B.shelf bay.old) }
-    requires doors { 16 ≤ length doors.old.items }
+    requires doors { greatest_workers ≤ length doors.old.items }
     requires made { IsJournalMade (B.shelf bay.old) }
     ensures { IfOk result (λ ran. (ran.status ≡ Status.NoMemory) ⊎ (ran.status ≡ Status.DiskFault)
         ⊎ ((ran.status ≡ Status.Done)

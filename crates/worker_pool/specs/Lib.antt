@@ -1,2 +1,3 @@
 pub mod Each
 pub mod Gates
+pub mod Workers

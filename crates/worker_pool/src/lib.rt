@@ -8,3 +8,6 @@ mod together;
 
 pub use each::work_each;
 pub use together::{NotStarted, work_together};
+
+/// The most workers of a run, a service or a generated run.
+pub const MOST_WORKERS: usize = 16;
