@@ -1,5 +1,5 @@
 -- What is known of a JSON value by its parts.
-use Rattle.std.proofs.Common.{◌≡◌, ◌≤◌, ◌<◌, rules, tests, ℕ, Bool, true, false, not, ◌&&◌, ◌||◌, List, [], ◌∷◌, map, length, nat_le, if◌then◌else◌, is_some, IsSome, unwrap_or, cond, option_map, Option, Some, None, Ok, bytes_eq, string_bytes, string_cmp, refl, sym, ap, ◌∙◌, true≢false, String, arith, Less}
+use Rattle.std.proofs.Common.{◌≡◌, ◌≤◌, ◌<◌, rules, tests, ℕ, Bool, true, false, not, ◌&&◌, ◌||◌, List, [], ◌∷◌, map, length, nat_le, if◌then◌else◌, unwrap_or, cond, option_map, Option, Some, None, Ok, bytes_eq, string_bytes, string_cmp, refl, sym, ap, ◌∙◌, true≢false, String, arith, Less}
 use Rattle.std.proofs.lemmas.List.{length-map}
 use Rattle.std.specs.declared.alloc.Global.{Global}
 use Rattle.std.specs.List.{AllByRecursion, find, list_any}

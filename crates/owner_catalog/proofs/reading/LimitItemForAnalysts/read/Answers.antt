@@ -1,5 +1,5 @@
 -- A limit, member by member.
-use Rattle.std.proofs.Common.{◌≡◌, bytes_eq, rules, refl, sym, Err}
+use Rattle.std.proofs.Common.{◌≡◌, rules, refl, Err}
 use Rattle.serde_json.specs.View.{view}
 use Rattle.owner_catalog.specs.Catalog.{limit_in}
 use Rattle.owner_catalog.proofs.reading.LimitItemForAnalysts.read.Goals as goal
