@@ -1,5 +1,5 @@
 -- what comes back where a number's sampler ran out of draws
-use Rattle.std.proofs.Common.{◌≡◌, ℕ, ◌+◌, ◌≤◌, ◌<◌, ◌==◌, ◌&&◌, Bool, true, false, not, cond, nat_lt, List, [], ◌∷◌, ◌++◌, length, sum_by, Option, Some, None, is_some, IsSome, option_map, find, refl, sym, ◌∙◌, ap, subst, arith}
+use Rattle.std.proofs.Common.{◌≡◌, ℕ, ◌+◌, ◌<◌, ◌==◌, Bool, true, false, not, cond, List, [], ◌∷◌, ◌++◌, length, sum_by, Option, Some, None, is_some, option_map, refl, sym, ◌∙◌, ap, subst, arith}
 use Rattle.std.specs.Option.{option_or}
 use Rattle.std.proofs.lemmas.Bool.{eqb-true, ltb-true}
 use Rattle.std.proofs.lemmas.List.Sums.{sum_by_push}
@@ -10,12 +10,11 @@ use Rattle.partition_charge.specs.declared.costs.Costs.{Costs}
 use Rattle.partition_charge.specs.Totals.{AreTotalsOf, HasCharged, IsRest}
 use Rattle.partition_charge.proofs.Rests.{rest-charged}
 use Rattle.journal_records.specs.declared.records.Outcome.{Outcome}
-use Rattle.journal_records.specs.declared.records.Outcome.TheVariants.{Answered, Exhausted, Lost}
 use Rattle.journal_records.specs.declared.records.Reservation.{Reservation}
 use Rattle.journal_records.specs.declared.records.Record.{Record}
 use Rattle.journal_records.specs.declared.records.Record.TheVariants.{Reserve, Settle, Grant}
 use Rattle.journal_records.specs.Records.{settling_back, number_or_zero}
-use Rattle.budget_core.specs.Counts.{reservations_of, reservation_of, is_numbered, outcome_of}
+use Rattle.budget_core.specs.Counts.{reservations_of, reservation_of, outcome_of}
 use Rattle.budget_core.specs.Cost.{charge_by, comes_back, counts_in, charges_in}
 use Rattle.budget_core.specs.Entries.{Entry, IsEntry, HasView}
 use Rattle.budget_core.specs.Legal.{IsReservationAfter, MayFollow, IsOpen, IsHistory}

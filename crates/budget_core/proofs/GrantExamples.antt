@@ -1,5 +1,5 @@
 -- grants, worked out from the written rules
-use Rattle.std.proofs.Common.{◌≡◌, ℕ, ◌+◌, ◌^◌, ◌++◌, pos, true, false, List, [], ◌∷◌, replicate, Ok, Err, refl, ap, arith}
+use Rattle.std.proofs.Common.{◌≡◌, ℕ, ◌+◌, ◌^◌, ◌++◌, pos, true, List, [], ◌∷◌, replicate, Ok, Err, refl, arith}
 use Rattle.partition_charge.specs.declared.view.View.TheVariants.{Whole}
 use Rattle.partition_charge.specs.Cost.{cost_of_charges, partition_cost}
 use Rattle.journal_records.specs.declared.records.Outcome.TheVariants.{Answered}

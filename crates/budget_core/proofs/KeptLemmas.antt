@@ -23,7 +23,7 @@ use Rattle.budget_core.specs.Ledger.{returned_by}
 use Rattle.budget_core.specs.Legal.{IsReservationAfter, IsOpen, IsSettlementAfter, IsGrantAfter, IsHistory}
 use Rattle.budget_core.specs.Answers.{is_answered, is_exhausted}
 use Rattle.budget_core.specs.Counts.{reservations_of, grants_of}
-use Rattle.budget_core.specs.Entries.{Entry, HasView, budget_limit, limit_of}
+use Rattle.budget_core.specs.Entries.{Entry, HasView, limit_of}
 use Rattle.budget_core.specs.Kept.{IsRowOf, HasRows, HasRoomFor, HasShares, IsTotalOf}
 use Rattle.budget_core.specs.Mine.{spent_by, spent_after}
 use Rattle.budget_core.proofs.Charging.{rises, view-valid}

@@ -21,3 +21,4 @@ mod LegalExamples
 mod EventExamples
 mod AnswerExamples
 mod GrantExamples
+mod MineExamples

@@ -1,5 +1,5 @@
 -- Running totals of what each analyst is charged.
-use Rattle.std.proofs.Common.{◌≡◌, ℕ, zero, suc, ◌+◌, ◌-◌, ◌≤◌, ◌<◌, ◌==◌, ◌^◌, Bool, true, false, not, min, set, get_or, List, [], ◌∷◌, ◌++◌, length, length-append, length-set, map, All, slice_get, Option, Some, None, option_map, refl, sym, ◌∙◌, ap, subst, arith, ⊎_elim, inl, inr, ◌⊎◌}
+use Rattle.std.proofs.Common.{◌≡◌, ℕ, zero, suc, ◌+◌, ◌-◌, ◌≤◌, ◌<◌, ◌^◌, Bool, true, false, not, min, set, get_or, List, [], ◌∷◌, ◌++◌, length, length-append, length-set, map, All, slice_get, Option, Some, None, option_map, refl, sym, ◌∙◌, ap, subst, arith, ⊎_elim, inl, inr, ◌⊎◌}
 use Rattle.std.specs.List.{filter}
 use Rattle.std.proofs.lemmas.Bool.{cases_eq, cases_lt, ne_eqb}
 use Rattle.std.proofs.lemmas.List.{get_or-set_same, get_or-set_other}
@@ -18,8 +18,8 @@ use Rattle.journal_records.specs.declared.records.Record.{Record}
 use Rattle.journal_records.specs.declared.records.Record.TheVariants.{Reserve, Grant}
 use Rattle.journal_records.specs.Records.{settling_back}
 use Rattle.budget_core.specs.declared.totals.Row.{Row}
-use Rattle.budget_core.specs.Cost.{charge_by, charge_of, comes_back, counts_in, cost_of, budget_of}
-use Rattle.budget_core.specs.Counts.{reservations_of, reservation_of, outcome_of}
+use Rattle.budget_core.specs.Cost.{charge_by, charge_of, comes_back, cost_of, budget_of}
+use Rattle.budget_core.specs.Counts.{reservations_of, reservation_of}
 use Rattle.budget_core.specs.Entries.{Entry, IsEntry, HasView, budget_limit}
 use Rattle.budget_core.specs.Kept.{IsRowOf, HasShareRoom, IsShareOf, HasShares}
 use Rattle.budget_core.specs.Legal.{IsOpen, IsHistory}
@@ -54,8 +54,7 @@ share-place entry records analyst costs view is has short = by is.room
 pub share-charging : (entry : Entry) (records : List Record) (analyst : ℕ) (costs : Costs) (view : View) (amount : ℕ) → IsEntry entry → IsShareOf entry records analyst costs
     → cost_of entry records ≤ budget_of entry records → budget_of entry records ≤ budget_limit → HasView entry view → amount ≤ 2 ^ 62 → HasRoom costs view amount
 share-charging entry records analyst costs view amount valid is within limited has bounded =
-    let charges : List Charge = charges_by entry records analyst in
-    (
+    let charges : List Charge = charges_by entry records analyst in (
       charges,
       is.totals,
       omega (arith, rises charges view amount (view-valid entry view valid has), spent_by-charges entry records analyst, spent_is_within entry records analyst, within, limited),

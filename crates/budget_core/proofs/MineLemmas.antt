@@ -1,14 +1,12 @@
 -- what one analyst has spent
-use Rattle.std.proofs.Common.{◌≡◌, ℕ, zero, suc, ◌+◌, ◌≤◌, ◌<◌, ◌==◌, ◌||◌, ◌&&◌, Bool, true, false, not, cond, List, [], ◌∷◌, ◌++◌, length, take, map, sum_by, slice_get, Option, Some, None, refl, sym, ◌∙◌, ap, subst, arith, option_map, append-nil}
+use Rattle.std.proofs.Common.{◌≡◌, ℕ, ◌≤◌, ◌==◌, ◌||◌, Bool, true, false, not, cond, List, [], ◌∷◌, ◌++◌, map, sum_by, Option, Some, None, refl, sym, ◌∙◌, ap, subst, arith, option_map, append-nil}
 use Rattle.std.specs.Prelude.{⊤, IfSome}
 use Rattle.std.specs.Option.{option_or}
 use Rattle.std.specs.List.{filter}
 use Rattle.std.proofs.lemmas.Bool.{eqb-true, eq-eqb}
-use Rattle.std.proofs.lemmas.List.{map-append, take-append-le}
-use Rattle.std.proofs.lemmas.List.Elements.{filter-append, filter_map-append}
+use Rattle.std.proofs.lemmas.List.{map-append}
+use Rattle.std.proofs.lemmas.List.Elements.{filter-append}
 use Rattle.std.proofs.lemmas.List.Sums.{sum_by-cons}
-use Rattle.std.proofs.lemmas.Option.{slice_get_within}
-use Rattle.std.proofs.Math.Seq.{take-append_seam}
 use Rattle.partition_charge.specs.declared.view.View.{View}
 use Rattle.partition_charge.specs.Cost.{Charge, charged_to, charges_of, cost_of_charges}
 use Rattle.partition_charge.proofs.Charges.{cost-le, cost-nil}
@@ -18,16 +16,16 @@ use Rattle.journal_records.specs.declared.records.Settlement.{Settlement}
 use Rattle.journal_records.specs.declared.records.BudgetGrant.{BudgetGrant}
 use Rattle.journal_records.specs.declared.records.Record.{Record}
 use Rattle.journal_records.specs.declared.records.Record.TheVariants.{Reserve, Settle, Grant}
-use Rattle.journal_records.specs.Records.{reservation_in, settlement_in, settling_back, is_some_and}
+use Rattle.journal_records.specs.Records.{is_some_and}
 use Rattle.budget_core.specs.declared.entry.Ask.{Ask}
 use Rattle.budget_core.specs.Cost.{charge_by, comes_back, counts_in, charges_in, cost_of}
-use Rattle.budget_core.specs.Counts.{reservations_of, reservation_of, outcome_by, outcome_of, asker_of}
+use Rattle.budget_core.specs.Counts.{reservations_of, reservation_of, outcome_of}
 use Rattle.budget_core.specs.Entries.{Entry, limit_of}
 use Rattle.budget_core.specs.Ledger.{reservation_for, reservation_numbered, next_number, spent_with}
 use Rattle.budget_core.specs.Legal.{MayFollow, IsHistory}
 use Rattle.budget_core.specs.Mine.{is_by, has_asked, is_asked_by, asked_by, charges_by, spent_by, spent_after}
 use Rattle.budget_core.proofs.Costs.{nothing-back, counts-unsettled, sum-filtered, cost_of-charges}
-use Rattle.budget_core.proofs.Histories.{history-induction, slice_get-append-lt, slice_get-append-seam}
+use Rattle.budget_core.proofs.Histories.{history-induction}
 use Rattle.budget_core.proofs.Numbers.{sum_by-le, reservations-with, reservations-settled, reservations-granted, reservation_of-append-old, reservation_of-next, outcome_of-append-Reserve, outcome_of-append-Settle, outcome_of-append-Grant, outcome_past}
 
 pub spent_by-charges : (entry : Entry) (records : List Record) (analyst : ℕ) → spent_by entry records analyst ≡ cost_of_charges (charges_by entry records analyst)
@@ -242,7 +240,7 @@ charges-others entry records analyst reservation others =
     ∙ ap (λ (b : Bool). charges_by entry records analyst ++ map charge_by (filter (counts_in entry records) (cond b (reservation ∷ []) []))) others
     ∙ append-nil (charges_by entry records analyst)
 
-spent-others : (entry : Entry) (records : List Record) (analyst : ℕ) (reservation : Reservation) → (reservation.analyst == analyst) ≡ false
+pub spent-others : (entry : Entry) (records : List Record) (analyst : ℕ) (reservation : Reservation) → (reservation.analyst == analyst) ≡ false
     → spent_by entry (records ++ Reserve reservation ∷ []) analyst ≡ spent_by entry records analyst
 spent-others entry records analyst reservation others =
     spent_by-charges entry (records ++ Reserve reservation ∷ []) analyst

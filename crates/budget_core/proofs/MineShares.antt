@@ -1,7 +1,7 @@
 -- What all analysts have spent covers what all records cost.
-use Rattle.std.proofs.Common.{◌≡◌, ℕ, zero, suc, ◌+◌, ◌≤◌, ◌<◌, ◌==◌, Bool, true, false, cond, List, [], ◌∷◌, ◌++◌, map, sum_by, refl, sym, ◌∙◌, ap, subst, arith}
+use Rattle.std.proofs.Common.{◌≡◌, ℕ, zero, suc, ◌+◌, ◌≤◌, ◌<◌, ◌==◌, Bool, true, false, cond, List, [], ◌∷◌, ◌++◌, map, sum_by, Some, refl, sym, ◌∙◌, ap, subst, arith}
 use Rattle.std.specs.List.{filter}
-use Rattle.std.proofs.lemmas.Bool.{cases_eq, eq-eqb, ne_eqb}
+use Rattle.std.proofs.lemmas.Bool.{cases_eq, eqb-true, eq-eqb, ne_eqb}
 use Rattle.std.proofs.lemmas.List.Sums.{sum_by-cons}
 use mathlib.Core.Logic.{◌⊎◌, inl, inr}
 use Rattle.partition_charge.specs.declared.view.View.{View}
@@ -12,21 +12,23 @@ use Rattle.partition_charge.proofs.Charges.{cost-nil, dearest-at, dearest-le}
 use Rattle.journal_records.specs.declared.records.Reservation.{Reservation}
 use Rattle.journal_records.specs.declared.records.Record.{Record}
 use Rattle.journal_records.specs.declared.records.Record.TheVariants.{Reserve, Settle, Grant}
-use Rattle.budget_core.specs.Cost.{charge_by, counts_in, charges_in, cost_of}
+use Rattle.budget_core.specs.declared.entry.Ask.{Ask}
+use Rattle.budget_core.specs.Cost.{charge_by, counts_in, charges_in, cost_of, budget_of}
 use Rattle.budget_core.specs.Counts.{reservations_of}
-use Rattle.budget_core.specs.Entries.{Entry}
+use Rattle.budget_core.specs.Entries.{Entry, limit_of}
+use Rattle.budget_core.specs.Ledger.{reservation_for, reservation_numbered, next_number, cost_with, spent_with}
 use Rattle.budget_core.specs.Legal.{MayFollow, IsHistory}
 use Rattle.budget_core.specs.Mine.{is_by, charges_by, spent_by}
 use Rattle.budget_core.proofs.Costs.{sum-filtered, cost_of-charges}
 use Rattle.budget_core.proofs.Histories.{history-induction}
-use Rattle.budget_core.proofs.MineLemmas.{Each, each-push, spent_by-charges, view-by}
+use Rattle.budget_core.proofs.MineLemmas.{Each, each-push, spent_by-charges, spent-others, stays_within_limits, view-by}
 use Rattle.budget_core.proofs.Numbers.{reservations-with, reservations-settled, reservations-granted}
 
 -- ---- sums of sums
 
-total-le : (n : ℕ) (f g : ℕ → ℕ) → ((k : ℕ) → f k ≤ g k) → total_below n f ≤ total_below n g
+total-le : (n : ℕ) (f g : ℕ → ℕ) → ((k : ℕ) → k < n → f k ≤ g k) → total_below n f ≤ total_below n g
 total-le zero f g below = omega arith
-total-le (suc n) f g below = omega (arith, total-le n f g below, below n)
+total-le (suc n) f g below = omega (arith, total-le n f g (λ k low. below k (omega (arith, low))), below n (omega arith))
 
 total-add : (n : ℕ) (f g : ℕ → ℕ) → total_below n (λ a. f a + g a) ≡ total_below n f + total_below n g
 total-add zero f g = refl
@@ -79,7 +81,7 @@ covered : (m n whole : ℕ) (wholes part : ℕ → ℕ) (parts : ℕ → ℕ →
 covered m n whole wholes part parts first each = omega (
   arith,
   first,
-  total-le m part (λ p. total_below n (λ a. parts a p)) each,
+  total-le m part (λ p. total_below n (λ a. parts a p)) (λ p low. each p),
   total-turned m n parts,
   total-add n wholes (λ a. total_below m (parts a)),
 )
@@ -96,7 +98,7 @@ costs-covered n all own views =
     same-le x y same = omega arith
 
     at : (p j : ℕ) → charges_of (Part p j) all ≤ total_below n (λ a. partition_cost (own a) p)
-    at p j = omega (arith, views (Part p j), total-le n (λ a. charges_of (Part p j) (own a)) (λ a. partition_cost (own a) p) (λ a. dearest-at (own a) p j))
+    at p j = omega (arith, views (Part p j), total-le n (λ a. charges_of (Part p j) (own a)) (λ a. partition_cost (own a) p) (λ a low. dearest-at (own a) p j))
 
 -- each reservation of a history is an analyst's of the entry
 each-known : (entry : Entry) (records : List Record) → IsHistory entry records → Each (λ (r : Reservation). r.analyst < entry.analysts) (reservations_of records)
@@ -109,25 +111,52 @@ each-known entry = history-induction entry (λ records. Each (λ (r : Reservatio
     step xs (Settle s) h may before = subst (Each (λ (r : Reservation). r.analyst < entry.analysts)) (sym (reservations-settled xs s)) before
     step xs (Grant g) h may before = subst (Each (λ (r : Reservation). r.analyst < entry.analysts)) (sym (reservations-granted xs g)) before
 
-cost-covered : (entry : Entry) (records : List Record) → IsHistory entry records → cost_of entry records ≤ total_below entry.analysts (λ a. cost_of_charges (charges_by entry records a))
-cost-covered entry records h =
+cost-covered : (entry : Entry) (records : List Record) → Each (λ (r : Reservation). r.analyst < entry.analysts) (reservations_of records)
+    → cost_of entry records ≤ total_below entry.analysts (λ a. cost_of_charges (charges_by entry records a))
+cost-covered entry records known =
     subst (λ (c : ℕ). c ≤ total_below entry.analysts (λ a. cost_of_charges (charges_by entry records a))) (sym (cost_of-charges entry records))
     (costs-covered entry.analysts (charges_in entry records) (charges_by entry records) views)
   where
     views : (view : View) → charges_of view (charges_in entry records) ≡ total_below entry.analysts (λ a. charges_of view (charges_by entry records a))
     views view =
         sum-filtered (charged_to view) (counts_in entry records) (reservations_of records)
-        ∙ split entry.analysts (λ (r : Reservation). cond (counts_in entry records r) (charged_to view (charge_by r)) 0) (reservations_of records) (each-known entry records h)
+        ∙ split entry.analysts (λ (r : Reservation). cond (counts_in entry records r) (charged_to view (charge_by r)) 0) (reservations_of records) known
         ∙ (λ i. total_below entry.analysts (λ a. sym (view-by entry records a view) i))
 
 -- Where each analyst is within a share, all records cost at most all shares.
+within-shares : (entry : Entry) (records : List Record) (share : ℕ → ℕ) → Each (λ (r : Reservation). r.analyst < entry.analysts) (reservations_of records)
+    → ((a : ℕ) → a < entry.analysts → spent_by entry records a ≤ share a) → cost_of entry records ≤ total_below entry.analysts share
+within-shares entry records share known each = omega (
+  arith,
+  cost-covered entry records known,
+  total-le entry.analysts (λ a. cost_of_charges (charges_by entry records a)) share (λ a low. subst (λ (c : ℕ). c ≤ share a) (spent_by-charges entry records a) (each a low)),
+)
+
 pub shares-cover : (entry : Entry) (records : List Record) (share : ℕ → ℕ) → IsHistory entry records → ((a : ℕ) → spent_by entry records a ≤ share a)
     → cost_of entry records ≤ total_below entry.analysts share
-shares-cover entry records share h each = omega (
-  arith,
-  cost-covered entry records h,
-  total-le entry.analysts (λ a. cost_of_charges (charges_by entry records a)) share (λ a. subst (λ (c : ℕ). c ≤ share a) (spent_by-charges entry records a) (each a)),
-)
+shares-cover entry records share h each = within-shares entry records share (each-known entry records h) (λ a low. each a)
+
+-- Where each analyst has a share of the budget as its limit, an ask within its own is within the budget.
+pub shares-kept : (entry : Entry) (records : List Record) (ask : Ask) (share : ℕ → ℕ) → IsHistory entry records → ask.analyst < entry.analysts
+    → ((a : ℕ) → a < entry.analysts → limit_of entry a ≡ Some (share a)) → total_below entry.analysts share ≤ budget_of entry records
+    → spent_with entry records ask ≤ share ask.analyst → cost_with entry records ask ≤ budget_of entry records
+shares-kept entry records ask share h who limits fits within =
+    let all : cost_with entry records ask ≤ total_below entry.analysts share = within-shares entry (records ++ reservation_for records ask 0 ∷ []) share known each in
+    omega (arith, fits, all)
+  where
+    next : Reservation
+    next = reservation_numbered (next_number records) ask 0
+
+    known : Each (λ (r : Reservation). r.analyst < entry.analysts) (reservations_of (records ++ Reserve next ∷ []))
+    known = subst (Each (λ (r : Reservation). r.analyst < entry.analysts)) (sym (reservations-with records next))
+        (each-push (λ (r : Reservation). r.analyst < entry.analysts) (reservations_of records) next (each-known entry records h) who)
+
+    each : (a : ℕ) → a < entry.analysts → spent_by entry (records ++ Reserve next ∷ []) a ≤ share a
+    each a low = by (ask.analyst == a) refl
+      where
+        by : (b : Bool) → (ask.analyst == a) ≡ b → spent_by entry (records ++ Reserve next ∷ []) a ≤ share a
+        by true ours = subst (λ (x : ℕ). spent_by entry (records ++ Reserve next ∷ []) x ≤ share x) (eqb-true ask.analyst a ours) within
+        by false others = omega (arith, spent-others entry records a next others, stays_within_limits entry records a (share a) h (limits a low))
 
 -- Who isn't an analyst of the entry has spent nothing.
 none-past : (n a : ℕ) (rs : List Reservation) → n ≤ a → Each (λ (r : Reservation). r.analyst < n) rs → filter (is_by a) rs ≡ []

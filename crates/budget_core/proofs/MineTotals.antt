@@ -1,10 +1,9 @@
 -- what a settlement changes of what each analyst is charged
-use Rattle.std.proofs.Common.{◌≡◌, ℕ, ◌+◌, ◌==◌, Bool, true, false, not, cond, List, [], ◌∷◌, ◌++◌, sum_by, Option, Some, None, option_map, refl, sym, ◌∙◌, ap, subst, arith}
+use Rattle.std.proofs.Common.{◌≡◌, ℕ, ◌+◌, ◌==◌, Bool, true, false, not, cond, List, [], ◌∷◌, ◌++◌, sum_by, Option, Some, None, refl, sym, ◌∙◌, ap, arith}
 use Rattle.std.specs.List.{filter}
 use Rattle.std.specs.Option.{option_or}
 use Rattle.std.proofs.lemmas.Bool.{eqb-true, eq-eqb}
 use Rattle.std.proofs.lemmas.List.Sums.{sum_by-cons}
-use Rattle.partition_charge.specs.declared.view.View.{View}
 use Rattle.partition_charge.specs.Cost.{Charge, charged_to, charges_of}
 use Rattle.partition_charge.specs.Totals.{IsRest}
 use Rattle.journal_records.specs.declared.records.Outcome.{Outcome}

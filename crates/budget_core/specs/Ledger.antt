@@ -65,11 +65,10 @@ over_share entry records ask =
 -- settlement for each open reservation and these two records exceed its capacity; then what shuts the journal, where anything does;
 -- and it is over its analyst's share. What is above says in its own words what is refused.
 abbrev pub bars_with : {F : Type 0} → (told : ReserveFault → F) → (shut : List (Bool × F)) → Entry → (start : ℕ) → List Record → Ask → List (Bool × F)
-bars_with told shut entry start records ask =
-    (
-      nat_lt (budget_of entry records) (cost_with entry records ask),
-      told (OverBudget (cost_of entry records) (cost_with entry records ask) (budget_of entry records) (length records)),
-    )
+bars_with told shut entry start records ask = (
+  nat_lt (budget_of entry records) (cost_with entry records ask),
+  told (OverBudget (cost_of entry records) (cost_with entry records ask) (budget_of entry records) (length records)),
+)
     ∷ (nat_lt entry.capacity (length records + open_from start records + 2), told (Full (length records) (open_from start records) entry.capacity))
     ∷ shut
     ++ (is_over_share entry records ask, told (over_share entry records ask))

@@ -1,5 +1,5 @@
 -- The laws of what one analyst has spent.
-use Rattle.std.specs.Prelude.{◌≡◌, ℕ, ◌≤◌, ◌==◌, true, false, List, [], ◌∷◌, ◌++◌, Some}
+use Rattle.std.specs.Prelude.{◌≡◌, ℕ, ◌≤◌, ◌<◌, ◌==◌, true, false, List, [], ◌∷◌, ◌++◌, Some}
 use Rattle.partition_charge.specs.Cost.{total_below}
 use Rattle.partition_charge.specs.Totals.{IsRest}
 use Rattle.journal_records.specs.declared.records.Outcome.{Outcome}
@@ -9,10 +9,10 @@ use Rattle.journal_records.specs.declared.records.Record.{Record}
 use Rattle.journal_records.specs.declared.records.Record.TheVariants.{Settle}
 use Rattle.journal_records.specs.Records.{settling_back}
 use Rattle.budget_core.specs.declared.entry.Ask.{Ask}
-use Rattle.budget_core.specs.Cost.{charge_by, comes_back, cost_of}
+use Rattle.budget_core.specs.Cost.{charge_by, comes_back, cost_of, budget_of}
 use Rattle.budget_core.specs.Counts.{reservation_of}
 use Rattle.budget_core.specs.Entries.{Entry, limit_of}
-use Rattle.budget_core.specs.Ledger.{spent_with}
+use Rattle.budget_core.specs.Ledger.{cost_with, spent_with}
 use Rattle.budget_core.specs.Legal.{IsOpen, IsHistory}
 use Rattle.budget_core.specs.Mine.{asked_by, charges_by, spent_by}
 
@@ -52,8 +52,15 @@ SettlesForItsAnalyst = (entry : Entry) (records : List Record) (analyst number r
     → reservation_of records number ≡ Some asked → (asked.analyst == analyst) ≡ false
     → charges_by entry (records ++ settling_back number outcome returned ∷ []) analyst ≡ charges_by entry records analyst
 
--- Where every analyst is within a share, all records cost at most all shares: so shares that add up to at most the budget are never eaten
--- by others.
+-- Where every analyst is within a share, all records cost at most all shares.
 abbrev pub SharesCover : Type 0
 SharesCover = (entry : Entry) (records : List Record) (share : ℕ → ℕ) → IsHistory entry records
     → ((analyst : ℕ) → spent_by entry records analyst ≤ share analyst) → cost_of entry records ≤ total_below entry.analysts share
+
+-- A share can't be eaten: where every analyst has a limit, and all limits add up to at most the budget, an ask that keeps to its own
+-- analyst's limit isn't over budget, whatever the others did.
+abbrev pub SharesAreKept : Type 0
+SharesAreKept = (entry : Entry) (records : List Record) (ask : Ask) (share : ℕ → ℕ) → IsHistory entry records → ask.analyst < entry.analysts
+    → ((analyst : ℕ) → analyst < entry.analysts → limit_of entry analyst ≡ Some (share analyst))
+    → total_below entry.analysts share ≤ budget_of entry records
+    → spent_with entry records ask ≤ share ask.analyst → cost_with entry records ask ≤ budget_of entry records

@@ -7,9 +7,9 @@ use Rattle.budget_core.specs.Entries.{Entry, budget_limit, limit_of}
 use Rattle.budget_core.specs.Events.{World, is_answer}
 use Rattle.budget_core.specs.Mine.{spent_by}
 
--- The cost is within the budget, and the budget within its limit; each analyst is within its limit; reservations are numbered 0, 1, 2, .. in order, each number is settled at most once,
--- each sent number is settled with an answer, and the records and a settlement for each open reservation of this run
--- fit into the capacity.
+-- The cost is within the budget, and the budget within its limit; each analyst is within its own; reservations are numbered 0, 1, 2, ..
+-- in order, each number is settled at most once, each sent number is settled with an answer, and the records and a settlement for each
+-- open reservation of this run fit into the capacity.
 pub record IsSafe (entry : Entry) (world : World) : Type 0 where
   pub within : cost_of entry world.records ≤ budget_of entry world.records
   pub limited : budget_of entry world.records ≤ budget_limit

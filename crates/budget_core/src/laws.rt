@@ -3,7 +3,7 @@
 ghost use Rattle.budget_core.specs.Laws.{StaysWithinBudget, StaysHistory, NumbersInOrder, NumbersNeverShared, NumbersGrow};
 ghost use Rattle.budget_core.specs.Laws.{SettlesOnce, AddsUp, OnlyExhaustedGiveBack, SettlementsNeverRaise};
 ghost use Rattle.budget_core.specs.Laws.{GrantsRaise, GrantsInOrder, BudgetsAreLimited, GrantsTellWhatIsLeft};
-ghost use Rattle.budget_core.specs.MineLaws.{SpentIsCost, SpentIsWithin, SettlementsNeverRaiseSpent, SpentGoesByOwn, StaysWithinLimits, GivesBackToItsAnalyst, SettlesForItsAnalyst, SharesCover};
+ghost use Rattle.budget_core.specs.MineLaws.{SpentIsCost, SpentIsWithin, SettlementsNeverRaiseSpent, SpentGoesByOwn, StaysWithinLimits, GivesBackToItsAnalyst, SettlesForItsAnalyst, SharesCover, SharesAreKept};
 ghost use Rattle.budget_core.specs.Laws.{KeepsRoom, IgnoresAnswers, AsksAreTested, EventsAreSafe};
 
 /// Legal records cost at most the budget, where those found at the start do.
@@ -86,13 +86,14 @@ pub fn asks_are_tested()
     ensures { AsksAreTested }
 {}
 
-/// After every list of events the cost is within the budget, reservations are numbered in order, each is settled
-/// at most once, what was sent is answered, and there is room for what is open.
+/// After every list of events the cost is within the budget and each analyst within its limit, reservations are numbered
+/// in order, each is settled at most once, what was sent is answered, and there is room for what is open.
 pub fn events_are_safe()
     ensures { EventsAreSafe }
 {}
 
-/// What an analyst has spent goes by its own records, is what these cost, and stays within its limit.
+/// What an analyst has spent goes by its own records, is what these cost, and stays within its limit. Where all limits add up to at
+/// most the budget, no other can spend an analyst's.
 pub fn analysts_have_limits()
     ensures cost { SpentIsCost }
     ensures within { SpentIsWithin }
@@ -102,4 +103,5 @@ pub fn analysts_have_limits()
     ensures back { GivesBackToItsAnalyst }
     ensures others { SettlesForItsAnalyst }
     ensures shares { SharesCover }
+    ensures kept { SharesAreKept }
 {}

@@ -11,11 +11,12 @@ use Rattle.budget_journal.proofs.One.{stands-one}
 use Rattle.partition_charge.specs.declared.view.View.TheVariants.{Whole}
 use Rattle.partition_charge.specs.Cost.{cost_of_charges, partition_cost}
 use Rattle.budget_core.specs.declared.entry.Ask.{Ask}
-use Rattle.budget_core.specs.declared.entry.ReserveFault.TheVariants.{OverBudget, Full}
+use Rattle.budget_core.specs.declared.entry.ReserveFault.TheVariants.{OverBudget, Full, OverShare}
 use Rattle.budget_core.specs.Entries.{Entry}
 use Rattle.budget_core.specs.Cost.{cost_of, budget_of}
 use Rattle.budget_core.specs.Ledger.{Ledger, money_verdict, records_after}
 use Rattle.budget_core.specs.Legal.{MayFollow, IsFirstAstray}
+use Rattle.budget_core.specs.Mine.{spent_by}
 use Rattle.budget_core.proofs.Costs.{returned-nothing, kept-unexhausted}
 use Rattle.budget_core.proofs.Histories.{history-nil}
 use Rattle.budget_ledger.specs.Account.{Failure, Storage, Account, IsMoment, Went}
@@ -175,7 +176,7 @@ module _ (header : Header) (trace : Option Trace) where
 
   not_closed_first : (new : Account) → IsReserved three_shut one (Err (Unwritten (Closed 3))) new → ⊥
   unfolding cost_of cost_of_charges partition_cost budget_of
-  not_closed_first new answer = absurd (cc answer.1)
+  not_closed_first new answer = absurd (cc answer.0)
 
   -- with room for it the ask is refused for the book
   abbrev four_shut : Account
@@ -183,7 +184,30 @@ module _ (header : Header) (trace : Option Trace) where
 
   then_closed : IsReserved four_shut one (Err (Unwritten (Closed 3))) four_shut
   unfolding cost_of cost_of_charges partition_cost budget_of
-  then_closed = (record { number = 1; taken = 6; seen = 2 }, refl, (record { failed_at = 3; pending = lost }, refl, refl, refl))
+  then_closed = (refl, refl)
+
+  -- so it is where the ask is above its analyst's limit, which comes last
+  abbrev limited : Option Failure → Account
+  limited closed = record (after_a_fault closed) { ledger = record (after_a_fault closed).ledger { entry = record small { capacity = 4; limits = Some 10 ∷ [] } } }
+
+  abbrev limited_shut : Account
+  limited_shut = limited (Some (record { failed_at = 3; pending = lost }))
+
+  closed_before_its_limit : IsReserved limited_shut one (Err (Unwritten (Closed 3))) limited_shut
+  unfolding cost_of cost_of_charges partition_cost budget_of spent_by
+  closed_before_its_limit = (refl, refl)
+
+  above_its_limit : IsReserved (limited None) one (Err (Refused (OverShare 6 12 10 1))) (limited None)
+  unfolding cost_of cost_of_charges partition_cost budget_of spent_by
+  above_its_limit = (refl, refl)
+
+  not_above_when_closed : (new : Account) → IsReserved limited_shut one (Err (Refused (OverShare 6 12 10 1))) new → ⊥
+  unfolding cost_of cost_of_charges partition_cost budget_of spent_by
+  not_above_when_closed new answer = absurd (cc answer.0)
+
+  over_budget_before_its_limit : IsReserved limited_shut (record one { e = 20 }) (Err (Refused (OverBudget 6 26 20 1))) limited_shut
+  unfolding cost_of cost_of_charges partition_cost budget_of spent_by
+  over_budget_before_its_limit = (refl, refl)
 
   -- and so is a grant: the limit and the room come first
   grant_too_large : IsRaised three_shut 999999999999999981 (Err (NotGranted (TooLarge 20 999999999999999981))) three_shut

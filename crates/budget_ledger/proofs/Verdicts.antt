@@ -6,10 +6,10 @@ use Rattle.budget_core.specs.declared.entry.ReserveFault.{ReserveFault}
 use Rattle.budget_core.specs.declared.entry.ReserveFault.TheVariants.{OverBudget, Full, OverShare}
 use Rattle.budget_core.specs.Bars.{first_bar}
 use Rattle.budget_core.specs.Entries.{Entry}
-use Rattle.budget_core.specs.Ledger.{start_of, reservation_for, money_verdict}
+use Rattle.budget_core.specs.Ledger.{start_of, reservation_for, money_verdict, IsUnsettled}
 use Rattle.journal_records.specs.declared.records.Record.{Record}
 use Rattle.budget_ledger.specs.Account.{Failure, Account}
-use Rattle.budget_ledger.specs.Booked.{shut_bars, book_verdict, HasVerdict, IsUnwritten, IsReserved}
+use Rattle.budget_ledger.specs.Booked.{shut_bars, book_verdict, HasVerdict, HasGained, IsUnwritten, IsReserved}
 use Rattle.budget_ledger.specs.Kept.{refusal_with}
 use Rattle.budget_ledger.specs.declared.book.AppendFault.{AppendFault}
 use Rattle.budget_ledger.specs.declared.book.AppendFault.TheVariants.{Closed, DiskFault}
@@ -64,6 +64,14 @@ module _ (s t b n used unsettled capacity spent after limit seen : ℕ) (v : Gra
   refused_back None false false true fault is = let same : OverShare spent after limit seen ≡ fault = cc is in ap Err same
   refused_back None false false false fault is = absurd cc
 
+  shut_back : (closed : Option Failure) (over full beyond : Bool) (at : ℕ) → on_book closed over full beyond (OverBudget s t b n) (Full used unsettled capacity) (OverShare spent after limit seen) v ≡ Err (Unwritten (Closed at))
+      → (failure : Failure) × (closed ≡ Some failure) × (at ≡ failure.failed_at)
+  shut_back closed true full beyond at is = absurd cc
+  shut_back closed false true beyond at is = absurd cc
+  shut_back (Some failure) false false beyond at is = let same : failure.failed_at ≡ at = cc is in (failure, refl, sym same)
+  shut_back None false false true at is = absurd cc
+  shut_back None false false false at is = absurd cc
+
 -- ---- of a book
 
 module _ (account : Account) (ask : Ask) where
@@ -93,7 +101,12 @@ module _ (account : Account) (ask : Ask) where
       by (OverShare spent after limit seen) None said = (said, refl)
       by (OverShare spent after limit seen) (Some failure) said = (said, refl)
 
-  -- what a grant comes to that isn't written
+  -- A grant that is written is answered so,
+  pub is-written : (grant : Grant) (new : Account) → Says (Ok grant) → HasGained account (reservation_for account.ledger.records ask grant.taken) new
+      → IsUnsettled new.ledger grant.number → IsReserved account ask (Ok grant) new
+  is-written grant new is gained unsettled = (granted-says grant is gained.open_before, gained, unsettled)
+
+  -- and one that isn't.
   pub is-unwritten : (grant : Grant) (fault : AppendFault) (new : Account) → Says (Ok grant) → IsUnwritten account (reservation_for account.ledger.records ask grant.taken) fault new
       → IsReserved account ask (Err (Unwritten fault)) new
   is-unwritten grant (Closed n) new is (failure, closed, at, same) =
@@ -110,3 +123,6 @@ module _ (account : Account) (ask : Ask) where
 
   pub says-refused : (fault : ReserveFault) → HasVerdict account ask (Err (Refused fault)) → Says (Err fault)
   says-refused fault is = refused_back _ _ _ _ _ _ _ _ _ _ _ _ account.storage.closed _ _ _ fault is
+
+  pub says-shut : (at : ℕ) → HasVerdict account ask (Err (Unwritten (Closed at))) → (failure : Failure) × (account.storage.closed ≡ Some failure) × (at ≡ failure.failed_at)
+  says-shut at is = shut_back _ _ _ _ _ _ _ _ _ _ _ _ account.storage.closed _ _ _ at is

@@ -1,4 +1,4 @@
-use Rattle.budget_core.proofs.MineShares.{shares-cover}
+use Rattle.budget_core.proofs.MineShares.{shares-cover, shares-kept}
 use Rattle.budget_core.proofs.MineTotals.{mine-rest, charges-others-settled}
 use Rattle.budget_core.proofs.MineLemmas.{spent_is_cost, spent_is_within, spent-settled, spent_goes_by_own, stays_within_limits}
 use Rattle.budget_core.proofs.laws.analysts_have_limits.Goals as goal
@@ -26,3 +26,6 @@ returns-clause-others c = λ entry records analyst number returned outcome asked
 
 pub returns-clause-shares : goal.returns-clause-shares
 returns-clause-shares c = λ entry records share h each. shares-cover entry records share h each
+
+pub returns-clause-kept : goal.returns-clause-kept
+returns-clause-kept c = λ entry records ask share h known limits fits within. shares-kept entry records ask share h known limits fits within

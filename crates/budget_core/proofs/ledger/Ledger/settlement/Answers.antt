@@ -1,4 +1,4 @@
-use Rattle.std.proofs.Common.{rules, sym, subst, ◌≡◌, ◌^◌, ◌<◌, arith}
+use Rattle.std.proofs.Common.{rules, sym, subst, arith}
 use Rattle.journal_records.specs.Encoding.{MayReturn}
 use Rattle.budget_core.proofs.Costs.{returned-may}
 use Rattle.budget_core.proofs.ledger.Ledger.settlement.Goals as goal

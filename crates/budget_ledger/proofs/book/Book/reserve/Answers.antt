@@ -1,17 +1,25 @@
-use Rattle.std.proofs.Common.{sym, ◌∙◌, arith}
+use Rattle.std.proofs.Common.{Err, sym, ◌∙◌, ap, subst, arith}
+use Rattle.journal_records.specs.declared.records.Reservation.{Reservation}
 use Rattle.journal_records.specs.declared.records.Record.TheVariants.{Reserve}
+use Rattle.budget_core.specs.declared.entry.Grant.{Grant}
+use Rattle.budget_core.specs.Ledger.{IsUnsettled}
 use Rattle.budget_core.proofs.LegalLemmas.{granted}
+use Rattle.budget_ledger.specs.Account.{Account}
+use Rattle.budget_ledger.specs.Booked.{HasGained, IsUnwritten, IsReserved}
 use Rattle.budget_ledger.specs.Kept.{account_in}
-use Rattle.budget_ledger.proofs.Verdicts.{is-refused, is-unwritten}
+use Rattle.budget_ledger.specs.declared.book.BookFault.{BookFault}
+use Rattle.budget_ledger.specs.declared.book.BookFault.TheVariants.{Unwritten}
+use Rattle.budget_ledger.proofs.Verdicts.{is-refused, is-written, is-unwritten}
 use Rattle.budget_ledger.proofs.Wents.{went_self}
-use Rattle.budget_ledger.proofs.Writes.{written_holds, written_went, stopped_holds, stopped_went}
+use Rattle.budget_ledger.proofs.Writes.{written_holds, written_went, stopped_holds, stopped_went, stopped_unwritten}
 use Rattle.budget_ledger.proofs.book.Book.reserve.Goals as goal
 
 pub returns-in-Err-clause-answer : goal.returns-in-Err-clause-answer
 returns-in-Err-clause-answer g c =
-    let is = sym c.verdict.ensures.verdict ∙ c.in-Err.is in
-    let said = is-refused (account_in g.D.Disk.trace g.D.Disk.faults c.self.inside.ledger c.self.inside.header c.self.inside.journal c.self.inside.failure) c.args.ask.now c.in-Err.fault is in
-    rw (c.refused_by.ensures, ← c.self.view_is) said
+    let old = account_in g.D.Disk.trace g.D.Disk.faults c.self.inside.ledger c.self.inside.header c.self.inside.journal c.self.inside.failure in
+    let said = is-refused old c.args.ask.now c.in-Err.fault (sym c.verdict.ensures.verdict ∙ c.in-Err.is) in
+    subst (λ (a : Account). IsReserved a c.args.ask.now (Err c.refused_by.result) a) c.self.view_is
+    (subst (λ (fault : BookFault). IsReserved old c.args.ask.now (Err fault) old) (sym c.refused_by.ensures) said)
 
 pub returns-in-Err-clause-went : goal.returns-in-Err-clause-went
 returns-in-Err-clause-went g c = went_self c.args.self.now.ledger.records c.args.self.now.storage
@@ -32,7 +40,32 @@ returns-in-Ok-write_down-clause-went g c =
     rw (← c.self.view_is) went
 
 pub returns-in-Err-write_down-clause-answer : goal.returns-in-Err-write_down-clause-answer
-returns-in-Err-write_down-clause-answer g c = ?
+returns-in-Err-write_down-clause-answer g c =
+    let grant = c.in-Ok.grant in
+    let old = account_in g.D.Disk.trace g.D.Disk.faults c.self.inside.ledger c.self.inside.header c.self.inside.journal c.self.inside.failure in
+    let new = account_in g.D.Disk.trace g.D.Disk.faults c.self.inside.ledger c.self.inside.header c.write_down.new.journal c.write_down.new.failure in
+    let fits = (granted c.self.inside.ledger c.args.ask.now grant (sym c.verdict.ensures.verdict ∙ c.in-Ok.is)).fits in
+    let unwritten = stopped_unwritten g.D.Disk.trace g.D.Disk.faults c.self.inside.ledger c.self.inside.header (Reserve c.reservation-reservation.result) c.self.inside.journal c.write_down.new.journal
+    c.self.inside.failure c.write_down.new.failure c.self.invariant (λ none. omega (arith, fits)) c.write_down.ensures.room
+    c.in-Err-write_down.fault c.in-Err-write_down.ensures.stopped in
+    let said = is-unwritten old c.args.ask.now grant c.in-Err-write_down.fault new (sym c.verdict.ensures.verdict ∙ c.in-Ok.is)
+    (subst (λ (r : Reservation). IsUnwritten old (Reserve r) c.in-Err-write_down.fault new) c.reservation-reservation.ensures.reservation unwritten) in
+    subst (λ (a : Account). IsReserved a c.args.ask.now (Err (Unwritten c.in-Err-write_down.fault)) new) c.self.view_is said
+
+pub returns-in-Ok-write_down-clause-answer : goal.returns-in-Ok-write_down-clause-answer
+returns-in-Ok-write_down-clause-answer g c =
+    let grant = c.in-Ok.grant in
+    let old = account_in g.D.Disk.trace g.D.Disk.faults c.self.inside.ledger c.self.inside.header c.self.inside.journal c.self.inside.failure in
+    let new = account_in g.D.Disk.trace g.D.Disk.faults c.reserve.new.self c.self.inside.header c.write_down.new.journal c.write_down.new.failure in
+    let written = c.in-Ok-write_down.ensures.written in
+    let is = (granted c.self.inside.ledger c.args.ask.now grant (sym c.verdict.ensures.verdict ∙ c.in-Ok.is)).is in
+    let number = ap (λ (r : Reservation). r.number) c.reservation-reservation.ensures.reservation ∙ sym (ap (λ (x : Grant). x.number) is) in
+    let gained : HasGained old (Reserve c.reservation-reservation.result) new
+    = record { ledger = c.reserve.ensures.after; open_before = written.open_before; open_after = written.open_after } in
+    let said = is-written old c.args.ask.now grant new (sym c.verdict.ensures.verdict ∙ c.in-Ok.is)
+    (subst (λ (r : Reservation). HasGained old (Reserve r) new) c.reservation-reservation.ensures.reservation gained)
+    (subst (IsUnsettled c.reserve.new.self) number c.reserve.ensures.unsettled) in
+    rw (← c.self.view_is) said
 
 pub returns-in-Ok-write_down-clause-kept : goal.returns-in-Ok-write_down-clause-kept
 returns-in-Ok-write_down-clause-kept g c = (invariant_of-self g c).book
