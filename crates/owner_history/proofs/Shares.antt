@@ -1,4 +1,4 @@
--- limits, and a shared budget
+-- what a shared budget leaves to each analyst
 use Rattle.std.proofs.Common.{◌≡◌, ℕ, ◌≤◌, ◌<◌, nat_lt, false, List, slice_get, Option, Some, None, unwrap_or, refl, sym, ◌∙◌, ap, arith}
 use Rattle.std.specs.Prelude.{IsSome}
 use Rattle.std.proofs.lemmas.Bool.{ltb-false}
@@ -10,14 +10,10 @@ use Rattle.budget_core.specs.Cost.{budget_of}
 use Rattle.budget_core.specs.Entries.{Entry, limit_of}
 use Rattle.budget_core.specs.Ledger.{cost_with, spent_with, is_over_share}
 use Rattle.budget_core.specs.Legal.{IsHistory}
-use Rattle.budget_core.proofs.MineLemmas.{spent_goes_by_own, stays_within_limits}
+use Rattle.budget_core.proofs.MineLemmas.{spent_goes_by_own}
 use Rattle.budget_core.proofs.MineShares.{shares-kept}
 use Rattle.budget_core.specs.Mine.{asked_by}
-use Rattle.owner_history.specs.Limits.{AreWithinLimits, IsShared}
-
--- In a history each analyst is within its limit.
-pub history_limited : (entry : Entry) (records : List Record) → IsHistory entry records → AreWithinLimits entry records
-history_limited entry records h = λ analyst limit is. stays_within_limits entry records analyst limit h is
+use Rattle.owner_history.specs.Limits.{IsShared}
 
 -- who has a limit is an analyst of the entry
 pub limited_known : (entry : Entry) (analyst limit : ℕ) → IsShared entry → limit_of entry analyst ≡ Some limit → analyst < entry.analysts

@@ -5,16 +5,20 @@ use Rattle.std.proofs.Math.Seq.{take-length}
 use Rattle.journal_records.specs.declared.records.Record.{Record}
 use Rattle.budget_core.specs.Cost.{cost_of, budget_of}
 use Rattle.budget_core.specs.Entries.{Entry}
-use Rattle.budget_core.specs.Legal.{IsLegal}
+use Rattle.budget_core.specs.Legal.{IsHistory, IsLegal}
 use Rattle.budget_core.proofs.LegalLemmas.{legal-cost}
+use Rattle.budget_core.proofs.MineLemmas.{stays_within_limits}
 use Rattle.answer_path.specs.OwnerHouse.Owner.{Owner, HasData}
-use Rattle.owner_history.specs.Sound.{IsBacked, IsFound, IsOwed, MayBeFound}
+use Rattle.owner_history.specs.Sound.{AreWithinLimits, IsBacked, IsFound, IsOwed, MayBeFound}
 use Rattle.owner_history.proofs.Bounded.{explained_bounded, explained_shares}
-use Rattle.owner_history.proofs.Shares.{history_limited}
 use Rattle.owner_history.proofs.Steps.{IsLawful, IsWell}
 
 beyond : {X : Type 0} (xs : List X) (k : ℕ) (x : X) → length xs ≤ k → slice_get xs k ≡ Some x → ⊥
 beyond xs k x past at = let within = slice_get_within xs k x at in omega arith
+
+-- In a history each analyst is within its limit.
+pub history_limited : (entry : Entry) (records : List Record) → IsHistory entry records → AreWithinLimits entry records
+history_limited entry records h = λ analyst limit is. stays_within_limits entry records analyst limit h is
 
 -- Records are legal after themselves.
 pub legal_self : (entry : Entry) (found : List Record) → IsLegal entry found found

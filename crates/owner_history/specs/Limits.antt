@@ -1,13 +1,7 @@
--- What each analyst may spend of an owner's budget.
-use Rattle.std.specs.Prelude.{◌≡◌, ℕ, ◌≤◌, ◌<◌, List, length, Some, unwrap_or, IsSome}
-use Rattle.journal_records.specs.declared.records.Record.{Record}
+-- A budget of which each analyst has a share.
+use Rattle.std.specs.Prelude.{ℕ, ◌≤◌, ◌<◌, length, unwrap_or, IsSome}
 use Rattle.partition_charge.specs.Cost.{total_below}
 use Rattle.budget_core.specs.Entries.{Entry, limit_of}
-use Rattle.budget_core.specs.Mine.{spent_by}
-
--- Each analyst has spent at most its limit, where it has one.
-abbrev pub AreWithinLimits : Entry → List Record → Type 0
-AreWithinLimits entry records = (analyst limit : ℕ) → limit_of entry analyst ≡ Some limit → spent_by entry records analyst ≤ limit
 
 -- Every analyst has a limit, nobody else has one, and all limits together are within the budget: each has a share of its own.
 pub record IsShared (entry : Entry) : Type 0 where

@@ -25,7 +25,7 @@ use Rattle.successive_runs.specs.Life.{Run, IsRun, all_sent}
 use Rattle.successive_runs.specs.Run.{WentOn}
 use Rattle.successive_runs.proofs.Files.{leaves_weaker, lines_are_runs}
 use Rattle.successive_runs.proofs.Numbered.{answer_stands}
-use Rattle.successive_runs.proofs.OwnerHistory.Shares.{history_limited}
+use Rattle.successive_runs.proofs.OwnerHistory.Sound.{history_limited}
 use Rattle.successive_runs.proofs.Ran.{IsGoneOn, gone_on}
 use Rattle.successive_runs.proofs.Sent.{borne_left}
 use Rattle.served_sessions.specs.Stopped.{HoldsAllTold}

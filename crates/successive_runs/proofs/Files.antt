@@ -19,7 +19,7 @@ use Rattle.owner_house.specs.Owner.{Owner}
 use Rattle.owner_house.specs.House.{House, IsOwnerIn, house_of}
 use Rattle.owner_house.proofs.Owners.{entry_said, in_catalog, register_owners}
 use Rattle.query_server.specs.OwnerHistory.Sound.{IsFound}
-use Rattle.query_server.proofs.OwnerHistory.Shares.{history_limited}
+use Rattle.query_server.proofs.OwnerHistory.Sound.{history_limited}
 use Rattle.query_server.proofs.OwnerHistory.Prefixes.{prefix_self, prefix_by, prefix_trans}
 use Rattle.query_server.specs.AnswerPath.Demand.{Demand}
 use Rattle.query_server.specs.SessionCore.Code.{IsAnalyst}

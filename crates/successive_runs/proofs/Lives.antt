@@ -15,7 +15,7 @@ use Rattle.query_server.specs.OwnerHistory.Sound.{IsFound}
 use Rattle.query_server.proofs.OwnerHistory.Bounded.{explained_bounded, explained_shares}
 use Rattle.query_server.proofs.OwnerHistory.Explaining.{explains_none}
 use Rattle.query_server.proofs.OwnerHistory.Prefixes.{prefix_self, prefix_trans}
-use Rattle.query_server.proofs.OwnerHistory.Shares.{history_limited}
+use Rattle.query_server.proofs.OwnerHistory.Sound.{history_limited}
 use Rattle.query_server.specs.AnswerPath.Query.{Query}
 use Rattle.query_server.specs.AnswerPath.Demand.{Demand, asks, recalls}
 use Rattle.query_server.specs.SessionCore.Meant.{wants}
