@@ -16,8 +16,9 @@ use Rattle.budget_core.specs.Mine.{spent_by}
 use Rattle.answer_path.specs.PartViews.Views.{signature_in, rows_in}
 use Rattle.sha2.specs.Sha256.{sha256}
 use Rattle.answer_path.proofs.SizePeople.{size_people}
-use Rattle.owner_history.specs.Limits.{AreWithinLimits, IsShared}
+use Rattle.owner_history.specs.Limits.{IsShared}
 use Rattle.owner_history.specs.Shown.{IsShown, IsShownBy}
+use Rattle.owner_history.specs.Sound.{AreWithinLimits}
 use Rattle.owner_history.proofs.Examples.{people, reserved, three, three_value, two_rows, two_value}
 use Rattle.owner_history.proofs.OneShown.{share_once}
 

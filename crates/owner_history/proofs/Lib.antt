@@ -8,8 +8,8 @@ pub mod OneShown
 pub mod Grants
 pub mod Steps
 pub mod Recalls
-pub mod Sound
 pub mod Shares
+pub mod Sound
 pub mod Examples
 mod ExamplesOfRecords
 mod ExamplesOfParts

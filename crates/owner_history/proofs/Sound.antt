@@ -9,8 +9,7 @@ use Rattle.budget_core.specs.Legal.{IsHistory, IsLegal}
 use Rattle.budget_core.proofs.LegalLemmas.{legal-cost}
 use Rattle.budget_core.proofs.MineLemmas.{stays_within_limits}
 use Rattle.answer_path.specs.OwnerHouse.Owner.{Owner, HasData}
-use Rattle.owner_history.specs.Sound.{IsBacked, IsFound, IsOwed, MayBeFound}
-use Rattle.owner_history.specs.Limits.{AreWithinLimits}
+use Rattle.owner_history.specs.Sound.{AreWithinLimits, IsBacked, IsFound, IsOwed, MayBeFound}
 use Rattle.owner_history.proofs.Bounded.{explained_bounded, explained_shares}
 use Rattle.owner_history.proofs.Steps.{IsLawful, IsWell}
 

@@ -1,14 +1,14 @@
 -- What is owed to an owner, whatever becomes of a run.
-use Rattle.std.specs.Prelude.{ℕ, ◌*◌, ◌≤◌, List}
+use Rattle.std.specs.Prelude.{◌≡◌, ℕ, ◌*◌, ◌≤◌, List, Some}
 use Rattle.journal_records.specs.declared.records.Record.{Record}
 use Rattle.budget_core.specs.Cost.{cost_of, budget_of}
+use Rattle.budget_core.specs.Entries.{Entry, limit_of}
 use Rattle.budget_core.specs.Legal.{IsHistory, IsLegal}
 use Rattle.budget_core.specs.Mine.{spent_by}
 use Rattle.metric_values.specs.Tables.{Dataset, apart}
 use Rattle.metric_values.specs.Tables.{IsDataset}
 use Rattle.answer_path.specs.OwnerHouse.Owner.{Owner}
 use Rattle.owner_history.specs.Explains.{Explains}
-use Rattle.owner_history.specs.Limits.{AreWithinLimits}
 use Rattle.owner_history.specs.Shown.{IsShown, IsShownBy}
 
 -- Against any second dataset of the owner's tables the displacement shown is at most the cost times the distance, whatever
@@ -23,6 +23,10 @@ abbrev pub AreSharesBounded : Owner → (programs : List (List ℕ)) → List Re
 AreSharesBounded owner programs records = (analyst : ℕ) (other : Dataset) → IsDataset owner.tables other
     → (displaced : ℕ) × IsShownBy analyst owner.tables owner.partitions programs records owner.rows other displaced
     × (displaced ≤ spent_by owner.entry records analyst * apart owner.rows other)
+
+-- Each analyst has spent at most its limit, where it has one.
+abbrev pub AreWithinLimits : Entry → List Record → Type 0
+AreWithinLimits entry records = (analyst limit : ℕ) → limit_of entry analyst ≡ Some limit → spent_by entry records analyst ≤ limit
 
 -- what any run may find of an owner's records: each may follow those before it, and their cost is within the budget
 pub record MayBeFound (owner : Owner) (found : List Record) : Type 0 where

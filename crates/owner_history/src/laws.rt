@@ -7,7 +7,6 @@ ghost use Rattle.metric_values.specs.Tables.{Dataset};
 ghost use Rattle.answer_path.specs.OwnerCatalog.Entries.{PartitionEntry};
 ghost use Rattle.answer_path.specs.OwnerHouse.Owner.{Owner, HasData};
 ghost use Rattle.owner_history.specs.Explains.{Explains};
-ghost use Rattle.owner_history.specs.Limits.{SharesAreKept, LimitsGoByOwn};
 ghost use Rattle.owner_history.specs.Shown.{IsShown, IsShownBy};
 ghost use Rattle.owner_history.specs.Sound.{IsDisplacementBounded, AreSharesBounded};
 
@@ -29,11 +28,4 @@ pub fn records_show_one_displacement()
     ensures shares { (analyst : ℕ) (tables : Signature) (partitions : List PartitionEntry) (programs : List (List ℕ)) (records : List Record) →
         (rows other : Dataset) (d e : ℕ) → IsShownBy analyst tables partitions programs records rows other d →
         IsShownBy analyst tables partitions programs records rows other e → d ≡ e }
-{}
-
-/// Where the limits of all analysts add up to at most the budget, nobody within its limit is refused by the budget; and whether an ask
-/// exceeds its analyst's limit, no other analyst's records decide. (It is proved, and there is nothing to do.)
-pub fn analysts_keep_their_shares()
-    ensures kept { SharesAreKept }
-    ensures own { LimitsGoByOwn }
 {}

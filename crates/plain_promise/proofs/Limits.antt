@@ -11,7 +11,7 @@ use Rattle.budget_core.proofs.Histories.{history-front}
 use Rattle.wire_lines.specs.Reply.{Replied}
 use Rattle.owner_house.specs.Owner.{Owner}
 use Rattle.successive_runs.specs.AnswerPath.Demand.{Demand}
-use Rattle.successive_runs.proofs.OwnerHistory.Shares.{limits_go_by_own}
+use Rattle.owner_history.proofs.Shares.{limits_go_by_own}
 use Rattle.plain_promise.specs.Plain.{PlainPromise}
 
 -- first records of a history are one

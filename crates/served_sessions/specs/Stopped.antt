@@ -9,8 +9,7 @@ use Rattle.owner_house.specs.Owner.{Owner}
 use Rattle.owner_house.specs.House.{House}
 use Rattle.successive_runs.specs.AnswerPath.Demand.{Demand, asks}
 use Rattle.successive_runs.specs.AnswerPath.Query.{Query}
-use Rattle.successive_runs.specs.OwnerHistory.Limits.{AreWithinLimits}
-use Rattle.successive_runs.specs.OwnerHistory.Sound.{IsFound}
+use Rattle.successive_runs.specs.OwnerHistory.Sound.{AreWithinLimits, IsFound}
 use Rattle.successive_runs.specs.SessionCore.Exchanges.{Exchange}
 use Rattle.successive_runs.specs.SessionCore.Meant.{wants}
 use Rattle.successive_runs.specs.SessionCore.Served.{IsBorneOutTo}

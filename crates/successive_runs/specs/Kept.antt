@@ -11,8 +11,7 @@ use Rattle.owner_house.specs.Owner.{Owner}
 use Rattle.owner_house.specs.House.{House}
 use Rattle.query_server.specs.OwnerHistory.Explains.{IsNoisedValue}
 use Rattle.query_server.specs.OwnerHistory.Granted.{IsGranted, IsSettledFor, told_settlement}
-use Rattle.query_server.specs.OwnerHistory.Limits.{AreWithinLimits}
-use Rattle.query_server.specs.OwnerHistory.Sound.{IsFound, IsDisplacementBounded, AreSharesBounded}
+use Rattle.query_server.specs.OwnerHistory.Sound.{IsFound, IsDisplacementBounded, AreSharesBounded, AreWithinLimits}
 use Rattle.query_server.specs.AnswerPath.Query.{Query}
 use Rattle.query_server.specs.AnswerPath.Demand.{Demand, asks, recalls}
 use Rattle.query_server.specs.SessionCore.Served.{IsBorneOutTo}

@@ -35,5 +35,5 @@ returns-clause-limits g c =
     let (x, y, meets, called, after) = c.with.ensures.ran in
     let v = known c.pass.inside.ticket in
     let w = known c.with.new.pass in
-    let same : y.opened ≡ x.opened = ap (λ (z : Watched). z.opened) (sym called.leaves) ∙ called.met.1 ∙ ap (λ (z : Watched). z.opened) called.shows in
-    has_limits (opened_in v.fixed) v w x y meets after c.pass.invariant same (subst (λ (z : Watched). IsSound (ledger_on z.opened z.records)) called.leaves called.met.2)
+    let same : y.opened ≡ x.opened = ap (λ (z : Watched). z.opened) (sym called.leaves) ∙ called.met.1.0 ∙ ap (λ (z : Watched). z.opened) called.shows in
+    has_limits (opened_in v.fixed) v w x y meets after c.pass.invariant same (subst (λ (z : Watched). IsSound (ledger_on z.opened z.records)) called.leaves called.met.1.1)
