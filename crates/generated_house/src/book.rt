@@ -42,8 +42,7 @@ pub fn generated_book(alloc: Global, asks: u32) -> Result<Book<MemDisk<'static>>
         1,
         keys,
         limits,
-    )
-    .with_version(VERSION);
+    ).with_version(VERSION);
     let header = Header {
         owner: 0,
         budget: entry.budget(),

@@ -115,7 +115,7 @@ no_limits = refl
 -- in their own order, whatever the analysts' is
 two_limits : read_as (owner_in analysts 3) (with_limits (codes "[{\"analyst\":\"bob\",\"budget\":5},{\"budget\":7,\"analyst\":\"ann\"}]"))
     ≡ Ok (an_owner (a_limit (codes "bob") 5 ∷ a_limit (codes "ann") 7 ∷ [])
-      (codes "\"limits\":[{\"analyst\":\"bob\",\"budget\":5},{\"analyst\":\"ann\",\"budget\":7}],"))
+    (codes "\"limits\":[{\"analyst\":\"bob\",\"budget\":5},{\"analyst\":\"ann\",\"budget\":7}],"))
 unfolding on_literals
 two_limits = refl
 

@@ -252,23 +252,26 @@ owner_ok analysts o d x is =
     let money = number_ok _ _ _ _ budget budgeted in
     let room = number_ok _ _ _ _ capacity sized in
     let bounds = limits_ok o analysts _ limits limited in
-    subst (λ owner. IsOwner owner × HasLimitsFor analysts owner) (same_ok _ x is) (record {
-      name = text_ok is_catalog_name _ _ name named;
-      least_budget = money.0;
-      most_budget = money.1;
-      least_capacity = room.0;
-      most_capacity = room.1;
-      some_tables = all.0;
-      few_tables = all.1;
-      tables = all.2;
-      distinct_tables = all.3;
-      few_partitions = parts.1;
-      partitions = parts.2;
-      distinct_partitions = parts.3;
-      few_limits = bounds.0;
-      limits = λ l limit low. (bounds.1 l limit low).0;
-      distinct_limits = bounds.2;
-    }, λ l limit low. (bounds.1 l limit low).1))))))))
+    subst (λ owner. IsOwner owner × HasLimitsFor analysts owner) (same_ok _ x is) (
+      record {
+        name = text_ok is_catalog_name _ _ name named;
+        least_budget = money.0;
+        most_budget = money.1;
+        least_capacity = room.0;
+        most_capacity = room.1;
+        some_tables = all.0;
+        few_tables = all.1;
+        tables = all.2;
+        distinct_tables = all.3;
+        few_partitions = parts.1;
+        partitions = parts.2;
+        distinct_partitions = parts.3;
+        few_limits = bounds.0;
+        limits = λ l limit low. (bounds.1 l limit low).0;
+        distinct_limits = bounds.2;
+      },
+      λ l limit low. (bounds.1 l limit low).1,
+    ))))))))
 
 -- analysts and owners that were read are a catalog's
 pub parts_ok : (analysts : List (List ℕ)) (owners : List OwnerEntry) (text : List ℕ) (d : Data)

@@ -86,7 +86,8 @@ fn told_by_zeros<R: Threads + Wait + Sync>(
     ];
     let journal = in_version(alloc, &made_of(rt, alloc, &held)?, version)?;
     let mut house = served_of(alloc, &held, MemDisk::new(alloc, &journal, LARGE, &[])?)?;
-    let input = b"hello ann\nask census 1 size people\nleft census\nmine census\nask census 1 size people\n";
+    let input =
+        b"hello ann\nask census 1 size people\nleft census\nmine census\nask census 1 size people\n";
     let mut link = MemLink::new(alloc, input, 256, 256, &[])?;
     house.serve(rt, alloc, &mut link, &ListStreams::new(&[]));
     link.written().to_vec(alloc)
