@@ -1,5 +1,5 @@
 -- Grants over many runs.
-use Rattle.std.proofs.Common.{◌≡◌, List, [], ◌∷◌, ◌++◌, ℕ, subst, sym, inl, inr, Option}
+use Rattle.std.proofs.Common.{List, [], ◌∷◌, ◌++◌, ℕ, subst, inl, inr, Option}
 use mathlib.Core.List.{IsPrefix}
 use Rattle.journal_records.specs.declared.records.Record.{Record}
 use Rattle.journal_records.specs.declared.records.Header.{Header}

@@ -1,15 +1,13 @@
 -- A book is the pure machine of budgets.
-use Rattle.std.proofs.Common.{◌≡◌, ℕ, Bool, true, List, [], ◌∷◌, ◌++◌, Result, Ok, Err, IsOk, is_ok, is_none, if◌then◌else◌, refl, sym, ◌∙◌, ap}
+use Rattle.std.proofs.Common.{◌≡◌, ℕ, true, List, [], ◌∷◌, ◌++◌, Result, Err, IsOk, is_ok, is_none, refl, sym, ◌∙◌, ap}
 use Rattle.std.proofs.lemmas.Bool.{and_from, le-leb}
-use Rattle.journal_records.specs.declared.records.Outcome.{Outcome}
 use Rattle.journal_records.specs.declared.records.Record.{Record}
 use Rattle.budget_core.specs.declared.entry.ReserveFault.{ReserveFault}
 use Rattle.budget_core.specs.declared.entry.Grant.{Grant}
-use Rattle.budget_core.specs.declared.events.Event.TheVariants.{Reserve as ToReserve, Settle as ToSettle, Grant as ToGrant}
 use Rattle.journal_records.specs.declared.records.Record.TheVariants.{Grant as Granted}
 use Rattle.budget_core.specs.Entries.{budget_limit}
-use Rattle.budget_core.specs.Granting.{IsAmount, grant_behind, grant_verdict}
-use Rattle.budget_core.specs.Events.{World, is_ask_of, is_unsettled, is_amount, stepped}
+use Rattle.budget_core.specs.Granting.{IsAmount, grant_behind}
+use Rattle.budget_core.specs.Events.{World, is_ask_of, is_unsettled, is_amount}
 use Rattle.budget_core.specs.Ledger.{Ledger, start_of, reservation_for, money_verdict, records_after, settlement_for, IsUnsettled}
 use Rattle.budget_core.proofs.Asks.{ask-test}
 use Rattle.budget_core.proofs.EventLemmas.{if-left, reserved-step, granted-step, refused-step}

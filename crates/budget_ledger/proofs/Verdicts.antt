@@ -1,13 +1,11 @@
 -- What a book's verdict says of the verdict on its records.
-use Rattle.std.proofs.Common.{◌≡◌, ◌⊎◌, ℕ, Bool, true, false, List, [], ◌∷◌, ◌++◌, Option, None, Some, Result, Ok, Err, inl, inr, refl, sym, ◌∙◌, ap, subst}
+use Rattle.std.proofs.Common.{◌≡◌, ℕ, Bool, true, false, [], ◌∷◌, ◌++◌, Option, None, Some, Result, Ok, Err, refl, sym, ◌∙◌, ap}
 use Rattle.budget_core.specs.declared.entry.Ask.{Ask}
 use Rattle.budget_core.specs.declared.entry.Grant.{Grant}
 use Rattle.budget_core.specs.declared.entry.ReserveFault.{ReserveFault}
 use Rattle.budget_core.specs.declared.entry.ReserveFault.TheVariants.{OverBudget, Full, OverShare}
 use Rattle.budget_core.specs.Bars.{first_bar}
-use Rattle.budget_core.specs.Entries.{Entry}
 use Rattle.budget_core.specs.Ledger.{start_of, reservation_for, money_verdict, IsUnsettled}
-use Rattle.journal_records.specs.declared.records.Record.{Record}
 use Rattle.budget_ledger.specs.Account.{Failure, Account}
 use Rattle.budget_ledger.specs.Booked.{shut_bars, book_verdict, HasVerdict, HasGained, IsUnwritten, IsReserved}
 use Rattle.budget_ledger.specs.Kept.{refusal_with}

@@ -4,7 +4,7 @@ ghost use Rattle.std.specs.Prelude.{◌≡◌, ◌≤◌, IfOk};
 ghost use Rattle.journal_records.specs.Encoding.{IsHeader, IsValid};
 ghost use Rattle.budget_core.specs.Ledger.{IsUnsettled};
 
-use budget_core::answers::{Counts, GrantRefusal, Left, Recall};
+use budget_core::answers::{Counts, GrantRefusal, Left, Mine, Recall};
 use budget_core::entry::{Ask, Entry, Grant, ReserveFault};
 use budget_journal::journal::Journal;
 use budget_journal::opening::OpenFault;
@@ -196,6 +196,38 @@ fn full(rt: HostRuntime) {
     };
     assert!(rt; ask_and_settle(&mut book) == Err(BookFault::Refused(refusal)));
     assert!(rt; !book.is_closed());
+}
+
+// The first analyst's limit is 1, and the second has none.
+fn limited(alloc: Global) -> Option<Book<MemDisk<'static>>> {
+    let disk = made(alloc, 100)?;
+    let limits = Vec::from_array(alloc, [Some(1_000_000)]).ok()?;
+    let entry = Entry::new(10_000_000, 100, 2, Vec::new(alloc), limits);
+    Book::open(alloc, disk, entry, &header_of(100)).ok()
+}
+
+#[test]
+fn an_analysts_limit(rt: HostRuntime) {
+    let mut book = limited(rt.alloc()).expect(&rt, "a book");
+    assert!(rt; ask_and_settle(&mut book) == Ok(Ok(2)));
+    let refusal = ReserveFault::OverShare {
+        spent: 1_000_000,
+        after: 2_000_000,
+        limit: 1_000_000,
+        seen: 2,
+    };
+    assert!(rt; ask(&mut book) == Err(BookFault::Refused(refusal)));
+    let first = Mine {
+        spent: 1_000_000,
+        limit: Some(1_000_000),
+        seen: 2,
+    };
+    let second = Mine {
+        spent: 0,
+        limit: None,
+        seen: 2,
+    };
+    assert!(rt; book.mine(0) == first && book.mine(1) == second);
 }
 
 const SYNC_FAULTS: [AppendFault; 3] = [
