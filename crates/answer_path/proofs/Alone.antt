@@ -63,7 +63,7 @@ unfolding IsAsked IsAnswered
 alone_is_answered owner draws start query seen reply told after (g, begins, inl (program_refused refusal, is, (said, none, rest))) whole =
     let same : g ≡ seen = sym rest ∙ whole ∙ ap (λ ts. seen ++ records_told ts) none ∙ append-nil seen in
     inl (program_refused refusal, subst (λ rs. IsVerdict owner.entry (signature_of_view owner query.view) start rs query (program_refused refusal)) same is, (said, ap records_told none))
-alone_is_answered owner draws start query seen reply told after (g, begins, inl (money_refused refusal, is, (told_so, why, said, none, rest))) whole =
+alone_is_answered owner draws start query seen reply told after (g, begins, inl (money_refused refusal, is, (told_so, why, (said, none, rest)))) whole =
     let same : g ≡ seen = sym rest ∙ whole ∙ ap (λ ts. seen ++ records_told ts) none ∙ append-nil seen in
     inl (money_refused refusal, subst (λ rs. IsVerdict owner.entry (signature_of_view owner query.view) start rs query (money_refused refusal)) same is, (told_so, why, said, ap records_told none))
 alone_is_answered owner draws start query seen reply told after (g, begins, inl (granted asking grant, is, inl two)) whole =
@@ -95,7 +95,7 @@ placed : (owner : Owner) (draws : ℕ → ℕ → ℕ) (start : ℕ) (query : Qu
     → IsAsked owner draws start query seen reply told after → after ≡ seen ++ records_told told → told ≡ enumerate_from (length seen) (records_told told)
 unfolding IsAsked
 placed owner draws start query seen reply told after (g, begins, inl (program_refused refusal, is, (said, none, rest))) whole = none ∙ sym (ap (λ ts. enumerate_from (length seen) (records_told ts)) none)
-placed owner draws start query seen reply told after (g, begins, inl (money_refused refusal, is, (told_so, why, said, none, rest))) whole = none ∙ sym (ap (λ ts. enumerate_from (length seen) (records_told ts)) none)
+placed owner draws start query seen reply told after (g, begins, inl (money_refused refusal, is, (told_so, why, (said, none, rest)))) whole = none ∙ sym (ap (λ ts. enumerate_from (length seen) (records_told ts)) none)
 placed owner draws start query seen reply told after (g, begins, inl (granted asking grant, is, inl two)) whole =
     let r : Record = granted_record asking grant in
     let s : Record = settlement_for owner.entry two.u grant.number two.outcome in
@@ -141,7 +141,7 @@ asked_exactly owner draws start query seen reply told after added answered place
         → ((verdict : Verdict) × IsVerdict owner.entry (signature_of_view owner query.view) start seen query verdict × IsAskedBy owner draws query verdict seen reply told after)
         ⊎ AddsNothing seen no_memory reply told after
     by (inl (program_refused refusal, is, (said, none))) = inl (program_refused refusal, is, (said, none_told none, none_after none))
-    by (inl (money_refused refusal, is, (told_so, why, said, none))) = inl (money_refused refusal, is, (told_so, why, said, none_told none, none_after none))
+    by (inl (money_refused refusal, is, (told_so, why, said, none))) = inl (money_refused refusal, is, (told_so, why, (said, none_told none, none_after none)))
     by (inl (granted asking grant, is, inl (outcome, settles, said, two))) =
         let r : Record = granted_record asking grant in
         let s : Record = settlement_for owner.entry (seen ++ r ∷ []) grant.number outcome in

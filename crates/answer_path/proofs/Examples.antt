@@ -361,8 +361,8 @@ asked_without_memory = (before, ([], refl), inr (refl, refl, refl))
 nothing_is_unseen : (draws : ℕ → ℕ → ℕ) (after : List Record) → IsAsked (owner 1000000 2) draws 0 (a_query []) before (refused no_memory) [] after → after ≡ [] → ⊥
 unfolding IsAsked
 nothing_is_unseen draws after (g, begins, inl (program_refused r, is, (said, none, rest))) gone = cc (said)
-nothing_is_unseen draws after (g, begins, inl (money_refused r, is, (_, inl why, said, none, rest))) gone = cc (why, said)
-nothing_is_unseen draws after (g, begins, inl (money_refused r, is, (_, inr (n, low, why), said, none, rest))) gone = cc (why, said)
+nothing_is_unseen draws after (g, begins, inl (money_refused r, is, (_, inl why, (said, none, rest)))) gone = cc (why, said)
+nothing_is_unseen draws after (g, begins, inl (money_refused r, is, (_, inr (n, low, why), (said, none, rest)))) gone = cc (why, said)
 nothing_is_unseen draws after (g, begins, inl (granted asking grant, is, inl two)) gone = cc (two.told_is)
 nothing_is_unseen draws after (g, begins, inl (granted asking grant, is, inr (refusal, said, rest))) gone = cc (said)
 nothing_is_unseen draws after (g, begins, inr (said, none, rest)) gone = cc (begins.1, rest, gone)

@@ -147,7 +147,7 @@ half_a_grant : (draws : ℕ → ℕ → ℕ) (reply : Replied) (place : ℕ) (af
     → (refusal : DiskRefusal) × (reply ≡ refused (by_disk refusal))
 unfolding IsAsked
 half_a_grant draws reply place after (g, begins, inl (program_refused refusal, is, (said, none, rest))) = absurd (cc (none))
-half_a_grant draws reply place after (g, begins, inl (money_refused refusal, is, (so, why, said, none, rest))) = absurd (cc (none))
+half_a_grant draws reply place after (g, begins, inl (money_refused refusal, is, (so, why, (said, none, rest)))) = absurd (cc (none))
 half_a_grant draws reply place after (g, begins, inl (granted asking grant, is, inl two)) = absurd (cc (two.told_is))
 half_a_grant draws reply place after (g, begins, inl (granted asking grant, is, inr (refusal, said, rest))) = (refusal, said)
 half_a_grant draws reply place after (g, begins, inr (said, none, rest)) = absurd (cc (none))
@@ -175,7 +175,7 @@ adds_none : (draws : ℕ → ℕ → ℕ) (refusal : Refusal) (first : Told) (to
     → IsAsked (owner 9000000 100) draws 0 query [] (refused refusal) (first ∷ told) after → ⊥
 unfolding IsAsked
 adds_none draws refusal first told after grants disks (g, begins, inl (program_refused r, is, (said, none, rest))) = absurd (cc (none))
-adds_none draws refusal first told after grants disks (g, begins, inl (money_refused r, is, (so, why, said, none, rest))) = absurd (cc (none))
+adds_none draws refusal first told after grants disks (g, begins, inl (money_refused r, is, (so, why, (said, none, rest)))) = absurd (cc (none))
 adds_none draws refusal first told after grants disks (g, begins, inl (granted asking grant, is, inl two)) = grants grant two.outcome two.reply_is
 adds_none draws refusal first told after grants disks (g, begins, inl (granted asking grant, is, inr (unkept, said, rest))) = disks unkept said
 adds_none draws refusal first told after grants disks (g, begins, inr (said, none, rest)) = absurd (cc (none))
@@ -204,8 +204,8 @@ not_lost_without_noise : (draws : ℕ → ℕ → ℕ) → ((number : ℕ) → n
     → (told : List Told) (after : List Record) → IsAsked (owner 9000000 100) draws 0 query [] (refused (by_number (NoAnswer 1))) told after → ⊥
 unfolding IsAsked
 not_lost_without_noise draws none told after (g, begins, inl (program_refused refusal, is, (said, nothing, rest))) = absurd (cc (said))
-not_lost_without_noise draws none told after (g, begins, inl (money_refused refusal, is, (_, inl why, said, nothing, rest))) = absurd (cc (why, said))
-not_lost_without_noise draws none told after (g, begins, inl (money_refused refusal, is, (_, inr (n, low, why), said, nothing, rest))) = absurd (cc (why, said))
+not_lost_without_noise draws none told after (g, begins, inl (money_refused refusal, is, (_, inl why, (said, nothing, rest)))) = absurd (cc (why, said))
+not_lost_without_noise draws none told after (g, begins, inl (money_refused refusal, is, (_, inr (n, low, why), (said, nothing, rest)))) = absurd (cc (why, said))
 not_lost_without_noise draws none told after (g, begins, inl (granted asking grant, is, inl two)) =
     lost_has_noise (HasWorthIn (owner 9000000 100) query) grant two.outcome 1
     (subst (λ (k : Option ℤ). IsSettledAt (HasWorthIn (owner 9000000 100) query) k two.outcome) (none grant.number) two.settled) two.reply_is

@@ -34,7 +34,7 @@ none_told : (owner : Owner) (draws : ℕ → ℕ → ℕ) (start : ℕ) (query :
     → IsAsked owner draws start query seen reply told after → AddsNone reply → told ≡ []
 unfolding IsAsked
 none_told owner draws start query seen reply told after (g, begins, inl (program_refused refusal, is, (said, none, rest))) adds = none
-none_told owner draws start query seen reply told after (g, begins, inl (money_refused refusal, is, (told_so, why, said, none, rest))) adds = none
+none_told owner draws start query seen reply told after (g, begins, inl (money_refused refusal, is, (told_so, why, (said, none, rest)))) adds = none
 none_told owner draws start query seen reply told after (g, begins, inl (granted asking grant, is, inl two)) adds = absurd (outcome_adds grant two.outcome (subst AddsNone two.reply_is adds))
 none_told owner draws start query seen reply told after (g, begins, inl (granted asking grant, is, inr (refusal, said, rest))) adds = absurd (subst AddsNone said adds)
 none_told owner draws start query seen reply told after (g, begins, inr (said, none, rest)) adds = none
@@ -44,7 +44,7 @@ goes_on : (owner : Owner) (draws : ℕ → ℕ → ℕ) (start : ℕ) (query : Q
     → IsAsked owner draws start query seen reply told after → told ≡ [] → IsPrefix seen after
 unfolding IsAsked
 goes_on owner draws start query seen reply told after (g, begins, inl (program_refused refusal, is, (said, none, rest))) nothing = subst (IsPrefix seen) (sym rest) begins
-goes_on owner draws start query seen reply told after (g, begins, inl (money_refused refusal, is, (told_so, why, said, none, rest))) nothing = subst (IsPrefix seen) (sym rest) begins
+goes_on owner draws start query seen reply told after (g, begins, inl (money_refused refusal, is, (told_so, why, (said, none, rest)))) nothing = subst (IsPrefix seen) (sym rest) begins
 goes_on owner draws start query seen reply told after (g, begins, inl (granted asking grant, is, inl two)) nothing = absurd (cc (two.told_is, nothing))
 goes_on owner draws start query seen reply told after (g, begins, inl (granted asking grant, is, inr (refusal, said, inl (none, rest)))) nothing = subst (IsPrefix seen) (sym rest) begins
 goes_on owner draws start query seen reply told after (g, begins, inl (granted asking grant, is, inr (refusal, said, inr (some, rest)))) nothing = absurd (cc (some, nothing))

@@ -23,8 +23,8 @@ told_lost grant Lost n is = (cc is, refl)
 pub lost_are_charged : LostAreCharged
 unfolding IsAsked
 lost_are_charged owner draws start query seen reply told after n (g, begins, inl (program_refused refusal, is, (said, none, rest))) lost = absurd (cc (said, lost))
-lost_are_charged owner draws start query seen reply told after n (g, begins, inl (money_refused refusal, is, (_, inl why, said, none, rest))) lost = absurd (cc (why, said, lost))
-lost_are_charged owner draws start query seen reply told after n (g, begins, inl (money_refused refusal, is, (_, inr (failed_at, low, why), said, none, rest))) lost = absurd (cc (why, said, lost))
+lost_are_charged owner draws start query seen reply told after n (g, begins, inl (money_refused refusal, is, (_, inl why, (said, none, rest)))) lost = absurd (cc (why, said, lost))
+lost_are_charged owner draws start query seen reply told after n (g, begins, inl (money_refused refusal, is, (_, inr (failed_at, low, why), (said, none, rest)))) lost = absurd (cc (why, said, lost))
 lost_are_charged owner draws start query seen reply told after n (g, begins, inl (granted asking grant, is, inl two)) lost =
     let h = told_lost grant two.outcome n (sym two.reply_is ∙ lost) in (
       asking,

@@ -33,8 +33,8 @@ adds_some : (owner : Owner) (draws : ℕ → ℕ → ℕ) (start : ℕ) (query :
     → IsAsked owner draws start query seen reply told after → IsOfNumber reply → told ≡ [] → ⊥
 unfolding IsAsked
 adds_some owner draws start query seen reply told after (g, begins, inl (program_refused refusal, is, (said, none, rest))) of none' = subst IsOfNumber said of
-adds_some owner draws start query seen reply told after (g, begins, inl (money_refused refusal, is, (_, inl why, said, none, rest))) of none' = subst IsOfNumber (said ∙ ap refused why) of
-adds_some owner draws start query seen reply told after (g, begins, inl (money_refused refusal, is, (_, inr (failed_at, low, why), said, none, rest))) of none' = subst IsOfNumber (said ∙ ap refused why) of
+adds_some owner draws start query seen reply told after (g, begins, inl (money_refused refusal, is, (_, inl why, (said, none, rest)))) of none' = subst IsOfNumber (said ∙ ap refused why) of
+adds_some owner draws start query seen reply told after (g, begins, inl (money_refused refusal, is, (_, inr (failed_at, low, why), (said, none, rest)))) of none' = subst IsOfNumber (said ∙ ap refused why) of
 adds_some owner draws start query seen reply told after (g, begins, inl (granted asking grant, is, inl two)) of none' = absurd (cc (two.told_is, none'))
 adds_some owner draws start query seen reply told after (g, begins, inl (granted asking grant, is, inr (refusal, said, rest))) of none' = subst IsOfNumber said of
 adds_some owner draws start query seen reply told after (g, begins, inr (said, none, rest)) of none' = subst IsOfNumber said of

@@ -104,15 +104,19 @@ unreserved_turn name holding draws query before after p q (Unwritten (Closed fai
     let shut = money-shut before.opened.ledger.entry (first_of_run before) g asking after.failure failed_at verdict in
     record {
       told = [];
-      asked = (g, begins, inl (elim shut.3 [
-        | inl (grant, is) ↦
-            (granted asking grant, money_says owner (first_of_run before) g query p q (Ok grant) c is, inr (IsClosed failed_at, refl, inl (refl, stays.seen)))
-        | inr (fault, is, low) ↦ (
+      asked = (
+        g,
+        begins,
+        inl (elim shut.3 [
+          | inl (grant, is) ↦
+              (granted asking grant, money_says owner (first_of_run before) g query p q (Ok grant) c is, inr (IsClosed failed_at, refl, inl (refl, stays.seen)))
+          | inr (fault, is, low) ↦ (
             money_refused (money_refusal fault),
             money_says owner (first_of_run before) g query p q (Err fault) c is,
             (by_disk (IsClosed failed_at), inr (failed_at, low, refl), (refl, refl, stays.seen)),
           )
-      ]));
+        ]),
+      );
       own = kept before after stays.own;
       shuts = (shut.0, shut.1, shut.2, still before.failure after.failure stays.closed, stays.faults);
       said_open = tt;

@@ -152,7 +152,7 @@ grows_two seen mid first told after f g = record {
 module _ (owner : Owner) (draws : ℕ → ℕ → ℕ) (start : ℕ) (seen : List Record) (reply : Replied) (told : List Told) (after : List Record) where
   asked_grows : (query : Query) (g : List Record) (v : Verdict) → IsPrefix seen g → IsAskedBy owner draws query v g reply told after → Grows seen told after
   asked_grows query g (program_refused refusal) pre by = grows_none seen g told after pre by.1 by.2
-  asked_grows query g (money_refused refusal) pre by = grows_none seen g told after pre by.3 by.4
+  asked_grows query g (money_refused refusal) pre by = grows_none seen g told after pre by.2.1 by.2.2
   asked_grows query g (granted asking grant) pre (inl two) =
       let end : Record = settlement_for owner.entry two.u grant.number two.outcome in
       let reserves : Grows seen ((length g, granted_record asking grant) ∷ []) two.u = grows_one seen g (granted_record asking grant) _ two.u pre two.reserved refl in
@@ -330,7 +330,7 @@ module _ (owner : Owner) (draws : ℕ → ℕ → ℕ) (start : ℕ) (records : 
       → ((v : _) → v ≡ verdict_by_money (ask_for query p q) money → IsVerdict owner.entry (signature_of_view owner query.view) start records query v) → IsAnswer owner draws start records query
   unfolding IsAnswered
   by_money_verdict p q (Err fault) is charged verdict =
-      record { reply = refused (by_money (money_refusal fault)); added = []; answered = (money_refused (money_refusal fault), verdict _ refl, (by_money (money_refusal fault), inl refl, (refl, refl))); had = tt }
+      record { reply = refused (by_money (money_refusal fault)); added = []; answered = (money_refused (money_refusal fault), verdict _ refl, (by_money (money_refusal fault), inl refl, refl, refl)); had = tt }
   by_money_verdict p q (Ok grant) is charged verdict =
       let v = charged_have_values owner.tables owner.partitions owner.rows query.view query.program p q has.tables has.partitions has.rows charged in
       let made = settlement (HasWorthIn owner query) (noise_at query.e (draws grant.number)) grant v.0 v.1 in

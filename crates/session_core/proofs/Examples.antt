@@ -302,7 +302,7 @@ second_refused budget capacity refusal draws first second =
     let outcome = outcome_of_size 0 draws in (
       made outcome,
       (made outcome, inl (grant_answer (the_owner (house budget capacity [])) (draws 0) [] a_query a_grant 0 size_asked first no_value), refl, refl),
-      (made outcome, ([], inl (money_refused refusal, second, (by_money refusal, inl refl, (refl, refl))), refl, refl), refl),
+      (made outcome, ([], inl (money_refused refusal, second, (by_money refusal, inl refl, refl, refl)), refl, refl), refl),
     )
 
 second_over : (draws : ℕ → ℕ → ℕ → ℕ) → IsSecondRefused 1000000 100 (NoBudget 1000000 2000000 1000000 2) draws
@@ -349,8 +349,8 @@ three_answers draws = answers_on (house_of three_rows) draws 0 0 [] (one_ask (ou
 untold : (draws : ℕ → ℕ → ℕ → ℕ) (last : List Record) → AnswersOn (house_of three_rows) draws 0 0 [] (quiet (Some 0) ask_line (answered 0 (pos 2) 1000000) ∷ []) last → ⊥
 unfolding meant_by request_of IsAsked IsMet
 untold draws last (after, (g, begins, inl (program_refused refusal, is, (said, none, rest))), ends) = cc (said)
-untold draws last (after, (g, begins, inl (money_refused refusal, is, (_, inl why, said, none, rest))), ends) = cc (why, said)
-untold draws last (after, (g, begins, inl (money_refused refusal, is, (_, inr (failed_at, low, why), said, none, rest))), ends) = cc (why, said)
+untold draws last (after, (g, begins, inl (money_refused refusal, is, (_, inl why, (said, none, rest)))), ends) = cc (why, said)
+untold draws last (after, (g, begins, inl (money_refused refusal, is, (_, inr (failed_at, low, why), (said, none, rest)))), ends) = cc (why, said)
 untold draws last (after, (g, begins, inl (granted asking grant, is, inl two)), ends) = cc (two.told_is)
 untold draws last (after, (g, begins, inl (granted asking grant, is, inr (refusal, said, rest))), ends) = cc (said)
 untold draws last (after, (g, begins, inr (said, none, rest)), ends) = cc (said)

@@ -226,7 +226,7 @@ clinic_leads draws b c =
       (made_first, inl (grant_answer clinic (draws 0) [] a_query a_grant 3 size_asked refl clinic_value), refl, refl),
       (
         made_first,
-        ([], inl (money_refused (NoBudget 1000000 2000000 1000000 2), money_says clinic 0 made_first a_query 1 1 _ size_asked refl, (by_money (NoBudget 1000000 2000000 1000000 2), inl refl, (refl, refl))), refl, refl),
+        ([], inl (money_refused (NoBudget 1000000 2000000 1000000 2), money_says clinic 0 made_first a_query 1 1 _ size_asked refl, (by_money (NoBudget 1000000 2000000 1000000 2), inl refl, refl, refl)), refl, refl),
         refl,
       ),
     )

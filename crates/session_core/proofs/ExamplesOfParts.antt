@@ -231,7 +231,7 @@ clinic_leads draws =
           (third, inl (grant_answer clinic (draws 0) (first ++ second) (part 0 0 4) third_grant 2 size_asked refl value_of_a), refl, refl),
           (
             (first ++ second) ++ third,
-            ([], inl (money_refused (NoBudget 10 11 10 6), money_says clinic 0 ((first ++ second) ++ third) whole_query 1 1 _ size_asked refl, (by_money (NoBudget 10 11 10 6), inl refl, (refl, refl))), refl, refl),
+            ([], inl (money_refused (NoBudget 10 11 10 6), money_says clinic 0 ((first ++ second) ++ third) whole_query 1 1 _ size_asked refl, (by_money (NoBudget 10 11 10 6), inl refl, refl, refl)), refl, refl),
             refl,
           ),
         ),

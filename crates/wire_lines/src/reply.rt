@@ -389,11 +389,13 @@ fn write_line(reply: &Reply<'_>, out: &mut [u8; REPLY_LIMIT]) -> usize
             budget,
             seen,
         } => { put_line(out, b"left", &[Amount(spent), Amount(budget), Number(seen)]) }
-        Reply::Mine {
-            spent,
-            limit,
-            seen,
-        } => { put_line(out, b"mine", &[Amount(spent), limit_field(limit), Number(seen)]) }
+        Reply::Mine { spent, limit, seen } => {
+            put_line(
+                out,
+                b"mine",
+                &[Amount(spent), limit_field(limit), Number(seen)],
+            )
+        }
         Reply::Bye => put_line(out, b"bye", &[]),
         Reply::Refused(refusal) => write_refusal(refusal, out),
     }
