@@ -1,5 +1,5 @@
 -- What each analyst's answers show, limits that are kept and shared, and broken ones.
-use Rattle.std.proofs.Common.{◌≡◌, ℕ, zero, suc, ◌≤◌, ◌<◌, Bool, true, false, List, [], ◌∷◌, Option, Some, None, refl, sym, ◌∙◌, pos, arith}
+use Rattle.std.proofs.Common.{◌≡◌, ℕ, zero, suc, ◌≤◌, ◌<◌, true, false, List, [], ◌∷◌, Option, Some, None, refl, pos, arith}
 use Rattle.std.specs.Prelude.{IsSome}
 use Rattle.partition_charge.specs.Cost.{cost_of_charges, partition_cost}
 use Rattle.partition_charge.specs.declared.view.View.TheVariants.{Whole}

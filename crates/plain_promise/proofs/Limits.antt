@@ -1,5 +1,5 @@
 -- limits go by an analyst's own records, wherever the promise is kept
-use Rattle.std.proofs.Common.{◌≡◌, ℕ, ◌++◌, List, take, drop, sym, subst}
+use Rattle.std.proofs.Common.{◌≡◌, ℕ, List, take, drop, sym, subst}
 use Rattle.std.proofs.lemmas.List.{take-append-drop}
 use Rattle.journal_records.specs.declared.records.Record.{Record}
 use Rattle.budget_core.specs.declared.entry.Ask.{Ask}
