@@ -22,7 +22,7 @@ pub returns-in-Ok-open-clause-ledger : goal.returns-in-Ok-open-clause-ledger
 returns-in-Ok-open-clause-ledger c =
     let budget_is : c.from.result * 1000000 ≡ budget_for c.args.asks = omega (arith, c.from.ensures, c.paid_of.ensures) in
     let capacity_is : 2 * c.args.asks ≡ capacity_for c.args.asks = omega arith in
-    let plain = c.new-2.ensures ∙ entry_is c.args.asks _ _ _ newest_version budget_is capacity_is c.new.ensures.items in
+    let plain = c.new.ensures ∙ entry_is c.args.asks _ _ _ _ newest_version budget_is capacity_is c.new-keys.ensures.items c.in_ok-limits.ensures.items in
     let same = c.with_version-entry.ensures ∙ ap (λ (e : Entry). record e { version = journal_version }) plain in
     let version : c.version.result ≡ journal_version = c.version.ensures ∙ ap (λ (e : Entry). e.version) c.with_version-entry.ensures in
     let alike = ap (λ (s : Storage). s.header) c.in-Ok-open.ensures.fresh.1 in
