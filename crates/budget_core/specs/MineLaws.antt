@@ -52,7 +52,8 @@ SettlesForItsAnalyst = (entry : Entry) (records : List Record) (analyst number r
     → reservation_of records number ≡ Some asked → (asked.analyst == analyst) ≡ false
     → charges_by entry (records ++ settling_back number outcome returned ∷ []) analyst ≡ charges_by entry records analyst
 
--- Where every analyst is within a share, all records cost at most all shares.
+-- Where every analyst is within a share, all records cost at most all shares. With what each has spent as its share: all that analysts
+-- have spent adds up to at least the cost.
 abbrev pub SharesCover : Type 0
 SharesCover = (entry : Entry) (records : List Record) (share : ℕ → ℕ) → IsHistory entry records
     → ((analyst : ℕ) → spent_by entry records analyst ≤ share analyst) → cost_of entry records ≤ total_below entry.analysts share
