@@ -145,7 +145,7 @@ not_another_count : HasReserved (pass found None [] []) one (Err (Unwritten (Clo
 unfolding cost_of cost_of_charges partition_cost budget_of
 not_another_count (g, begins, (verdict, stays)) =
     let same : Err (Unwritten (Closed 3)) ≡ Err (Unwritten (Closed 4)) = subst (λ (records : List Record). verdict_on (pass found None [] []) records (Some (failed (reserved 1))) one ≡ Err (Unwritten (Closed 4))) (sym stays.seen) verdict in
-    let four : 3 ≡ 4 = cc same in omega (arith, four)
+    let four : ◌≡◌ {A = ℕ} 3 4 = cc same in omega (arith, four)
 
 not_taken_for_ones_own : HasReserved (pass found None [] []) one (Err (Unwritten (Closed 3))) (pass found (Some (failed (reserved 1))) [] (failed (reserved 1) ∷ [])) → ⊥
 not_taken_for_ones_own (g, begins, (verdict, stays)) = let no : failed (reserved 1) ∷ [] ≡ [] = stays.faults in cc
