@@ -32,7 +32,7 @@ use Rattle.shape_run.specs.declared.plan.ShapeFault.TheVariants.{TooDeep, TooLon
 use Rattle.shape_run.specs.Plans.{IsPlanOf, IsStopOf}
 use Rattle.wire_lines.specs.Refusal.{ProgramRefusal, Refusal, by_line, by_program, by_money, by_disk, by_number, no_memory}
 use Rattle.answer_path.specs.Reading.{unlexed, stuck, nested, read, IsReading}
-use Rattle.answer_path.specs.Judgement.{HasTooManyWalks, TakesTooManyWalks, accepted, judgement_of, judged_by, refused_for, shaped_by, fault_refusal}
+use Rattle.answer_path.specs.Judgement.{HasTooManyWalks, TakesTooManyWalks, accepted, judgement_of, judged_by, refused_for, shaped_by, walks_too_much, fault_refusal}
 use Rattle.owner_house.specs.Names.{AreNames}
 use Rattle.answer_path.specs.declared.program.Accepted.{Accepted}
 use Rattle.answer_path.specs.declared.program.Judged.{Judged}
@@ -138,15 +138,14 @@ term_refused ts w e (by_number refusal) h k = absurd k
 
 -- too many walks
 
-walks_accepted : (ts : Signature) (e : Term) → TakesTooManyWalks ts e → (r : Distance) × (judgement_of ts (read e) ≡ accepted e r)
+pub walks_judged : (ts : Signature) (e : Term) → TakesTooManyWalks ts e → judgement_of ts (read e) ≡ walks_too_much
 unfolding judgement_of
-walks_accepted ts e (D, r, typed, walks) = (lowest r, ap (judged_by ts e) typed ∙ ap (shaped_by e (lowest r)) walks)
+walks_judged ts e (D, r, typed, walks) = ap (judged_by ts e) typed ∙ ap (shaped_by e (lowest r)) walks
 
 -- so it isn't refused for itself
 pub refused_walks_little : (ts : Signature) (w : List ℕ) (refusal : ProgramRefusal) → IsRefusedFor ts w refusal → HasTooManyWalks ts w → ⊥
 refused_walks_little ts w refusal (reading, reads', is) (e, reads, walks) =
-    let a = walks_accepted ts e walks in
-    let both : accepted e a.0 ≡ refused_for refusal = sym a.1 ∙ ap (judgement_of ts) (one_reading w (read e) reading reads reads') ∙ is in
+    let both : walks_too_much ≡ refused_for refusal = sym (walks_judged ts e walks) ∙ ap (judgement_of ts) (one_reading w (read e) reading reads reads') ∙ is in
     cc both
 
 -- a program that takes too many walks can only be refused for want of memory
