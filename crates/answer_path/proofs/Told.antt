@@ -36,7 +36,9 @@ use Rattle.answer_path.specs.Judgement.{HasTooManyWalks, TakesTooManyWalks, acce
 use Rattle.owner_house.specs.Names.{AreNames}
 use Rattle.answer_path.specs.declared.program.Accepted.{Accepted}
 use Rattle.answer_path.specs.declared.program.Judged.{Judged}
-use Rattle.answer_path.specs.Code.{IsAccepted, IsJudged, IsProgramRefusal, IsRefusedFor, IsTermRefusal, lex_refusal, parse_refusal, limit_refusal, HasTable, TellsFault}
+use Rattle.answer_path.specs.declared.program.Unjudged.{Unjudged}
+use Rattle.answer_path.specs.declared.program.Unjudged.TheVariants.{Refused as Said, TooManyWalks as WalksTooMuch}
+use Rattle.answer_path.specs.Code.{IsAccepted, IsJudged, IsProgramRefusal, IsRefusedFor, IsTermRefusal, IsUndecided, IsUnjudged, lex_refusal, parse_refusal, limit_refusal, told_of, HasTable, TellsFault}
 use Rattle.answer_path.proofs.Readings.{one_reading}
 use Rattle.answer_path.proofs.Programs.{same_term}
 
@@ -137,6 +139,29 @@ term_refused ts w e (by_disk refusal) h k = absurd k
 term_refused ts w e (by_number refusal) h k = absurd k
 
 -- too many walks
+
+pub stopped_walks : (ts : Signature) (e : Term) (checked : Checked) → IsChecked ts e checked → IsStopOf ts e TooManyWalks → TakesTooManyWalks ts e
+stopped_walks ts e checked h walks = (h.D, h.r, h.accepted, walks)
+
+-- why a program's term isn't judged is why the program isn't
+pub term_undecided : (ts : Signature) (w : List ℕ) (e : Term) (why : Unjudged) → IsReading w (read e) → IsUnjudged ts e why → IsUndecided ts w why
+term_undecided ts w e (Said refusal) reads is = term_refused ts w e _ reads is
+term_undecided ts w e WalksTooMuch reads walks = (e, reads, walks)
+
+-- and is told as one of its refusals
+pub unjudged_told : (ts : Signature) (e : Term) (why : Unjudged) (refusal : Refusal) → IsUnjudged ts e why → refusal ≡ told_of why → IsTermRefusal ts e refusal
+unjudged_told ts e why refusal is same = subst (IsTermRefusal ts e) (sym same) (go why is)
+  where
+    go : (why : Unjudged) → IsUnjudged ts e why → IsTermRefusal ts e (told_of why)
+    go (Said refusal) is = is
+    go WalksTooMuch walks = tt
+
+pub undecided_told : (ts : Signature) (w : List ℕ) (why : Unjudged) (refusal : Refusal) → IsUndecided ts w why → refusal ≡ told_of why → IsProgramRefusal ts w refusal
+undecided_told ts w why refusal is same = subst (IsProgramRefusal ts w) (sym same) (go why is)
+  where
+    go : (why : Unjudged) → IsUndecided ts w why → IsProgramRefusal ts w (told_of why)
+    go (Said refusal) is = is
+    go WalksTooMuch walks = tt
 
 pub walks_judged : (ts : Signature) (e : Term) → TakesTooManyWalks ts e → judgement_of ts (read e) ≡ walks_too_much
 unfolding judgement_of
