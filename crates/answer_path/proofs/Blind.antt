@@ -5,7 +5,7 @@ use Rattle.budget_core.specs.Bare.{without_answers}
 use Rattle.budget_core.proofs.BareLemmas.{money_verdict-without_answers}
 use Rattle.budget_core.specs.Entries.{Entry}
 use Rattle.fz_frac.specs.Distance.{Fin, Inf}
-use Rattle.answer_path.specs.Judgement.{Judgement, refused_for, accepted, judgement_of}
+use Rattle.answer_path.specs.Judgement.{Judgement, refused_for, walks_too_much, accepted, judgement_of}
 use Rattle.answer_path.specs.Query.{Query}
 use Rattle.answer_path.specs.Verdict.{Verdict, ask_for, verdict_by_money, IsVerdictBy, IsVerdict}
 use Rattle.answer_path.specs.Laws.{VerdictsSeeNoAnswers}
@@ -13,11 +13,13 @@ use Rattle.answer_path.specs.Laws.{VerdictsSeeNoAnswers}
 judged_blind : (entry : Entry) (start : ℕ) (records : List Record) (query : Query) (j : Judgement) (v : Verdict) → IsVerdictBy entry start (without_answers records) query j v → IsVerdictBy entry start records query j v
 judged_blind entry start records query (refused_for refusal) v is = is
 judged_blind entry start records query (accepted e (Fin p q)) v is = is ∙ ap (verdict_by_money (ask_for query p q)) (money_verdict-without_answers entry start records (ask_for query p q))
+judged_blind entry start records query walks_too_much v is = is
 judged_blind entry start records query (accepted e Inf) v is = is
 
 judged_seeing : (entry : Entry) (start : ℕ) (records : List Record) (query : Query) (j : Judgement) (v : Verdict) → IsVerdictBy entry start records query j v → IsVerdictBy entry start (without_answers records) query j v
 judged_seeing entry start records query (refused_for refusal) v is = is
 judged_seeing entry start records query (accepted e (Fin p q)) v is = is ∙ ap (verdict_by_money (ask_for query p q)) (sym (money_verdict-without_answers entry start records (ask_for query p q)))
+judged_seeing entry start records query walks_too_much v is = is
 judged_seeing entry start records query (accepted e Inf) v is = is
 
 pub verdict_blind : VerdictsSeeNoAnswers

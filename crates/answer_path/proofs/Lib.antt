@@ -23,6 +23,7 @@ pub mod Sole
 pub mod Lost
 pub mod Idle
 pub mod SizePeople
+pub mod Walking
 -- passed on to the crates above
 pub mod OwnerDesk
 pub mod OwnerHouse

@@ -8,13 +8,13 @@ use Rattle.fz_ast.specs.Terms.{AppE, ClipE, FunE, IfE, LeE, LetE, NumE, PairE, P
 use Rattle.fz_ast.specs.Types.{NumT}
 use Rattle.metric_law.specs.Worked.{worked_tables}
 use Rattle.shape_law.specs.Walk.{depth_limit}
-use Rattle.shape_law.specs.Worked.{nested}
+use Rattle.shape_law.specs.Worked.{doubled_and_nested, nested, nested_and_doubled}
 use Rattle.shape_run.specs.Plans.{IsPlanOf}
 use Rattle.wire_lines.specs.Refusal.{ill_typed, unbounded, no_number, too_deep, too_long, too_wide}
 use Rattle.wire_lines.specs.declared.refusal.TypeFault.TheVariants.{Unbound}
 use Rattle.answer_path.specs.declared.program.Accepted.{Accepted}
 use Rattle.answer_path.specs.Reading.{read, IsReading}
-use Rattle.answer_path.specs.Judgement.{TakesTooManyWalks, refused_for, accepted, judgement_of}
+use Rattle.answer_path.specs.Judgement.{TakesTooManyWalks, refused_for, walks_too_much, accepted, judgement_of}
 use Rattle.answer_path.specs.Code.{IsAccepted}
 use Rattle.answer_path.proofs.SizePeople.{span}
 use Rattle.answer_path.proofs.Told.{accepted_walks_little}
@@ -110,14 +110,27 @@ six_do_not : TakesTooManyWalks worked_tables (unweighed 6) → ⊥
 unfolding depth_limit
 six_do_not walks = absurd (cc walks.3)
 
--- both are judged as accepted, but a program of six alone is: that of seven has no plan
+-- so six are accepted, and seven aren't: they have no plan
 pub six_are_judged : judgement_of worked_tables (read (unweighed 6)) ≡ accepted (unweighed 6) (Fin 0 1)
 unfolding judgement_of depth_limit gcd gcd_in is_out
 six_are_judged = refl
 
-seven_are_judged : judgement_of worked_tables (read (unweighed 7)) ≡ accepted (unweighed 7) (Fin 0 1)
+seven_are_judged : judgement_of worked_tables (read (unweighed 7)) ≡ walks_too_much
 unfolding judgement_of depth_limit gcd gcd_in is_out
 seven_are_judged = refl
+
+-- a limit that is passed behind too many walks, or before them, is what the program is refused for
+walks_then_wide : judgement_of worked_tables (read (at (span 0 9) (TimesE (pos 0) (nested_and_doubled 7 7)))) ≡ refused_for (too_wide 0 1 128)
+unfolding judgement_of depth_limit gcd gcd_in is_out
+walks_then_wide = refl
+
+wide_then_walks : judgement_of worked_tables (read (at (span 0 9) (TimesE (pos 0) (doubled_and_nested 7 7)))) ≡ refused_for (too_wide 0 1 128)
+unfolding judgement_of depth_limit gcd gcd_in is_out
+wide_then_walks = refl
+
+walks_then_narrow : judgement_of worked_tables (read (at (span 0 9) (TimesE (pos 0) (nested_and_doubled 7 6)))) ≡ walks_too_much
+unfolding judgement_of depth_limit gcd gcd_in is_out
+walks_then_narrow = refl
 
 pub six_have_a_plan : IsPlanOf worked_tables (unweighed 6) (record { depth = 10; turns = 39; width = 1; walks = 64; reach = 15 })
 unfolding depth_limit

@@ -43,7 +43,7 @@ accepted_is ts e t r h = go (sensitivity_of ts e) refl h
     shaped : (s : Distance) (o : WalkOutcome) → shaped_by e (lowest s) o ≡ accepted t r → (t ≡ e) × (r ≡ lowest s)
     shaped s (Shaped p k) h = (cc h, cc h)
     shaped s (Stops fault) h = absurd (cc h)
-    shaped s TooManyWalks h = (cc h, cc h)
+    shaped s TooManyWalks h = absurd (cc h)
 
     go : (a : Acceptance) → sensitivity_of ts e ≡ a → judged_by ts e a ≡ accepted t r → (D : Sensitivities) × (s : Distance) × (sensitivity_of ts e ≡ Accepted D s) × (t ≡ e) × (r ≡ lowest s)
     go (Accepted D s) q k = let h = shaped s (shape ts e) k in (D, s, q, h.0, h.1)

@@ -32,11 +32,13 @@ use Rattle.shape_run.specs.declared.plan.ShapeFault.TheVariants.{TooDeep, TooLon
 use Rattle.shape_run.specs.Plans.{IsPlanOf, IsStopOf}
 use Rattle.wire_lines.specs.Refusal.{ProgramRefusal, Refusal, by_line, by_program, by_money, by_disk, by_number, no_memory}
 use Rattle.answer_path.specs.Reading.{unlexed, stuck, nested, read, IsReading}
-use Rattle.answer_path.specs.Judgement.{HasTooManyWalks, TakesTooManyWalks, accepted, judgement_of, judged_by, refused_for, shaped_by, fault_refusal}
+use Rattle.answer_path.specs.Judgement.{HasTooManyWalks, TakesTooManyWalks, accepted, judgement_of, judged_by, refused_for, shaped_by, walks_too_much, fault_refusal}
 use Rattle.owner_house.specs.Names.{AreNames}
 use Rattle.answer_path.specs.declared.program.Accepted.{Accepted}
 use Rattle.answer_path.specs.declared.program.Judged.{Judged}
-use Rattle.answer_path.specs.Code.{IsAccepted, IsJudged, IsProgramRefusal, IsRefusedFor, IsTermRefusal, lex_refusal, parse_refusal, limit_refusal, HasTable, TellsFault}
+use Rattle.answer_path.specs.declared.program.Unjudged.{Unjudged}
+use Rattle.answer_path.specs.declared.program.Unjudged.TheVariants.{Refused as Said, TooManyWalks as WalksTooMuch}
+use Rattle.answer_path.specs.Code.{IsAccepted, IsJudged, IsProgramRefusal, IsRefusedFor, IsTermRefusal, IsUndecided, IsUnjudged, lex_refusal, parse_refusal, limit_refusal, told_of, HasTable, TellsFault}
 use Rattle.answer_path.proofs.Readings.{one_reading}
 use Rattle.answer_path.proofs.Programs.{same_term}
 
@@ -138,15 +140,37 @@ term_refused ts w e (by_number refusal) h k = absurd k
 
 -- too many walks
 
-walks_accepted : (ts : Signature) (e : Term) → TakesTooManyWalks ts e → (r : Distance) × (judgement_of ts (read e) ≡ accepted e r)
+pub stopped_walks : (ts : Signature) (e : Term) (checked : Checked) → IsChecked ts e checked → IsStopOf ts e TooManyWalks → TakesTooManyWalks ts e
+stopped_walks ts e checked h walks = (h.D, h.r, h.accepted, walks)
+
+-- why a program's term isn't judged is why the program isn't
+pub term_undecided : (ts : Signature) (w : List ℕ) (e : Term) (why : Unjudged) → IsReading w (read e) → IsUnjudged ts e why → IsUndecided ts w why
+term_undecided ts w e (Said refusal) reads is = term_refused ts w e _ reads is
+term_undecided ts w e WalksTooMuch reads walks = (e, reads, walks)
+
+-- and is told as one of its refusals
+pub unjudged_told : (ts : Signature) (e : Term) (why : Unjudged) (refusal : Refusal) → IsUnjudged ts e why → refusal ≡ told_of why → IsTermRefusal ts e refusal
+unjudged_told ts e why refusal is same = subst (IsTermRefusal ts e) (sym same) (go why is)
+  where
+    go : (why : Unjudged) → IsUnjudged ts e why → IsTermRefusal ts e (told_of why)
+    go (Said refusal) is = is
+    go WalksTooMuch walks = tt
+
+pub undecided_told : (ts : Signature) (w : List ℕ) (why : Unjudged) (refusal : Refusal) → IsUndecided ts w why → refusal ≡ told_of why → IsProgramRefusal ts w refusal
+undecided_told ts w why refusal is same = subst (IsProgramRefusal ts w) (sym same) (go why is)
+  where
+    go : (why : Unjudged) → IsUndecided ts w why → IsProgramRefusal ts w (told_of why)
+    go (Said refusal) is = is
+    go WalksTooMuch walks = tt
+
+pub walks_judged : (ts : Signature) (e : Term) → TakesTooManyWalks ts e → judgement_of ts (read e) ≡ walks_too_much
 unfolding judgement_of
-walks_accepted ts e (D, r, typed, walks) = (lowest r, ap (judged_by ts e) typed ∙ ap (shaped_by e (lowest r)) walks)
+walks_judged ts e (D, r, typed, walks) = ap (judged_by ts e) typed ∙ ap (shaped_by e (lowest r)) walks
 
 -- so it isn't refused for itself
 pub refused_walks_little : (ts : Signature) (w : List ℕ) (refusal : ProgramRefusal) → IsRefusedFor ts w refusal → HasTooManyWalks ts w → ⊥
 refused_walks_little ts w refusal (reading, reads', is) (e, reads, walks) =
-    let a = walks_accepted ts e walks in
-    let both : accepted e a.0 ≡ refused_for refusal = sym a.1 ∙ ap (judgement_of ts) (one_reading w (read e) reading reads reads') ∙ is in
+    let both : walks_too_much ≡ refused_for refusal = sym (walks_judged ts e walks) ∙ ap (judgement_of ts) (one_reading w (read e) reading reads reads') ∙ is in
     cc both
 
 -- a program that takes too many walks can only be refused for want of memory

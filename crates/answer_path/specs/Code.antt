@@ -25,13 +25,15 @@ use Rattle.shape_run.specs.declared.plan.Plan.{Plan}
 use Rattle.shape_run.specs.declared.plan.ShapeFault.{ShapeFault}
 use Rattle.shape_run.specs.declared.plan.ShapeFault.TheVariants.{TooDeep, TooLong, TooWide, TooManyWalks, NoMemory as NoCell}
 use Rattle.shape_run.specs.Plans.{IsPlanOf}
-use Rattle.wire_lines.specs.Refusal.{ProgramRefusal, no_token, no_term, too_nested, too_deep, too_long, too_wide, Refusal, by_program, no_memory}
+use Rattle.wire_lines.specs.Refusal.{ProgramRefusal, no_token, no_term, too_nested, too_deep, too_long, too_wide, Refusal, by_program, no_memory, refusal_at}
 use Rattle.answer_path.specs.Reading.{Reading, read, IsReading}
-use Rattle.answer_path.specs.Judgement.{refused_for, accepted, judgement_of, fault_refusal, HasTooManyWalks}
+use Rattle.answer_path.specs.Judgement.{refused_for, accepted, judgement_of, fault_refusal, HasTooManyWalks, TakesTooManyWalks}
 use Rattle.answer_path.specs.Query.{Query}
 use Rattle.answer_path.specs.Demand.{Demand, asks, recalls, balances, spends}
 use Rattle.answer_path.specs.declared.program.Accepted.{Accepted}
 use Rattle.answer_path.specs.declared.program.Judged.{Judged}
+use Rattle.answer_path.specs.declared.program.Unjudged.{Unjudged}
+use Rattle.answer_path.specs.declared.program.Unjudged.TheVariants.{Refused as Told, TooManyWalks as WalksTooMuch}
 use Rattle.answer_path.specs.declared.deciding.Decided.{Decided}
 use Rattle.answer_path.specs.declared.query.Query.{Query as QueryAt}
 use Rattle.answer_path.specs.declared.demand.Demand.{Demand as DemandAt}
@@ -79,6 +81,21 @@ abbrev pub IsTermRefusal : Signature → Term → Refusal → Type 0
 IsTermRefusal ts e (by_program refusal) = judgement_of ts (read e) ≡ refused_for refusal
 IsTermRefusal ts e no_memory = ⊤
 IsTermRefusal ts e refusal = ⊥
+
+-- why the term isn't judged: it is refused, or memory ran out, or it takes too many walks
+abbrev pub IsUnjudged : Signature → Term → Unjudged → Type 0
+IsUnjudged ts e (Told refusal) = IsTermRefusal ts e (refusal_at refusal)
+IsUnjudged ts e WalksTooMuch = TakesTooManyWalks ts e
+
+-- the same of a program
+abbrev pub IsUndecided : Signature → List ℕ → Unjudged → Type 0
+IsUndecided ts program (Told refusal) = IsProgramRefusal ts program (refusal_at refusal)
+IsUndecided ts program WalksTooMuch = HasTooManyWalks ts program
+
+-- too many walks are told as want of memory is
+abbrev pub told_of : Unjudged → Refusal
+told_of (Told refusal) = refusal_at refusal
+told_of WalksTooMuch = no_memory
 
 -- 20, or want of memory
 abbrev pub lex_refusal : LexFault → Refusal

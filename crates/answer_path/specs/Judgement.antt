@@ -1,4 +1,4 @@
--- What a program comes to over tables: it is refused, or is accepted with a sensitivity.
+-- What a program comes to over tables: it is refused, takes too many walks, or is accepted with a sensitivity.
 use Rattle.std.specs.Prelude.{◌≡◌, ℕ, ℤ, List}
 use Rattle.fz_frac.specs.Distance.{Distance}
 use Rattle.fz_frac.specs.Lowest.{lowest}
@@ -18,6 +18,8 @@ use Rattle.answer_path.specs.Reading.{Reading, unlexed, stuck, nested, read, IsR
 
 pub data Judgement : Type 0 where
   refused_for : ProgramRefusal → Judgement
+  -- it passes no limit, and its bags take too many walks
+  walks_too_much : Judgement
   -- the term, and its sensitivity in lowest terms
   accepted : Term → Distance → Judgement
 
@@ -38,12 +40,11 @@ shape_refusal (TooDeep s) = too_deep s.from s.to
 shape_refusal (TooLong s) = too_long s.from s.to
 shape_refusal (TooWide s width) = too_wide s.from s.to width
 
--- An accepted term is run without data, within the limits. Too many walks are no refusal of the program: memory is said to have run
--- out, which may be said of any program, and it must be said of this one (`AsksTooManyWalks`).
+-- A term that the typing rules accept is run without data: it is accepted where that passes no limit and doesn't take too many walks.
 abbrev pub shaped_by : Term → Distance → WalkOutcome → Judgement
 shaped_by e r (Shaped s k) = accepted e r
 shaped_by e r (Stops fault) = refused_for (shape_refusal fault)
-shaped_by e r TooManyWalks = accepted e r
+shaped_by e r TooManyWalks = walks_too_much
 
 -- the typing rules accept the term, it passes no limit, and the functions of one of its bags take too many walks for a row
 abbrev pub TakesTooManyWalks : Signature → Term → Type 0

@@ -1,5 +1,6 @@
 -- What is proved of readings and of judgements.
 use Rattle.std.specs.Prelude.{◌≡◌, ◌↔◌, ◌⊎◌, ℕ, ℤ, List, [], ◌∷◌, ◌++◌}
+use mathlib.Core.List.{IsPrefix}
 use Rattle.journal_records.specs.declared.records.Record.{Record}
 use Rattle.journal_records.specs.declared.records.Record.TheVariants.{Reserve}
 use Rattle.journal_records.specs.Records.{settling}
@@ -19,10 +20,10 @@ use Rattle.fz_ast.specs.Terms.{Term}
 use Rattle.metric_values.specs.Distances.{gap}
 use Rattle.metric_values.specs.Tables.{Dataset, apart}
 use Rattle.metric_values.specs.Tables.{IsDataset}
-use Rattle.wire_lines.specs.Refusal.{by_number}
+use Rattle.wire_lines.specs.Refusal.{by_number, no_memory}
 use Rattle.wire_lines.specs.Reply.{Replied, refused}
 use Rattle.wire_lines.specs.declared.refusal.NumberRefusal.TheVariants.{Lost as NoAnswer}
-use Rattle.owner_house.specs.Owner.{Owner}
+use Rattle.owner_house.specs.Owner.{Owner, signature_of_view}
 use Rattle.answer_path.specs.Query.{Query}
 use Rattle.answer_path.specs.Program.{IsCharged}
 use Rattle.answer_path.specs.Verdict.{Verdict, IsVerdict}
@@ -34,7 +35,7 @@ use Rattle.answer_path.specs.Shut.{Shut, ShutsBy, shut_of}
 use Rattle.answer_path.specs.Idle.{AddsNone, IsAlone, IsIdle, IsShutOut, LeavesBook}
 use Rattle.answer_path.specs.Closing.{Closes}
 use Rattle.answer_path.specs.Reading.{Reading, read, IsReading}
-use Rattle.answer_path.specs.Judgement.{accepted, judgement_of, HasValue}
+use Rattle.answer_path.specs.Judgement.{accepted, judgement_of, HasTooManyWalks, HasValue}
 
 -- a program comes to one thing at most
 abbrev pub OneReading : Type 0
@@ -139,3 +140,18 @@ abbrev pub RefusalsLeaveRecords : Type 0
 RefusalsLeaveRecords =
     (owner : Owner) (draws : ℕ → ℕ → ℕ) (start : ℕ) (demand : Demand) (seen : List Record) (reply : Replied) (told : List Told) (after : List Record)
     → IsMetExactly owner draws start demand seen reply told after → AddsNone reply → (told ≡ []) × (after ≡ seen)
+
+-- A query whose program takes too many walks over the tables of its view is told that memory ran out, whatever the records and the rows are, and
+-- it adds nothing: so it is never charged.
+abbrev pub WalksAreTold : Type 0
+WalksAreTold =
+    (owner : Owner) (draws : ℕ → ℕ → ℕ) (start : ℕ) (query : Query) (seen : List Record) (reply : Replied) (told : List Told) (after : List Record)
+    → HasTooManyWalks (signature_of_view owner query.view) query.program → IsMet owner draws start (asks query) seen reply told after
+    → (reply ≡ refused no_memory) × (told ≡ []) × IsPrefix seen after
+
+-- There is a verdict on each other program, and on such a one there is none.
+abbrev pub WalksAloneHaveNoVerdict : Type 0
+WalksAloneHaveNoVerdict =
+    (entry : Entry) (tables : Signature) (start : ℕ) (records : List Record) (query : Query)
+    → (((verdict : Verdict) × IsVerdict entry tables start records query verdict) ⊎ HasTooManyWalks tables query.program)
+    × (HasTooManyWalks tables query.program → (verdict : Verdict) → IsVerdict entry tables start records query verdict → ⊥)

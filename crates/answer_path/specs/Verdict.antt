@@ -14,7 +14,7 @@ use Rattle.sha2.specs.Sha256.{sha256}
 use Rattle.fz_frac.specs.Distance.{Fin, Inf}
 use Rattle.fz_ast.specs.Signature.{Signature}
 use Rattle.answer_path.specs.Reading.{Reading, IsReading}
-use Rattle.answer_path.specs.Judgement.{Judgement, refused_for, accepted, judgement_of}
+use Rattle.answer_path.specs.Judgement.{Judgement, refused_for, walks_too_much, accepted, judgement_of}
 use Rattle.answer_path.specs.Query.{Query}
 
 -- an ask is refused for its program, or by the budget, or is granted a reservation
@@ -37,9 +37,11 @@ abbrev pub verdict_by_money : Ask → Result Grant ReserveFault → Verdict
 verdict_by_money ask (Ok grant) = granted ask grant
 verdict_by_money ask (Err fault) = money_refused (money_refusal fault)
 
--- The budget is asked with the sensitivity of an accepted program. It is finite, so the last case doesn't come.
+-- The budget is asked with the sensitivity of an accepted program. It is finite, so the last case doesn't come. On a program that takes too
+-- many walks there is no verdict: such a line is told that memory ran out, and adds nothing (`WalksAreTold`).
 abbrev pub IsVerdictBy : Entry → (start : ℕ) → List Record → Query → Judgement → Verdict → Type 0
 IsVerdictBy entry start records query (refused_for refusal) verdict = verdict ≡ program_refused refusal
+IsVerdictBy entry start records query walks_too_much verdict = ⊥
 IsVerdictBy entry start records query (accepted e (Fin p q)) verdict =
     verdict ≡ verdict_by_money (ask_for query p q) (money_verdict entry start records (ask_for query p q))
 IsVerdictBy entry start records query (accepted e Inf) verdict = ⊥

@@ -326,6 +326,6 @@ pub fn ask<'d, R: Wait, D: Disk, S: Streams>(
             owner,
             query,
         ),
-        Err(refusal) => Reply::Refused(refusal),
+        Err(unjudged) => Reply::Refused(unjudged.told()),
     }
 }

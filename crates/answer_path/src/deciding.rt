@@ -1,15 +1,13 @@
 //! What is said of a query's program before the budget is asked.
 
 ghost use Rattle.std.specs.Prelude.{IfOk, IfErr};
-ghost use Rattle.wire_lines.specs.Refusal.{refusal_at};
 ghost use Rattle.owner_house.specs.Names.{AreNames};
-ghost use Rattle.answer_path.specs.Code.{IsDecided, IsProgramRefusal};
+ghost use Rattle.answer_path.specs.Code.{IsDecided, IsUndecided};
 
 use crate::last_program::LastProgram;
-use crate::program::{Judged, judge};
+use crate::program::{Judged, Unjudged, judge_apart};
 use fz_ast::Sig;
 use std::alloc::Global;
-use wire_lines::Refusal;
 
 /// A program that is read and judged, and the SHA-256 of its bytes.
 #[derive(Drop)]
@@ -19,28 +17,28 @@ pub struct Decided<'a> {
 }
 
 /// Reads a program, unless it is the last one, and judges it over the tables of a view. It is handed a signature and no rows, so no
-/// refusal of a program, and no word that memory ran out, goes by a row.
+/// refusal of a program, no word of too many walks, and no word that memory ran out, goes by a row.
 ///
 /// # Errors
 ///
-/// What `read_program` or `judge` refuses it for; or memory ran out.
+/// What `read_program` or `judge_apart` says of it.
 pub fn decide<'s: 'a, 'a>(
     alloc: Global,
     last: &'a mut LastProgram,
     sig: &'s Sig,
     bytes: &[u8],
-) -> Result<Decided<'a>, Refusal<'s>>
+) -> Result<Decided<'a>, Unjudged<'s>>
     requires { AreNames sig.now }
     ensures decided { IfOk result (IsDecided sig.now bytes.now) }
-    ensures refused { IfErr result (λ refusal. IsProgramRefusal sig.now bytes.now (refusal_at refusal)) }
+    ensures undecided { IfErr result (IsUndecided sig.now bytes.now) }
 {
     let program = match last.recall_or_read(alloc, bytes) {
         Ok(program) => program,
-        Err(refusal) => return Err(refusal),
+        Err(refusal) => return Err(Unjudged::Refused(refusal)),
     };
     let digest = program.digest();
-    match judge(alloc, sig, program.term()) {
+    match judge_apart(alloc, sig, program.term()) {
         Ok(judged) => Ok(Decided { judged, digest }),
-        Err(refusal) => Err(refusal),
+        Err(unjudged) => Err(unjudged),
     }
 }

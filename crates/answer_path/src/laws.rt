@@ -2,7 +2,7 @@
 
 ghost use Rattle.answer_path.specs.Laws.{AcceptedAreBounded, AcceptedHaveValues, AloneIsAnswered, AloneIsMet, ChargedAreBounded, ChargedHaveValues};
 ghost use Rattle.answer_path.specs.Laws.{EveryReading, ExactlyIsMet, LostAreCharged, OnePassCloses, OneReading, OneValue, VerdictsSeeNoAnswers};
-ghost use Rattle.answer_path.specs.Laws.{RefusalsAddNothing, RefusalsLeavePass, RefusalsLeaveRecords};
+ghost use Rattle.answer_path.specs.Laws.{RefusalsAddNothing, RefusalsLeavePass, RefusalsLeaveRecords, WalksAloneHaveNoVerdict, WalksAreTold};
 
 /// Any bytes come to just one term or one fault.
 pub fn programs_are_read_in_one_way()
@@ -54,4 +54,10 @@ pub fn refusals_add_nothing()
     ensures any { RefusalsAddNothing }
     ensures alone { RefusalsLeavePass }
     ensures exactly { RefusalsLeaveRecords }
+{}
+
+/// A query whose program takes too many walks is told that memory ran out, adds nothing, and is never charged; on each other there is a verdict.
+pub fn walks_are_told()
+    ensures told { WalksAreTold }
+    ensures verdict { WalksAloneHaveNoVerdict }
 {}

@@ -18,7 +18,7 @@ pub use last_program::{LastProgram, Program};
 pub use laws::{
     accepted_programs_have_values, lone_asks_are_answered, lone_demands_are_met,
     lost_answers_are_charged, programs_are_bounded, programs_are_read_in_one_way,
-    refusals_add_nothing, verdicts_see_no_answers,
+    refusals_add_nothing, verdicts_see_no_answers, walks_are_told,
 };
 pub use meeting::meet;
 pub use owner_desk::{Desk, Guarded, Held, Knows, Noted, Pass};

@@ -5,7 +5,7 @@ ghost use Rattle.fz_ast.specs.Signature.{Signature};
 ghost use Rattle.wire_lines.specs.Refusal.{refusal_at};
 ghost use Rattle.answer_path.specs.Reading.{read, IsReading};
 ghost use Rattle.owner_house.specs.Names.{AreNames};
-ghost use Rattle.answer_path.specs.Code.{IsAccepted, IsJudged, IsProgramRefusal, IsTermRefusal};
+ghost use Rattle.answer_path.specs.Code.{IsAccepted, IsJudged, IsProgramRefusal, IsTermRefusal, IsUnjudged, told_of};
 
 use crate::refusals::{fault_refusal, lex_refusal, limit_refusal, parse_refusal};
 use fz_ast::{Sig, Term};
@@ -13,7 +13,7 @@ use fz_frac::Sens;
 use fz_lexer::lex;
 use fz_parser::parse;
 use sensitivity_check::{Checked, check};
-use shape_run::{Plan, shape};
+use shape_run::{Plan, ShapeFault, shape};
 use std::alloc::Global;
 use wire_lines::Refusal;
 
@@ -29,6 +29,25 @@ pub struct Accepted {
 pub struct Judged<'a> {
     pub checked: Checked<'a>,
     pub plan: Plan,
+}
+
+/// Why a term or a program isn't judged: it is refused, or memory ran out; or it takes too many walks, which is neither.
+#[derive(Clone, Copy)]
+pub enum Unjudged<'a> {
+    Refused(Refusal<'a>),
+    TooManyWalks,
+}
+
+impl<'a> Unjudged<'a> {
+    /// What is told of it: of too many walks the same as of want of memory.
+    pub fn told(self) -> Refusal<'a>
+        ensures { refusal_at result ≡ told_of self.entry }
+    {
+        match self {
+            Unjudged::Refused(refusal) => refusal,
+            Unjudged::TooManyWalks => Refusal::NoMemory,
+        }
+    }
 }
 
 /// Reads a program as a term.
@@ -54,7 +73,32 @@ pub fn read_program<'s>(alloc: Global, bytes: &[u8]) -> Result<Term, Refusal<'s>
 ///
 /// # Errors
 ///
-/// It is ill typed, too sensitive or no number, or goes past a limit of runs; or memory ran out.
+/// It is ill typed, too sensitive or no number, or goes past a limit of runs; or it takes too many walks; or memory ran out.
+pub(crate) fn judge_apart<'s: 'a, 'a>(
+    alloc: Global,
+    sig: &'s Sig,
+    term: &'a Term,
+) -> Result<Judged<'a>, Unjudged<'s>>
+    requires { AreNames sig.now }
+    ensures judged { IfOk result (IsJudged sig.now term.now) }
+    ensures unjudged { IfErr result (IsUnjudged sig.now term.now) }
+{
+    let checked = match check(alloc, sig, term) {
+        Ok(checked) => checked,
+        Err(fault) => return Err(Unjudged::Refused(fault_refusal(sig, &fault))),
+    };
+    match shape(alloc, sig, term) {
+        Ok(plan) => Ok(Judged { checked, plan }),
+        Err(ShapeFault::TooManyWalks) => Err(Unjudged::TooManyWalks),
+        Err(fault) => Err(Unjudged::Refused(limit_refusal(fault))),
+    }
+}
+
+/// The same, where too many walks are told as want of memory is.
+///
+/// # Errors
+///
+/// What `judge_apart` says of it.
 pub fn judge<'s: 'a, 'a>(
     alloc: Global,
     sig: &'s Sig,
@@ -64,13 +108,9 @@ pub fn judge<'s: 'a, 'a>(
     ensures judged { IfOk result (IsJudged sig.now term.now) }
     ensures refused { IfErr result (λ refusal. IsTermRefusal sig.now term.now (refusal_at refusal)) }
 {
-    let checked = match check(alloc, sig, term) {
-        Ok(checked) => checked,
-        Err(fault) => return Err(fault_refusal(sig, &fault)),
-    };
-    match shape(alloc, sig, term) {
-        Ok(plan) => Ok(Judged { checked, plan }),
-        Err(fault) => Err(limit_refusal(fault)),
+    match judge_apart(alloc, sig, term) {
+        Ok(judged) => Ok(judged),
+        Err(unjudged) => Err(unjudged.told()),
     }
 }
 

@@ -11,3 +11,4 @@ pub use Rattle.answer_path.proofs.Alone
 pub use Rattle.answer_path.proofs.Sole
 pub use Rattle.answer_path.proofs.Idle
 pub use Rattle.answer_path.proofs.SizePeople
+pub use Rattle.answer_path.proofs.Walking

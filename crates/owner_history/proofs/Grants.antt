@@ -13,7 +13,7 @@ use Rattle.answer_path.specs.OwnerHouse.Owner.{Owner, signature_of_view}
 use Rattle.answer_path.specs.Query.{Query}
 use Rattle.answer_path.specs.Program.{IsCharged}
 use Rattle.answer_path.specs.Reading.{Reading, unlexed, stuck, nested, read, IsReading}
-use Rattle.answer_path.specs.Judgement.{Judgement, refused_for, accepted, judgement_of}
+use Rattle.answer_path.specs.Judgement.{Judgement, refused_for, walks_too_much, accepted, judgement_of}
 use Rattle.answer_path.specs.Verdict.{granted, ask_for, verdict_by_money, IsVerdictBy, IsVerdict}
 use Rattle.answer_path.proofs.Programs.{accepted_is}
 
@@ -49,6 +49,7 @@ verdict_grants owner start records query asking grant v = here (judgement_of (si
   where
     here : (j : Judgement) → judgement_of (signature_of_view owner query.view) v.0 ≡ j → IsVerdictBy owner.entry start records query j (granted asking grant) → IsGrantFor owner start records query asking grant
     here (refused_for refusal) was by = absurd (cc (by))
+    here walks_too_much was by = absurd by
     here (accepted e Inf) was by = absurd by
     here (accepted e (Fin p q)) was by =
         let a = accepted_as (signature_of_view owner query.view) v.0 e (Fin p q) was in

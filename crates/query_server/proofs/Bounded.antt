@@ -7,7 +7,7 @@ use Rattle.fz_ast.specs.Terms.{Term}
 use Rattle.metric_values.specs.Distances.{gap as difference}
 use Rattle.metric_values.specs.Tables.{Dataset, IsDataset, apart}
 use Rattle.generated_run.specs.AnswerPath.Reading.{Reading, unlexed, stuck, nested, read, IsReading}
-use Rattle.generated_run.specs.AnswerPath.Judgement.{HasValue, Judgement, refused_for, accepted, judgement_of}
+use Rattle.generated_run.specs.AnswerPath.Judgement.{HasValue, Judgement, refused_for, walks_too_much, accepted, judgement_of}
 use Rattle.generated_run.proofs.AnswerPath.Programs.{accepted_are_bounded}
 use Rattle.query_server.specs.Gap.{GapsAreBounded, IsGapBy, gap_text}
 use Rattle.query_server.specs.declared.end.Status.TheVariants.{Done}
@@ -24,6 +24,7 @@ found : (tables : Signature) → IsSignature tables → (X Y : Dataset) (program
     → judgement_of tables reading ≡ judgement → IsGapBy judgement tables X Y program Done text
     → (r : Distance) × (y : ℤ) × (z : ℤ) × (text ≡ gap_text (apart X Y) r y z) × (Fin (difference y z) 1 ⊑ mul r (Fin (apart X Y) 1))
 found tables signed X Y program text reading (refused_for refusal) x x' reads is (wrong, same) = cc
+found tables signed X Y program text reading walks_too_much x x' reads is due = absurd due
 found tables signed X Y program text reading (accepted e r) x x' reads is (y, z, v, w, done, same) = (r, y, z, same, near tables signed X Y program reading e r y z x x' reads is v w)
 
 pub gaps_bounded : GapsAreBounded

@@ -224,7 +224,7 @@ no_token_refused X Y program reads =
 no_token_undone : (X Y : Dataset) (program text : List ℕ) → IsGapBy (refused_for (no_token 0)) [] X Y program Done text → ⊥
 no_token_undone X Y program text (wrong, is) = cc
 
--- six maps that each sum the bag before for each row are just few enough walks, and to seven nothing is due, though they are judged as accepted
+-- six maps that each sum the bag before for each row are just few enough walks, and to seven nothing is due
 six_maps_accepted : (program : List ℕ) → IsReading program (read (unweighed 6)) → IsProgramDue worked_tables program Done (codes "ok 0\n")
 six_maps_accepted program reads = record {
   reading = read (unweighed 6);

@@ -15,7 +15,7 @@ use Rattle.wire_lines.specs.Reply.{refused, reply_text}
 use Rattle.generated_run.specs.AnswerPath.AcceptedProgram.{Accepted}
 use Rattle.generated_run.specs.AnswerPath.Code.{IsAccepted, IsProgramRefusal, IsRefusedFor}
 use Rattle.generated_run.specs.AnswerPath.Reading.{IsReading, read}
-use Rattle.generated_run.specs.AnswerPath.Judgement.{HasTooManyWalks, HasValue, Judgement, refused_for, accepted, judgement_of}
+use Rattle.generated_run.specs.AnswerPath.Judgement.{HasTooManyWalks, HasValue, Judgement, refused_for, walks_too_much, accepted, judgement_of}
 use Rattle.generated_run.proofs.AnswerPath.Told.{accepted_walks_little, refused_walks_little}
 use Rattle.query_server.specs.Check.{IsProgramDue, accepted_text, status_by, text_by}
 use Rattle.query_server.specs.Gap.{IsGapBy, IsGapDue, gap_text}
@@ -79,4 +79,5 @@ gap_accepted tables X Y program text e r y z reads is walks first second same = 
 -- a judgement gives the status
 pub gap_status : (judgement : Judgement) (tables : Signature) (X Y : Dataset) (program : List ℕ) (status : Status) (text : List ℕ) → IsGapBy judgement tables X Y program status text → status ≡ status_by judgement
 gap_status (refused_for refusal) tables X Y program status text due = due.0
+gap_status walks_too_much tables X Y program status text due = absurd due
 gap_status (accepted e r) tables X Y program status text (y, z, first, second, is, same) = is

@@ -10,8 +10,9 @@ use Rattle.query_server.specs.Grant.{verdict_on, verdict_status}
 use mathlib.Core.Logic.{◌⊎◌, inl, inr}
 use Rattle.word_streams.specs.Draws.{draws_of}
 use Rattle.generated_run.specs.AnswerPath.Reading.{Reading, IsReading}
-use Rattle.generated_run.specs.AnswerPath.Judgement.{HasTooManyWalks, Judgement, refused_for, accepted, judgement_of}
+use Rattle.generated_run.specs.AnswerPath.Judgement.{HasTooManyWalks, Judgement, refused_for, walks_too_much, accepted, judgement_of}
 use Rattle.generated_run.proofs.AnswerPath.Readings.{one_reading}
+use Rattle.generated_run.proofs.AnswerPath.Walking.{judged_so}
 use Rattle.metric_values.specs.Tables.{Dataset}
 use Rattle.generated_run.specs.SessionCore.Transcript.{Journals}
 use Rattle.command_words.specs.Command.{Command, command_of}
@@ -92,13 +93,14 @@ finished_at status P fault memory disk (inr (inl is)) = absurd (memory is)
 finished_at status P fault memory disk (inr (inr (inl is))) = absurd (disk is)
 finished_at status P fault memory disk (inr (inr (inr p))) = p
 
-no_verdict : (judgement : Judgement) (status : Status) → status ≡ status_by judgement → (status ≡ code.Done) ⊎ (status ≡ code.ProgramRefused)
-no_verdict (refused_for refusal) status is = inr is
-no_verdict (accepted e r) status is = inl is
+no_verdict : (judgement : Judgement) (status : Status) → (judgement ≡ walks_too_much → ⊥) → status ≡ status_by judgement → (status ≡ code.Done) ⊎ (status ≡ code.ProgramRefused)
+no_verdict (refused_for refusal) status little is = inr is
+no_verdict walks_too_much status little is = absurd (little refl)
+no_verdict (accepted e r) status little is = inl is
 
 gap_verdict : (tables : Signature) (X Y : Dataset) (program : List ℕ) (status : Status) (text : List ℕ) → IsGapDue tables X Y program status text → (status ≡ code.Done) ⊎ (status ≡ code.ProgramRefused)
 gap_verdict tables X Y program status text due =
-    no_verdict (judgement_of tables due.reading) status (gap_status (judgement_of tables due.reading) tables X Y program status text due.due)
+    no_verdict (judgement_of tables due.reading) status (λ is. due.walks (judged_so tables program due.reading due.reads is)) (gap_status (judgement_of tables due.reading) tables X Y program status text due.due)
 
 -- the status of a grant that is answered
 verdict_ends : (verdict : Result Left GrantRefusal) (status : Status) → status ≡ verdict_status verdict
@@ -126,7 +128,7 @@ due_status (to_serve workers each loading key) b a script status text (inr (vers
 due_status (to_generate seed asks) b a script status text due = due.0
 due_status (to_grant amount one) b a script status text (inl due) = inr (inr (inr due.is_status))
 due_status (to_grant amount one) b a script status text (inr due) = verdict_ends (verdict_on one due.version due.found amount) status due.is_status
-due_status (to_check tables program) b a script status text due = no_verdict (judgement_of tables due.reading) status due.is_status
+due_status (to_check tables program) b a script status text due = no_verdict (judgement_of tables due.reading) status (λ is. due.walks (judged_so tables program due.reading due.reads is)) due.is_status
 due_status (to_compare tables X Y program) b a script status text due = gap_verdict tables X Y program status text due
 
 -- the status of what is written, where it is of no failure

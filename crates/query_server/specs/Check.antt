@@ -5,14 +5,15 @@ use Rattle.fz_frac.specs.Distance.{Distance}
 use Rattle.wire_lines.specs.Refusal.{by_program}
 use Rattle.wire_lines.specs.Reply.{refused as refused_reply, sensitivity_text, reply_text}
 use Rattle.generated_run.specs.AnswerPath.Reading.{Reading, IsReading}
-use Rattle.generated_run.specs.AnswerPath.Judgement.{HasTooManyWalks, Judgement, refused_for, accepted, judgement_of}
+use Rattle.generated_run.specs.AnswerPath.Judgement.{HasTooManyWalks, Judgement, refused_for, walks_too_much, accepted, judgement_of}
 use Rattle.outside_bays.specs.Bays.{Same}
 use Rattle.catalog_loading.specs.Steps.{FileStep, ◌>>=◌, done, file_read, from}
 use Rattle.catalog_loading.specs.Loaded.{catalog_read, entry_named, owner_loaded}
 use Rattle.query_server.specs.Work.{Work, to_check}
 use Rattle.query_server.specs.Duty.{Duty, Kind}
 use Rattle.query_server.specs.declared.end.Status.{Status}
-use Rattle.query_server.specs.declared.end.Status.TheVariants.{Done, ProgramRefused}
+use Rattle.query_server.specs.declared.end.Status.TheVariants.{Done, NoMemory, ProgramRefused}
+use Rattle.query_server.specs.Status.{memory_text}
 
 -- CATALOG, then OWNER in it, then the tables of all owners, then FILE
 abbrev pub check_steps : (catalog owner file : List ℕ) → FileStep Work
@@ -33,10 +34,12 @@ accepted_text r = codes "ok " ++ sensitivity_text r ++ codes "\n"
 -- the status and the text of what a program comes to
 abbrev pub status_by : Judgement → Status
 status_by (refused_for refusal) = ProgramRefused
+status_by walks_too_much = NoMemory
 status_by (accepted e r) = Done
 
 abbrev pub text_by : Judgement → List ℕ
 text_by (refused_for refusal) = reply_text (refused_reply (by_program refusal))
+text_by walks_too_much = memory_text
 text_by (accepted e r) = accepted_text r
 
 -- What is due to a program over these tables: its bytes have a reading, and by the typing rules and the run without data that

@@ -8,7 +8,7 @@ use Rattle.metric_values.specs.Tables.{Dataset, IsDataset, apart}
 use Rattle.wire_lines.specs.Refusal.{by_program}
 use Rattle.wire_lines.specs.Reply.{refused as refused_reply, sensitivity_text, reply_text}
 use Rattle.generated_run.specs.AnswerPath.Reading.{Reading, IsReading}
-use Rattle.generated_run.specs.AnswerPath.Judgement.{HasTooManyWalks, Judgement, HasValue, refused_for, accepted, judgement_of}
+use Rattle.generated_run.specs.AnswerPath.Judgement.{HasTooManyWalks, Judgement, HasValue, refused_for, walks_too_much, accepted, judgement_of}
 use Rattle.owner_catalog.specs.Entries.{Catalog, OwnerEntry}
 use Rattle.outside_bays.specs.Bays.{Same}
 use Rattle.catalog_loading.specs.Steps.{FileStep, ◌>>=◌, done, file_read, from}
@@ -68,6 +68,7 @@ gap_text distance r first second =
 abbrev pub IsGapBy : Judgement → (tables : Signature) → (X Y : Dataset) → (program : List ℕ) → (status : Status) → (text : List ℕ) → Type 0
 IsGapBy (refused_for refusal) tables X Y program status text =
     (status ≡ ProgramRefused) × (text ≡ reply_text (refused_reply (by_program refusal)))
+IsGapBy walks_too_much tables X Y program status text = ⊥
 IsGapBy (accepted e r) tables X Y program status text =
     (y : ℤ) × (z : ℤ) × HasValue tables X program y × HasValue tables Y program z
     × (status ≡ Done) × (text ≡ gap_text (apart X Y) r y z)

@@ -1,6 +1,6 @@
 -- What is proved of the definitions.
 use Rattle.std.specs.Prelude.{◌≡◌, ◌⊎◌, ℕ, ◌<◌, List, [], ◌++◌, length, map, slice_get, None, Some, IsSome}
-use Rattle.std.specs.List.{AllByRecursion, flat_map}
+use Rattle.std.specs.List.{flat_map}
 use Rattle.word_streams.specs.Draws.{draws_of}
 use Rattle.fz_outside.specs.Faults.{HasRisen}
 use Rattle.fz_ast.specs.Signature.{Signature, IsSignature}
@@ -21,11 +21,12 @@ use Rattle.generated_run.specs.AnswerPath.Shut.{IsPendingOf}
 use Rattle.budget_ledger.specs.declared.failure.Failure.{Failure}
 use Rattle.budget_core.specs.Granting.{IsAmount}
 use Rattle.generated_run.specs.SessionCore.Meant.{wants}
-use Rattle.generated_run.specs.SessionCore.Turns.{meant_at}
+use Rattle.generated_run.specs.SessionCore.Turns.{meant_at, turns_of}
+use Rattle.generated_run.specs.SessionCore.Code.{WantsTooManyWalks}
 use Rattle.generated_run.specs.SessionCore.Exchanges.{Exchange}
 use Rattle.generated_run.specs.SessionCore.Headline.{AreFound, Headline, Programs}
-use Rattle.generated_run.specs.SessionCore.Said.{NothingFailed}
-use Rattle.generated_run.specs.SessionLaws.Whole.{HadMemory}
+use Rattle.generated_run.specs.SessionCore.Said.{NothingFailedAt}
+use Rattle.generated_run.specs.SessionLaws.Whole.{HadMemoryFor}
 use Rattle.generated_run.specs.SessionCore.Transcript.{IsScriptRun, Journals}
 use Rattle.command_words.specs.Command.{command_of}
 use Rattle.catalog_loading.specs.Files.{Contents, ReadsToCome, always}
@@ -192,15 +193,16 @@ OneWorkerTranscribes = (loading : Loading) (key : List ℕ) (workers : ℕ) (old
     → (answered : IsScriptAnswered loading key workers old new found script text) → workers ≡ 1
     → IsScriptRun (house_of loading.register) (draws_of key) found script (map (λ x. x.reply) answered.exchanges) answered.records
 
--- And where every owner's disk was at home, none of them failed and no line was told 51 or 90, what is written is the script's one transcript in
--- which nothing fails, and the records are those after it.
+-- And where every owner's disk was at home, none of them failed and no line was told 51, nor 90 unless its program takes too many walks, what is
+-- written is the script's one transcript in which nothing fails, and the records are those after it.
 abbrev pub OneWorkerWritesTheTranscript : Type 0
 OneWorkerWritesTheTranscript = (words : List (List ℕ)) (reads : ReadsToCome) (old new : Shelf) (script written : List ℕ)
     → (a : IsAnsweredScript words reads old new script written) → a.workers ≡ 1
     → ((o : ℕ) → o < owners_in a.loading → IsSome (old o)) → (SomeRose old new → ⊥)
-    → ((place : ℕ) (x : Exchange) → slice_get a.answered.exchanges place ≡ Some x → HadMemory x.reply)
+    → ((place : ℕ) (x : Exchange) → slice_get a.answered.exchanges place ≡ Some x
+    → HadMemoryFor (WantsTooManyWalks (meant_at (house_in a.loading a.versions) x.turn)) x.reply)
     → (replies : List Replied) (last : Journals) → IsScriptRun (house_in a.loading a.versions) (draws_of a.key) a.found script replies last
-    → AllByRecursion NothingFailed replies
+    → NothingFailedAt (house_in a.loading a.versions) (turns_of (house_in a.loading a.versions) script) replies
     → (written ≡ flat_map reply_text replies)
     × ((o : ℕ) (owner : Owner) → slice_get (house_in a.loading a.versions).owners o ≡ Some owner → a.answered.records o ≡ last o)
 

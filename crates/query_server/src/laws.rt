@@ -76,8 +76,8 @@ pub fn outside_stays()
     ensures { OutsideStays }
 {}
 
-/// One worker's replies are the script's transcript. Where no disk failed and no line was told 51 or 90, what is written is the one transcript
-/// in which nothing fails, byte for byte.
+/// One worker's replies are the script's transcript. Where no disk failed and no line was told 51, nor 90 unless its program takes too many
+/// walks, what is written is the one transcript in which nothing fails, byte for byte.
 pub fn one_worker_transcribes()
     ensures replies { OneWorkerTranscribes }
     ensures written { OneWorkerWritesTheTranscript }

@@ -30,11 +30,11 @@ use Rattle.owner_history.specs.AnswerPath.Query.{Query}
 use Rattle.owner_history.specs.AnswerPath.Demand.{Demand, asks, recalls, balances, spends}
 use Rattle.owner_history.specs.AnswerPath.Reading.{Reading, IsReading}
 use Rattle.owner_history.specs.AnswerPath.Code.{AsksTooManyWalks}
-use Rattle.owner_history.specs.AnswerPath.Judgement.{HasTooManyWalks, Judgement, refused_for, accepted, judgement_of}
+use Rattle.owner_history.specs.AnswerPath.Judgement.{HasTooManyWalks, Judgement, refused_for, walks_too_much, accepted, judgement_of}
 use Rattle.owner_history.specs.AnswerPath.Program.{IsCharged}
 use Rattle.owner_history.specs.AnswerPath.Noise.{noise_at}
 use Rattle.owner_history.specs.AnswerPath.Verdict.{Verdict, program_refused, money_refused, granted, money_refusal, ask_for, verdict_by_money, IsVerdictBy, IsVerdict}
-use Rattle.owner_history.specs.AnswerPath.Answered.{outcome_reply, granted_record, grant_records, HasWorthIn, IsSettledAt, IsSettledBy, IsUnrecorded, IsSaidFor, IsAnsweredBy, IsAnswered, IsAskedBy, IsAsked}
+use Rattle.owner_history.specs.AnswerPath.Answered.{outcome_reply, granted_record, grant_records, HasWorthIn, IsSettledAt, IsSettledBy, IsUnanswered, IsUnrecorded, IsSaidFor, IsAnsweredBy, IsAnswered, IsAskedBy, IsAsked}
 use Rattle.owner_history.specs.AnswerPath.Standing.{IsRecalled, IsBalance, IsSpending, recall_reply, left_reply, mine_reply}
 use Rattle.owner_history.specs.AnswerPath.Met.{IsMet, IsMetExactly}
 use Rattle.owner_history.specs.AnswerPath.Laws.{OnePassCloses}
@@ -44,6 +44,7 @@ use Rattle.owner_history.proofs.AnswerPath.Readings.{one_reading}
 use Rattle.owner_history.proofs.AnswerPath.Programs.{one_value}
 use Rattle.owner_history.proofs.AnswerPath.Charged.{charged_have_values, accepted_finite}
 use Rattle.owner_history.proofs.AnswerPath.Existing.{every_reading}
+use Rattle.owner_history.proofs.AnswerPath.Walking.{judged_so, no_verdict}
 use Rattle.owner_history.specs.Granted.{IsRecallBorneOut}
 use Rattle.owner_history.proofs.Prefixes.{prefix_self, prefix_by, prefix_trans, prefix_length}
 use Rattle.owner_history.proofs.Recalls.{recall_borne}
@@ -54,7 +55,7 @@ use Rattle.session_core.specs.Meant.{wants}
 use Rattle.session_core.specs.Exchanges.{Exchange}
 use Rattle.session_core.specs.Served.{MeetsOnSome, ShutsFor, IsBorneOutTo}
 use Rattle.session_core.specs.Transcript.{ClosesBy}
-use Rattle.session_core.specs.Said.{NothingFailed}
+use Rattle.session_core.specs.Said.{NothingFailedFor}
 
 -- what is asked over an owner's tables is asked over those that it holds
 pub walks_held : (entry : Entry) (owner : Owner) (holding : Holding) (o : ℕ) (demand : Demand) → IsOwnerOf entry holding owner → WantsTooManyWalks (wants o owner demand) → AsksTooManyWalks holding demand
@@ -247,6 +248,7 @@ demand_closes one owner draws start (spends analyst) seen after x before now met
 judged_once : (entry : Entry) (start : ℕ) (records : List Record) (query : Query) (j : Judgement) (v w : Verdict) → IsVerdictBy entry start records query j v → IsVerdictBy entry start records query j w → v ≡ w
 judged_once entry start records query (refused_for refusal) v w f g = f ∙ sym g
 judged_once entry start records query (accepted e (Fin p q)) v w f g = f ∙ sym g
+judged_once entry start records query walks_too_much v w f g = absurd f
 judged_once entry start records query (accepted e Inf) v w f g = absurd f
 
 verdict_once : (entry : Entry) (tables : Signature) (start : ℕ) (records : List Record) (query : Query) (v w : Verdict) → IsVerdict entry tables start records query v → IsVerdict entry tables start records query w → v ≡ w
@@ -269,75 +271,88 @@ outcome_once owner draws query n o u kept held f g =
     settled_once _ (noise_at query.e (draws n)) o u (λ y z has had. one_value (signature_of_view owner query.view) (rows_of_view owner query.view) query.program y z has had) kept held f g
 
 -- a reply where nothing failed is of no lost answer
-not_lost : (grant : Grant) (reply : Replied) (outcome : Outcome) → NothingFailed reply → reply ≡ outcome_reply grant outcome → outcome ≡ Lost → ⊥
-not_lost grant reply outcome had is lost = subst (λ (r : Replied). NothingFailed r) (is ∙ ap (λ (o : Outcome). outcome_reply grant o) lost) had
+not_lost : (Walks : Type 0) (grant : Grant) (reply : Replied) (outcome : Outcome) → NothingFailedFor Walks reply → reply ≡ outcome_reply grant outcome → outcome ≡ Lost → ⊥
+not_lost Walks grant reply outcome had is lost = subst (λ (r : Replied). NothingFailedFor Walks r) (is ∙ ap (λ (o : Outcome). outcome_reply grant o) lost) had
 
 -- nor of records that weren't written
-not_unwritten : (asking : Ask) (grant : Grant) (reply : Replied) (added : List Record) → NothingFailed reply → IsUnrecorded asking grant reply added → ⊥
-not_unwritten asking grant reply added had by = subst (λ (r : Replied). NothingFailed r) by.1 had
+not_unwritten : (Walks : Type 0) (asking : Ask) (grant : Grant) (reply : Replied) (added : List Record) → NothingFailedFor Walks reply → IsUnrecorded asking grant reply added → ⊥
+not_unwritten Walks asking grant reply added had by = subst (λ (r : Replied). NothingFailedFor Walks r) by.1 had
 
 -- nor of a book that is shut
-said_once : (refusal : MoneyRefusal) (reply : Replied) (said : Refusal) → NothingFailed reply → IsSaidFor refusal said → reply ≡ refused said → reply ≡ refused (by_money refusal)
-said_once refusal reply said had (inl same) is = is ∙ ap refused same
-said_once refusal reply said had (inr (failed_at, low, same)) is = absurd (subst (λ (r : Replied). NothingFailed r) (is ∙ ap refused same) had)
+said_once : (Walks : Type 0) (refusal : MoneyRefusal) (reply : Replied) (said : Refusal) → NothingFailedFor Walks reply → IsSaidFor refusal said → reply ≡ refused said → reply ≡ refused (by_money refusal)
+said_once Walks refusal reply said had (inl same) is = is ∙ ap refused same
+said_once Walks refusal reply said had (inr (failed_at, low, same)) is = absurd (subst (λ (r : Replied). NothingFailedFor Walks r) (is ∙ ap refused same) had)
 
-answered_once : (owner : Owner) (draws : ℕ → ℕ → ℕ) (records : List Record) (query : Query) (v : Verdict) (reply other : Replied) (added more : List Record) → NothingFailed reply → NothingFailed other
+answered_once : (Walks : Type 0) (owner : Owner) (draws : ℕ → ℕ → ℕ) (records : List Record) (query : Query) (v : Verdict) (reply other : Replied) (added more : List Record)
+    → NothingFailedFor Walks reply → NothingFailedFor Walks other
     → IsAnsweredBy owner draws records query v reply added → IsAnsweredBy owner draws records query v other more → (reply ≡ other) × (added ≡ more)
-answered_once owner draws records query (program_refused refusal) reply other added more had has f g = (f.0 ∙ sym g.0, f.1 ∙ sym g.1)
-answered_once owner draws records query (money_refused refusal) reply other added more had has f g = (said_once refusal reply f.0 had f.1 f.2 ∙ sym (said_once refusal other g.0 has g.1 g.2), f.3 ∙ sym g.3)
-answered_once owner draws records query (granted asking grant) reply other added more had has (inr f) g = absurd (not_unwritten asking grant reply added had f)
-answered_once owner draws records query (granted asking grant) reply other added more had has (inl f) (inr g) = absurd (not_unwritten asking grant other more has g)
-answered_once owner draws records query (granted asking grant) reply other added more had has (inl f) (inl g) =
-    let same : f.0 ≡ g.0 = outcome_once owner draws query grant.number f.0 g.0 (not_lost grant reply f.0 had f.2) (not_lost grant other g.0 has g.2) f.1 g.1 in
+answered_once Walks owner draws records query (program_refused refusal) reply other added more had has f g = (f.0 ∙ sym g.0, f.1 ∙ sym g.1)
+answered_once Walks owner draws records query (money_refused refusal) reply other added more had has f g =
+    (said_once Walks refusal reply f.0 had f.1 f.2 ∙ sym (said_once Walks refusal other g.0 has g.1 g.2), f.3 ∙ sym g.3)
+answered_once Walks owner draws records query (granted asking grant) reply other added more had has (inr f) g = absurd (not_unwritten Walks asking grant reply added had f)
+answered_once Walks owner draws records query (granted asking grant) reply other added more had has (inl f) (inr g) = absurd (not_unwritten Walks asking grant other more has g)
+answered_once Walks owner draws records query (granted asking grant) reply other added more had has (inl f) (inl g) =
+    let same : f.0 ≡ g.0 = outcome_once owner draws query grant.number f.0 g.0 (not_lost Walks grant reply f.0 had f.2) (not_lost Walks grant other g.0 has g.2) f.1 g.1 in
     (f.2 ∙ ap (λ (o : Outcome). outcome_reply grant o) same ∙ sym g.2, f.3 ∙ ap (λ (o : Outcome). grant_records owner.entry records asking grant o) same ∙ sym g.3)
 
-ran_out : (reply : Replied) → NothingFailed reply → reply ≡ refused no_memory → ⊥
-ran_out reply had is = subst (λ (r : Replied). NothingFailed r) is had
+-- memory is said to have run out of a program that takes too many walks alone
+ran_out : (Walks : Type 0) (reply : Replied) → NothingFailedFor Walks reply → reply ≡ refused no_memory → Walks
+ran_out Walks reply had is = subst (λ (r : Replied). NothingFailedFor Walks r) is had
+
+-- which has no verdict
+unanswered : (owner : Owner) (draws : ℕ → ℕ → ℕ) (start : ℕ) (records : List Record) (query : Query) (reply : Replied) (added : List Record) → HasTooManyWalks (signature_of_view owner query.view) query.program
+    → IsAnswered owner draws start records query reply added → ⊥
+unfolding IsAnswered
+unanswered owner draws start records query reply added walks answered = no_verdict owner.entry (signature_of_view owner query.view) start records query walks answered.0 answered.1
 
 -- On just the records that were known a demand is met in one way, where nothing failed.
-pub met_once : (owner : Owner) (draws : ℕ → ℕ → ℕ) (start : ℕ) (demand : Demand) (seen : List Record) (reply other : Replied) (told more_told : List Told) (a b : List Record) → NothingFailed reply → NothingFailed other
-    → IsMetExactly owner draws start demand seen reply told a → IsMetExactly owner draws start demand seen other more_told b → (reply ≡ other) × (a ≡ b)
+pub met_once : (n : ℕ) (owner : Owner) (draws : ℕ → ℕ → ℕ) (start : ℕ) (demand : Demand) (seen : List Record) (reply other : Replied) (told more_told : List Told) (a b : List Record)
+    → NothingFailedFor (WantsTooManyWalks (wants n owner demand)) reply → NothingFailedFor (WantsTooManyWalks (wants n owner demand)) other → IsMetExactly owner draws start demand seen reply told a → IsMetExactly owner draws start demand seen other more_told b → (reply ≡ other) × (a ≡ b)
 unfolding IsMetExactly IsAnswered
-met_once owner draws start (asks query) seen reply other told more_told a b had has (added, inr f, told_is, is) g = absurd (ran_out reply had f.0)
-met_once owner draws start (asks query) seen reply other told more_told a b had has (added, inl f, told_is, is) (more, inr g, said, ends) = absurd (ran_out other has g.0)
-met_once owner draws start (asks query) seen reply other told more_told a b had has (added, inl f, told_is, is) (more, inl g, said, ends) =
+met_once n owner draws start (asks query) seen reply other told more_told a b had has (added, inr f, told_is, is) (more, inr g, said, ends) =
+    (f.0 ∙ sym g.0, is ∙ ap (λ rs. seen ++ rs) (f.1 ∙ sym g.1) ∙ sym ends)
+met_once n owner draws start (asks query) seen reply other told more_told a b had has (added, inr f, told_is, is) (more, inl g, said, ends) =
+    absurd (unanswered owner draws start seen query other more (ran_out (WantsTooManyWalks (wants n owner (asks query))) reply had f.0) g)
+met_once n owner draws start (asks query) seen reply other told more_told a b had has (added, inl f, told_is, is) (more, inr g, said, ends) =
+    absurd (unanswered owner draws start seen query reply added (ran_out (WantsTooManyWalks (wants n owner (asks query))) other has g.0) f)
+met_once n owner draws start (asks query) seen reply other told more_told a b had has (added, inl f, told_is, is) (more, inl g, said, ends) =
     let same : f.0 ≡ g.0 = verdict_once owner.entry (signature_of_view owner query.view) start seen query f.0 g.0 f.1 g.1 in
-    let both = answered_once owner draws seen query f.0 reply other added more had has f.2 (subst (λ (v : Verdict). IsAnsweredBy owner draws seen query v other more) (sym same) g.2) in
+    let both = answered_once (WantsTooManyWalks (wants n owner (asks query))) owner draws seen query f.0 reply other added more had has f.2 (subst (λ (v : Verdict). IsAnsweredBy owner draws seen query v other more) (sym same) g.2) in
     (both.0, is ∙ ap (λ rs. seen ++ rs) both.1 ∙ sym ends)
-met_once owner draws start (recalls analyst number) seen reply other told more_told a b had has f g = (f.0 ∙ sym g.0, f.2 ∙ sym g.2)
-met_once owner draws start balances seen reply other told more_told a b had has f g = (f.0 ∙ sym g.0, f.2 ∙ sym g.2)
-met_once owner draws start (spends analyst) seen reply other told more_told a b had has f g = (f.0 ∙ sym g.0, f.2 ∙ sym g.2)
+met_once n owner draws start (recalls analyst number) seen reply other told more_told a b had has f g = (f.0 ∙ sym g.0, f.2 ∙ sym g.2)
+met_once n owner draws start balances seen reply other told more_told a b had has f g = (f.0 ∙ sym g.0, f.2 ∙ sym g.2)
+met_once n owner draws start (spends analyst) seen reply other told more_told a b had has f g = (f.0 ∙ sym g.0, f.2 ∙ sym g.2)
 
 -- a query's answer, in which nothing fails
 record IsAnswer (owner : Owner) (draws : ℕ → ℕ → ℕ) (start : ℕ) (records : List Record) (query : Query) : Type 0 where
   reply : Replied
   added : List Record
-  answered : IsAnswered owner draws start records query reply added
-  had : NothingFailed reply
+  answered : IsAnswered owner draws start records query reply added ⊎ IsUnanswered reply added
+  had : NothingFailedFor (HasTooManyWalks (signature_of_view owner query.view) query.program) reply
 
 -- how a reservation is settled where nothing fails: by the program's value and the noise, or as exhausted
-record IsSettlement (HasWorth : ℤ → Type 0) (noise : Option ℤ) (grant : Grant) : Type 0 where
+record IsSettlement (Walks : Type 0) (HasWorth : ℤ → Type 0) (noise : Option ℤ) (grant : Grant) : Type 0 where
   outcome : Outcome
   settled : IsSettledAt HasWorth noise outcome
-  had : NothingFailed (outcome_reply grant outcome)
+  had : NothingFailedFor Walks (outcome_reply grant outcome)
 
-settlement : (HasWorth : ℤ → Type 0) (noise : Option ℤ) (grant : Grant) (value : ℤ) → HasWorth value → IsSettlement HasWorth noise grant
-settlement HasWorth None grant value has = record { outcome = Exhausted; settled = refl; had = tt }
-settlement HasWorth (Some noise) grant value has = record { outcome = Answered (value +ℤ noise); settled = inl (value, has, refl); had = tt }
+settlement : (Walks : Type 0) (HasWorth : ℤ → Type 0) (noise : Option ℤ) (grant : Grant) (value : ℤ) → HasWorth value → IsSettlement Walks HasWorth noise grant
+settlement Walks HasWorth None grant value has = record { outcome = Exhausted; settled = refl; had = tt }
+settlement Walks HasWorth (Some noise) grant value has = record { outcome = Answered (value +ℤ noise); settled = inl (value, has, refl); had = tt }
 
 module _ (owner : Owner) (draws : ℕ → ℕ → ℕ) (start : ℕ) (records : List Record) (query : Query) (has : HasData owner) where
   by_money_verdict : (p q : ℕ) (money : Result Grant ReserveFault) → money_verdict owner.entry start records (ask_for query p q) ≡ money → IsCharged (signature_of_view owner query.view) query.program p q
       → ((v : _) → v ≡ verdict_by_money (ask_for query p q) money → IsVerdict owner.entry (signature_of_view owner query.view) start records query v) → IsAnswer owner draws start records query
   unfolding IsAnswered
   by_money_verdict p q (Err fault) is charged verdict =
-      record { reply = refused (by_money (money_refusal fault)); added = []; answered = (money_refused (money_refusal fault), verdict _ refl, (by_money (money_refusal fault), inl refl, refl, refl)); had = tt }
+      record { reply = refused (by_money (money_refusal fault)); added = []; answered = inl (money_refused (money_refusal fault), verdict _ refl, (by_money (money_refusal fault), inl refl, refl, refl)); had = tt }
   by_money_verdict p q (Ok grant) is charged verdict =
       let v = charged_have_values owner.tables owner.partitions owner.rows query.view query.program p q has.tables has.partitions has.rows charged in
-      let made = settlement (HasWorthIn owner query) (noise_at query.e (draws grant.number)) grant v.0 v.1 in
+      let made = settlement (HasTooManyWalks (signature_of_view owner query.view) query.program) (HasWorthIn owner query) (noise_at query.e (draws grant.number)) grant v.0 v.1 in
       record {
         reply = outcome_reply grant made.outcome;
         added = grant_records owner.entry records (ask_for query p q) grant made.outcome;
-        answered = (granted (ask_for query p q) grant, verdict _ refl, inl (made.outcome, made.settled, refl, refl));
+        answered = inl (granted (ask_for query p q) grant, verdict _ refl, inl (made.outcome, made.settled, refl, refl));
         had = made.had;
       }
 
@@ -346,8 +361,14 @@ module _ (owner : Owner) (draws : ℕ → ℕ → ℕ) (start : ℕ) (records : 
   by_judgement reading reads (refused_for refusal) is = record {
     reply = refused (by_program refusal);
     added = [];
-    answered = (program_refused refusal, (reading, reads, subst (λ (j : Judgement). IsVerdictBy owner.entry start records query j (program_refused refusal)) (sym is) refl), (refl, refl));
+    answered = inl (program_refused refusal, (reading, reads, subst (λ (j : Judgement). IsVerdictBy owner.entry start records query j (program_refused refusal)) (sym is) refl), (refl, refl));
     had = tt;
+  }
+  by_judgement reading reads walks_too_much is = record {
+    reply = refused no_memory;
+    added = [];
+    answered = inr (refl, refl);
+    had = judged_so (signature_of_view owner query.view) query.program reading reads is;
   }
   by_judgement reading reads (accepted e Inf) is =
       let a = accepted_as (signature_of_view owner query.view) reading e Inf is in
@@ -360,32 +381,32 @@ module _ (owner : Owner) (draws : ℕ → ℕ → ℕ) (start : ℕ) (records : 
       (λ v same. (reading, reads, subst (λ (j : Judgement). IsVerdictBy owner.entry start records query j v) (sym is) same))
 
 -- a reply and what it adds, where nothing fails
-pub record CanBeMet (owner : Owner) (draws : ℕ → ℕ → ℕ) (start : ℕ) (demand : Demand) (seen : List Record) : Type 0 where
+pub record CanBeMet (n : ℕ) (owner : Owner) (draws : ℕ → ℕ → ℕ) (start : ℕ) (demand : Demand) (seen : List Record) : Type 0 where
   pub reply : Replied
   pub told : List Told
   pub added : List Record
   pub meets : IsMetExactly owner draws start demand seen reply told (seen ++ added)
-  pub had : NothingFailed reply
+  pub had : NothingFailedFor (WantsTooManyWalks (wants n owner demand)) reply
 
-pub recall_had : (number : ℕ) (r : Recall) → NothingFailed (recall_reply number r)
-recall_had number (Unknown seen) = tt
-recall_had number (NotYours seen) = tt
-recall_had number (Answer value seen) = tt
-recall_had number (Open seen) = tt
-recall_had number (IsLost seen) = tt
-recall_had number (IsExhausted seen) = tt
+pub recall_had : (Walks : Type 0) (number : ℕ) (r : Recall) → NothingFailedFor Walks (recall_reply number r)
+recall_had Walks number (Unknown seen) = tt
+recall_had Walks number (NotYours seen) = tt
+recall_had Walks number (Answer value seen) = tt
+recall_had Walks number (Open seen) = tt
+recall_had Walks number (IsLost seen) = tt
+recall_had Walks number (IsExhausted seen) = tt
 
 -- Whatever is demanded of an owner with its data, it can be met so.
-pub met_exists : (owner : Owner) (draws : ℕ → ℕ → ℕ) (start : ℕ) (demand : Demand) (seen : List Record) → HasData owner → CanBeMet owner draws start demand seen
+pub met_exists : (n : ℕ) (owner : Owner) (draws : ℕ → ℕ → ℕ) (start : ℕ) (demand : Demand) (seen : List Record) → HasData owner → CanBeMet n owner draws start demand seen
 unfolding IsMetExactly
-met_exists owner draws start (asks query) seen has =
+met_exists n owner draws start (asks query) seen has =
     let r = every_reading query.program in
     let a = by_judgement owner draws start seen query has r.0 r.1 (judgement_of (signature_of_view owner query.view) r.0) refl in
-    record { reply = a.reply; told = enumerate_from (length seen) a.added; added = a.added; meets = (a.added, inl a.answered, refl, refl); had = a.had }
-met_exists owner draws start (recalls analyst number) seen has =
+    record { reply = a.reply; told = enumerate_from (length seen) a.added; added = a.added; meets = (a.added, a.answered, refl, refl); had = a.had }
+met_exists n owner draws start (recalls analyst number) seen has =
     let r : Recall = recalled_from start seen number analyst in
-    record { reply = recall_reply number r; told = []; added = []; meets = (refl, refl, append-nil seen); had = recall_had number r }
-met_exists owner draws start balances seen has =
+    record { reply = recall_reply number r; told = []; added = []; meets = (refl, refl, append-nil seen); had = recall_had ⊥ number r }
+met_exists n owner draws start balances seen has =
     record { reply = left_reply (left_by owner.entry seen); told = []; added = []; meets = (refl, refl, append-nil seen); had = tt }
 met_exists owner draws start (spends analyst) seen has =
     record { reply = mine_reply (mine_by owner.entry seen analyst); told = []; added = []; meets = (refl, refl, append-nil seen); had = tt }

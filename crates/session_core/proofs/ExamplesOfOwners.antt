@@ -295,6 +295,7 @@ two_transcript draws a b c =
 -- the school isn't answered by the clinic's draws: of these its answer would be 1
 other_draws : (draws : ℕ → ℕ → ℕ → ℕ) (last : Journals) → noise draws 0 0 ≡ Some (negsuc 0) → noise draws 1 0 ≡ Some (pos 5) → noise draws 1 1 ≡ Some (pos 0)
     → IsScriptRun (house_of two_owners) draws fresh script (replies (Some (negsuc 0)) (Some (negsuc 0)) (Some (pos 0))) last → ⊥
+unfolding lines_of request_of
 other_draws draws last a b c run =
     let same = (runs_once (house_of two_owners) draws fresh script (replies (Some (negsuc 0)) (Some (pos 5)) (Some (pos 0))) _ _ last (run_with draws _ _ _ a b c) run (tt, (tt, (tt, (tt, (tt, tt))))) (tt, (tt, (tt, (tt, (tt, tt)))))).0 in
     cc (same)

@@ -1,16 +1,16 @@
 -- two lists of replies to one script, in which nothing failed, are the same
 use Rattle.std.proofs.Common.{◌≡◌, ℕ, ◌==◌, Bool, true, false, List, [], ◌∷◌, map, slice_get, Some, refl, sym, ◌∙◌, ap, subst, eq-eqb}
 use Rattle.std.specs.Prelude.{MatchBool}
-use Rattle.std.specs.List.{AllByRecursion}
 use Rattle.journal_records.specs.declared.records.Record.{Record}
 use Rattle.wire_lines.specs.Reply.{Replied}
 use Rattle.owner_history.specs.OwnerHouse.Owner.{Owner}
 use Rattle.owner_history.specs.OwnerHouse.House.{House}
 use Rattle.session_core.specs.Meant.{Meant, says, wants}
-use Rattle.session_core.specs.Turns.{meant_at}
+use Rattle.session_core.specs.Turns.{Turn, meant_at, turns_of}
+use Rattle.session_core.specs.Code.{WantsTooManyWalks}
 use Rattle.session_core.specs.Exchanges.{Exchange, IsPlain, ArePlain, TurnLeads}
 use Rattle.session_core.specs.Transcript.{Journals, first_new, MeetsExactly, LeadExactly, IsScriptRun}
-use Rattle.session_core.specs.Said.{NothingFailed}
+use Rattle.session_core.specs.Said.{NothingFailedAt, NothingFailedFor}
 use Rattle.session_core.proofs.Demands.{met_once}
 use Rattle.session_core.proofs.Wants.{AsksOnly, asks_only}
 
@@ -31,7 +31,7 @@ module _ (house : House) (draws : ℕ → ℕ → ℕ → ℕ) (start : ℕ → 
     second : TurnLeads house o (MeetsExactly (draws o) (start o)) m seen y (λ after. LeadExactly house draws o (start o) after ys (end o))
 
   -- a turn leaves each owner's records the same
-  turn_both : (m : Meant) (o : ℕ) (x y : Exchange) (xs ys : List Exchange) → NothingFailed x.reply → NothingFailed y.reply → BothTurns m o x y xs ys → AreBoth house draws o (start o) xs ys (last o) (end o)
+  turn_both : (m : Meant) (o : ℕ) (x y : Exchange) (xs ys : List Exchange) → NothingFailedFor (WantsTooManyWalks m) x.reply → NothingFailedFor (WantsTooManyWalks m) y.reply → BothTurns m o x y xs ys → AreBoth house draws o (start o) xs ys (last o) (end o)
   turn_both (says reply next) o x y xs ys had has b = record { seen = b.seen; first = b.first; second = b.second }
   turn_both (wants n owner demand) o x y xs ys had has b = here (n == o) b.first b.second
     where
@@ -40,11 +40,11 @@ module _ (house : House) (draws : ℕ → ℕ → ℕ → ℕ) (start : ℕ → 
           → AreBoth house draws o (start o) xs ys (last o) (end o)
       here false f g = record { seen = b.seen; first = f; second = g }
       here true f g =
-          let same = met_once owner (draws o) (start o) demand b.seen x.reply y.reply x.told y.told f.0 g.0 had has f.1 g.1 in
+          let same = met_once n owner (draws o) (start o) demand b.seen x.reply y.reply x.told y.told f.0 g.0 had has f.1 g.1 in
           record { seen = f.0; first = f.2; second = subst (λ (s : List Record). LeadExactly house draws o (start o) s ys (end o)) (sym same.1) g.2 }
 
   -- a turn has one reply
-  turn_reply : (m : Meant) (x y : Exchange) (xs ys : List Exchange) → AsksOnly house x.turn.who x.turn.line m → NothingFailed x.reply → NothingFailed y.reply
+  turn_reply : (m : Meant) (x y : Exchange) (xs ys : List Exchange) → AsksOnly house x.turn.who x.turn.line m → NothingFailedFor (WantsTooManyWalks m) x.reply → NothingFailedFor (WantsTooManyWalks m) y.reply
       → IsPlain m x → IsPlain m y
       → ((o : ℕ) (owner : Owner) → slice_get house.owners o ≡ Some owner → BothTurns m o x y xs ys) → x.reply ≡ y.reply
   turn_reply (says reply next) x y xs ys only had has f g both = f.0 ∙ sym g.0
@@ -56,10 +56,10 @@ module _ (house : House) (draws : ℕ → ℕ → ℕ → ℕ) (start : ℕ → 
           → MatchBool hit ((after : List Record) × MeetsExactly (draws n) (start n) owner demand seen y after × LeadExactly house draws n (start n) after ys (end n)) (LeadExactly house draws n (start n) seen ys (end n))
           → x.reply ≡ y.reply
       here false is seen f g = absurd (cc (is))
-      here true is seen f g = (met_once owner (draws n) (start n) demand seen x.reply y.reply x.told y.told f.0 g.0 had has f.1 g.1).0
+      here true is seen f g = (met_once n owner (draws n) (start n) demand seen x.reply y.reply x.told y.told f.0 g.0 had has f.1 g.1).0
 
   abbrev AllHad : List Exchange → Type 0
-  AllHad xs = AllByRecursion NothingFailed (map (λ (x : Exchange). x.reply) xs)
+  AllHad xs = NothingFailedAt house (map (λ (x : Exchange). x.turn) xs) (map (λ (x : Exchange). x.reply) xs)
 
   turns_once : (xs ys : List Exchange) → map (λ (x : Exchange). x.turn) xs ≡ map (λ (y : Exchange). y.turn) ys → ArePlain house xs → ArePlain house ys
       → AllHad xs → AllHad ys
@@ -72,23 +72,29 @@ module _ (house : House) (draws : ℕ → ℕ → ℕ → ℕ) (start : ℕ → 
       let rest : map (λ (x : Exchange). x.turn) xs ≡ map (λ (y : Exchange). y.turn) ys = cc in
       let m : Meant = meant_at house x.turn in
       let is : meant_at house y.turn ≡ m = ap (meant_at house) (sym same) in
+      let has_one : NothingFailedFor (WantsTooManyWalks m) y.reply = subst (λ (k : Meant). NothingFailedFor (WantsTooManyWalks k) y.reply) is has.0 in
       let each : (o : ℕ) (owner : Owner) → slice_get house.owners o ≡ Some owner → BothTurns m o x y xs ys = λ o owner at.
       let b = both o owner at in record {
         seen = b.seen;
         first = b.first;
         second = subst (λ (k : Meant). TurnLeads house o (MeetsExactly (draws o) (start o)) k b.seen y (λ after. LeadExactly house draws o (start o) after ys (end o))) is b.second;
       } in
-      let reply : x.reply ≡ y.reply = turn_reply m x y xs ys (asks_only house x.turn.who x.turn.line) had.0 has.0 f.0
+      let reply : x.reply ≡ y.reply = turn_reply m x y xs ys (asks_only house x.turn.who x.turn.line) had.0 has_one f.0
       (subst (λ (k : Meant). IsPlain k y) is g.0) each in
-      let more = turns_once xs ys rest f.1 g.1 had.1 has.1 (λ o owner at. turn_both m o x y xs ys had.0 has.0 (each o owner at)) in
+      let more = turns_once xs ys rest f.1 g.1 had.1 has.1 (λ o owner at. turn_both m o x y xs ys had.0 has_one (each o owner at)) in
       (cc (reply, more.0), more.1)
 
 -- Replies to a script in which nothing failed are the same, and so are each owner's records after it.
 pub runs_once : (house : House) (draws : ℕ → ℕ → ℕ → ℕ) (found : Journals) (script : List ℕ) (replies others : List Replied) (last end : Journals)
-    → IsScriptRun house draws found script replies last → IsScriptRun house draws found script others end → AllByRecursion NothingFailed replies → AllByRecursion NothingFailed others
+    → IsScriptRun house draws found script replies last → IsScriptRun house draws found script others end → NothingFailedAt house (turns_of house script) replies → NothingFailedAt house (turns_of house script) others
     → (replies ≡ others) × ((o : ℕ) (owner : Owner) → slice_get house.owners o ≡ Some owner → last o ≡ end o)
 runs_once house draws found script replies others last end f g had has =
     let same = turns_once house draws (λ o. first_new (found o)) last end f.exchanges g.exchanges (f.turns ∙ sym g.turns) f.plain g.plain
-    (subst (λ (rs : List Replied). AllByRecursion NothingFailed rs) (sym f.replied) had) (subst (λ (rs : List Replied). AllByRecursion NothingFailed rs) (sym g.replied) has)
+    (by_exchanges f.exchanges replies f.turns f.replied had) (by_exchanges g.exchanges others g.turns g.replied has)
     (λ o owner at. record { seen = found o; first = f.owners o owner at; second = g.owners o owner at }) in
     (sym f.replied ∙ same.0 ∙ g.replied, same.1)
+  where
+    by_exchanges : (xs : List Exchange) (rs : List Replied) → map (λ (x : Exchange). x.turn) xs ≡ turns_of house script → map (λ (x : Exchange). x.reply) xs ≡ rs
+        → NothingFailedAt house (turns_of house script) rs → NothingFailedAt house (map (λ (x : Exchange). x.turn) xs) (map (λ (x : Exchange). x.reply) xs)
+    by_exchanges xs rs turns replied all =
+        subst (λ (ts : List Turn). NothingFailedAt house ts (map (λ (x : Exchange). x.reply) xs)) (sym turns) (subst (λ (r : List Replied). NothingFailedAt house (turns_of house script) r) (sym replied) all)

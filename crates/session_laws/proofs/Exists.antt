@@ -1,7 +1,6 @@
 -- every script has replies, where every program has a reading
 use Rattle.std.proofs.Common.{◌≡◌, ℕ, ◌==◌, Bool, true, false, cond, List, [], ◌∷◌, ◌++◌, map, slice_get, Option, Some, refl, sym, ap, subst, eqb-true}
 use Rattle.std.specs.Prelude.{MatchBool}
-use Rattle.std.specs.List.{AllByRecursion}
 use Rattle.journal_records.specs.declared.records.Record.{Record}
 use Rattle.wire_lines.specs.Reply.{Replied, greeted, ended, refused}
 use Rattle.wire_lines.specs.Refusal.{by_line}
@@ -12,7 +11,8 @@ use Rattle.session_core.specs.Meant.{Meant, says, wants}
 use Rattle.session_core.specs.Turns.{Turn, meant_at, turns_of}
 use Rattle.session_core.specs.Exchanges.{Exchange, IsPlain, ArePlain, TurnLeads}
 use Rattle.session_core.specs.Transcript.{Journals, first_new, MeetsExactly, LeadExactly, IsScriptRun}
-use Rattle.session_core.specs.Said.{NothingFailed}
+use Rattle.session_core.specs.Code.{WantsTooManyWalks}
+use Rattle.session_core.specs.Said.{NothingFailedAt, NothingFailedFor}
 use Rattle.session_core.proofs.Demands.{CanBeMet, met_exists}
 use Rattle.session_core.proofs.Wants.{line_cases}
 
@@ -24,13 +24,13 @@ module _ (house : House) (draws : ℕ → ℕ → ℕ → ℕ) (found : Journals
     are : map (λ (x : Exchange). x.turn) exchanges ≡ turns
     plain : ArePlain house exchanges
     leads : (o : ℕ) (owner : Owner) → slice_get house.owners o ≡ Some owner → LeadExactly house draws o (first_new (found o)) (now o) exchanges (last o)
-    had : AllByRecursion NothingFailed (map (λ (x : Exchange). x.reply) exchanges)
+    had : NothingFailedAt house turns (map (λ (x : Exchange). x.reply) exchanges)
 
   -- with records more of one owner
   abbrev more_of : Journals → ℕ → List Record → Journals
   more_of now n added o = cond (n == o) (now o ++ added) (now o)
 
-  first_says : (turn : Turn) (turns : List Turn) (now : Journals) (reply : Replied) (next : Option ℕ) → meant_at house turn ≡ says reply next → NothingFailed reply → HaveReplies turns now → HaveReplies (turn ∷ turns) now
+  first_says : (turn : Turn) (turns : List Turn) (now : Journals) (reply : Replied) (next : Option ℕ) → meant_at house turn ≡ says reply next → NothingFailedFor ⊥ reply → HaveReplies turns now → HaveReplies (turn ∷ turns) now
   first_says turn turns now reply next is had rest =
       let x : Exchange = record { turn = turn; reply = reply; told = [] } in record {
         exchanges = x ∷ rest.exchanges;
@@ -40,11 +40,11 @@ module _ (house : House) (draws : ℕ → ℕ → ℕ → ℕ) (found : Journals
         leads = λ o owner at.
             subst (λ (m : Meant). TurnLeads house o (MeetsExactly (draws o) (first_new (found o))) m (now o) x (λ after. LeadExactly house draws o (first_new (found o)) after rest.exchanges (rest.last o))) (sym is)
             (rest.leads o owner at);
-        had = (had, rest.had);
+        had = (subst (λ (m : Meant). NothingFailedFor (WantsTooManyWalks m) reply) (sym is) had, rest.had);
       }
 
   abbrev CanBe : ℕ → Owner → Demand → List Record → Type 0
-  CanBe n owner demand seen = CanBeMet owner (draws n) (first_new (found n)) demand seen
+  CanBe n owner demand seen = CanBeMet n owner (draws n) (first_new (found n)) demand seen
 
   first_wants : (turn : Turn) (turns : List Turn) (now : Journals) (n : ℕ) (owner : Owner) (demand : Demand) → meant_at house turn ≡ wants n owner demand → (a : CanBe n owner demand (now n))
       → HaveReplies turns (more_of now n a.added) → HaveReplies (turn ∷ turns) now
@@ -57,7 +57,7 @@ module _ (house : House) (draws : ℕ → ℕ → ℕ → ℕ) (found : Journals
         leads = λ o other at.
             subst (λ (m : Meant). TurnLeads house o (MeetsExactly (draws o) (first_new (found o))) m (now o) x (λ after. LeadExactly house draws o (first_new (found o)) after rest.exchanges (rest.last o))) (sym is)
             (here o (n == o) refl (rest.leads o other at));
-        had = (a.had, rest.had);
+        had = (subst (λ (m : Meant). NothingFailedFor (WantsTooManyWalks m) a.reply) (sym is) a.had, rest.had);
       }
     where
       here : (o : ℕ) (b : Bool) → (n == o) ≡ b → LeadExactly house draws o (first_new (found o)) (cond b (now o ++ a.added) (now o)) rest.exchanges (rest.last o)
@@ -80,13 +80,13 @@ module _ (house : House) (draws : ℕ → ℕ → ℕ → ℕ) (found : Journals
     ends = λ end is. first_says turn turns now ended turn.who is tt (exists_from turns now);
     greets = λ name analyst within other is. first_says turn turns now (greeted name) (Some analyst) is tt (exists_from turns now);
     demands = λ n owner demand of other is.
-        let a = met_exists owner (draws n) (first_new (found n)) demand (now n) (owners n owner of.0).data_of in
+        let a = met_exists n owner (draws n) (first_new (found n)) demand (now n) (owners n owner of.0).data_of in
         first_wants turn turns now n owner demand is a (exists_from turns (more_of now n a.added));
   }) refl
 
 -- Each script has replies in which nothing failed.
 pub replies_exist : (house : House) (draws : ℕ → ℕ → ℕ → ℕ) (found : Journals) (script : List ℕ) → AreOwners house
-    → (replies : List Replied) × (last : Journals) × IsScriptRun house draws found script replies last × AllByRecursion NothingFailed replies
+    → (replies : List Replied) × (last : Journals) × IsScriptRun house draws found script replies last × NothingFailedAt house (turns_of house script) replies
 replies_exist house draws found script owners =
     let h = exists_from house draws found owners (turns_of house script) found in (
       map (λ (x : Exchange). x.reply) h.exchanges,

@@ -18,6 +18,7 @@ pub mod Causes
 pub mod Closings
 pub mod Exists
 pub mod Scripts
+pub mod Walks
 pub mod Worked
 pub mod Whole
 mod Orders

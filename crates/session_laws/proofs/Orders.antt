@@ -30,7 +30,7 @@ use Rattle.wire_lines.specs.declared.refusal.MoneyRefusal.{MoneyRefusal}
 use Rattle.wire_lines.specs.declared.refusal.MoneyRefusal.TheVariants.{OverBudget, JournalFull, OverShare}
 use Rattle.session_core.specs.OwnerHouse.Owner.{signature_of_view}
 use Rattle.session_core.specs.OwnerHouse.House.{House, owner_named, partition_named, partition_at, key_named}
-use Rattle.session_core.specs.AnswerPath.Judgement.{Judgement, refused_for, accepted, judgement_of, judged_by, shaped_by, fault_refusal, shape_refusal}
+use Rattle.session_core.specs.AnswerPath.Judgement.{Judgement, refused_for, walks_too_much, accepted, judgement_of, judged_by, shaped_by, fault_refusal, shape_refusal}
 use Rattle.session_core.specs.AnswerPath.Query.{Query}
 use Rattle.session_core.specs.AnswerPath.Reading.{Reading, unlexed, stuck, nested, read, IsReading}
 use Rattle.session_core.specs.AnswerPath.Verdict.{Verdict, program_refused, money_refused, granted, ask_for, verdict_by_money, IsVerdictBy, IsVerdict}
@@ -157,6 +157,7 @@ abbrev IsJudged : (tables : Signature) → Term → Judgement → Type 0
 IsJudged tables t (refused_for refusal) =
     RefusesTerm tables t refusal × ((other : ProgramRefusal) → RefusesTerm tables t other → program_code refusal ≤ program_code other)
 IsJudged tables t (accepted e r) = (other : ProgramRefusal) → RefusesTerm tables t other → ⊥
+IsJudged tables t walks_too_much = (other : ProgramRefusal) → RefusesTerm tables t other → ⊥
 
 module _ (tables : Signature) (t : Term) where
   judged_shape : (D : _) (r : Distance) → sensitivity_of tables t ≡ Accepted D r → (o : WalkOutcome) → shape tables t ≡ o
@@ -379,6 +380,7 @@ module _ (start : ℕ → ℕ) (records : ℕ → List Record) where
     term_first t reads (refused_for refusal) judged (could, least) v is =
         subst First (sym is) (program_first refusal (inr (subject, t, refl, reads, could))
         (λ other of. least other (of_term the_question subject refl t reads other of)))
+    term_first t reads walks_too_much judged none v is = absurd is
     term_first t reads (accepted u Inf) judged none v is = absurd is
     term_first t reads (accepted u (Fin p q)) judged none v is =
         let a = accepted_as tables (read t) u (Fin p q) judged in

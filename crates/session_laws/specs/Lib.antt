@@ -7,6 +7,7 @@ pub mod Between
 pub mod Causes
 pub mod Order
 pub mod Whole
+pub mod Walks
 -- passed on to the crates above
 pub mod SessionCore
 pub use Rattle.session_core.specs.AnswerPath

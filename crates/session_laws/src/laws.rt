@@ -1,7 +1,6 @@
 //! The laws. Each function does nothing: its contract is the law.
 
 ghost use Rattle.std.specs.Prelude.{ℕ, List, [], ◌∷◌, ◌++◌, ◌<◌, length, ◌≡◌, map, slice_get, Option, Some, None};
-ghost use Rattle.std.specs.List.{AllByRecursion};
 ghost use mathlib.Core.List.{IsPrefix};
 ghost use Rattle.journal_records.specs.declared.records.Outcome.{Outcome};
 ghost use Rattle.journal_records.specs.declared.records.Record.{Record};
@@ -16,16 +15,16 @@ ghost use Rattle.session_core.specs.OwnerDesk.Passes.{Pass};
 ghost use Rattle.session_core.specs.AnswerPath.Query.{Query};
 ghost use Rattle.session_core.specs.AnswerPath.Answered.{granted_record};
 ghost use Rattle.session_core.specs.OwnerHistory.Sound.{IsFound, MayBeFound, IsOwed};
-ghost use Rattle.session_core.specs.Turns.{Turn, turns_of};
+ghost use Rattle.session_core.specs.Turns.{Turn, meant_at, turns_of};
 ghost use Rattle.session_core.specs.Exchanges.{Exchange};
 ghost use Rattle.session_core.specs.Transcript.{Journals, first_new, ClosesOn, LeadExactly, IsScriptRun};
 ghost use Rattle.session_core.specs.Served.{Sources, AnswersOn};
 ghost use Rattle.session_core.specs.Gathered.{AreGathered, AreOfScript, AreShut, IsAnsweredOn, IsGatheredScript, one_worker, part_of};
 ghost use Rattle.session_core.specs.Headline.{Programs, AreAccountedFor, AreFound, AreHistories, AreOwed, Headline, IsHonoured};
-ghost use Rattle.session_core.specs.Said.{NothingFailed};
+ghost use Rattle.session_core.specs.Said.{NothingFailedAt};
 ghost use Rattle.session_core.specs.Blocks.{AreDealt, crew_of, script_blocks};
 ghost use Rattle.session_core.specs.Worked.{HasWorked, IsBroughtIn};
-ghost use Rattle.session_core.specs.Code.{AreFresh, AreClosed, AreServed, found_by, pass_at};
+ghost use Rattle.session_core.specs.Code.{AreFresh, AreClosed, AreServed, WantsTooManyWalks, found_by, pass_at};
 ghost use Rattle.session_laws.specs.CameBy.{CameAboutIsExplained, AllCameBy};
 ghost use Rattle.session_laws.specs.ToldOnce.{AreToldOnce};
 ghost use Rattle.session_laws.specs.Growing.{AreGrowing, AreGrowingFrom};
@@ -33,8 +32,9 @@ ghost use Rattle.session_laws.specs.Lines.{AreKnown, AreOfTurns, AreHonoured};
 ghost use Rattle.session_laws.specs.Crew.{AreDone, AreJoined, AreTogether};
 ghost use Rattle.session_laws.specs.Between.{two_workers, IsSettledLater, three_records, four_records};
 ghost use Rattle.session_laws.specs.Causes.{AreCaused};
-ghost use Rattle.session_laws.specs.Whole.{HadMemory};
+ghost use Rattle.session_laws.specs.Whole.{HadMemoryFor};
 ghost use Rattle.session_laws.specs.Order.{LeastCodeRefuses, GrantsAreUnopposed};
+ghost use Rattle.session_laws.specs.Walks.{AreWalksTold};
 
 /// A script's exchanges, by any number of workers in any order, keep the promises to each owner: legal records within the budget,
 /// explained by the programs of the script's lines behind those of the records that were found, each line's reply the stated
@@ -125,7 +125,7 @@ pub fn one_transcript()
     ensures { (house : House) (draws : ℕ → ℕ → ℕ → ℕ) (found : Journals) (script : List ℕ) (replies others : List Replied) →
         (last end : Journals) →
         IsScriptRun house draws found script replies last → IsScriptRun house draws found script others end →
-        AllByRecursion NothingFailed replies → AllByRecursion NothingFailed others →
+        NothingFailedAt house (turns_of house script) replies → NothingFailedAt house (turns_of house script) others →
         (replies ≡ others) × ((o : ℕ) (owner : Owner) → slice_get house.owners o ≡ Some owner → last o ≡ end o) }
 {}
 
@@ -133,7 +133,8 @@ pub fn one_transcript()
 /// so it has just one such transcript.
 pub fn scripts_have_transcripts()
     ensures { (house : House) (draws : ℕ → ℕ → ℕ → ℕ) (found : Journals) (script : List ℕ) → AreOwners house →
-        (replies : List Replied) × (last : Journals) × IsScriptRun house draws found script replies last × AllByRecursion NothingFailed replies }
+        (replies : List Replied) × (last : Journals) × IsScriptRun house draws found script replies last ×
+        NothingFailedAt house (turns_of house script) replies }
 {}
 
 /// Who is told 42 or 52 is told of the failure that shut the owner's book, and one line is told 52 where it is shut.
@@ -201,15 +202,17 @@ pub fn one_worker_shuts_books()
         ClosesOn house draws o None xs closed }
 {}
 
-/// Where one worker answered a script, no owner's book was shut and no line was told 51 or 90, nothing failed: so the replies are the script's
-/// one transcript, and the records are those after it.
+/// Where one worker answered a script, no owner's book was shut and no line was told 51 or 90, but for 90 to programs that take too many walks,
+/// nothing failed: so the replies are the script's one transcript, and the records are those after it.
 pub fn whole_scripts_are_transcribed()
     ensures { (house : House) (draws : ℕ → ℕ → ℕ → ℕ) (found : Journals) (script : List ℕ) (crew : ℕ → ℕ) (xs : List Exchange) (records : Journals) →
         (closed : ℕ → Option Failure) → IsGatheredScript house draws 1 crew found script xs records →
         ((o : ℕ) (owner : Owner) → slice_get house.owners o ≡ Some owner → AreShut house draws 1 crew o xs (closed o)) →
         ((o : ℕ) (owner : Owner) → slice_get house.owners o ≡ Some owner → closed o ≡ None) →
-        ((place : ℕ) (x : Exchange) → slice_get xs place ≡ Some x → HadMemory x.reply) → AllByRecursion NothingFailed (map (λ x. x.reply) xs)
-        × ((replies : List Replied) (last : Journals) → IsScriptRun house draws found script replies last → AllByRecursion NothingFailed replies →
+        ((place : ℕ) (x : Exchange) → slice_get xs place ≡ Some x → HadMemoryFor (WantsTooManyWalks (meant_at house x.turn)) x.reply) →
+        NothingFailedAt house (turns_of house script) (map (λ x. x.reply) xs)
+        × ((replies : List Replied) (last : Journals) → IsScriptRun house draws found script replies last →
+        NothingFailedAt house (turns_of house script) replies →
         (map (λ x. x.reply) xs ≡ replies) × ((o : ℕ) (owner : Owner) → slice_get house.owners o ≡ Some owner → records o ≡ last o)) }
 {}
 
@@ -245,4 +248,13 @@ pub fn records_may_come_between()
 pub fn the_least_code_refuses()
     ensures least { LeastCodeRefuses }
     ensures granted { GrantsAreUnopposed }
+{}
+
+/// A line with a program that takes too many walks is told that memory ran out, and adds no record, so it is never charged: of lines that a
+/// worker served, and of those that any number of workers answered, whatever the records and rows are.
+pub fn walks_are_told()
+    ensures served { (house : House) (draws : ℕ → ℕ → ℕ → ℕ) (o start : ℕ) (seen : List Record) (xs : List Exchange) (last : List Record) →
+        AnswersOn house draws o start seen xs last → AreWalksTold house o xs }
+    ensures gathered { (house : House) (draws : ℕ → ℕ → ℕ → ℕ) (count : ℕ) (crew : ℕ → ℕ) (o : ℕ) (found : List Record) (xs : List Exchange) →
+        (records : List Record) → AreGathered house draws count crew o found xs records → AreWalksTold house o xs }
 {}

@@ -8,7 +8,7 @@ use Rattle.owner_house.specs.Owner.{Owner, IsOwnerOf}
 use Rattle.owner_desk.specs.Passes.{Pass}
 use Rattle.answer_path.specs.Turn.{IsTurn}
 use Rattle.answer_path.specs.Code.{IsJudged, IsProgramRefusal, query_of}
-use Rattle.answer_path.proofs.Told.{judged_walks_little, names_in_view, walks_refused}
+use Rattle.answer_path.proofs.Told.{judged_walks_little, names_in_view, undecided_told, walks_refused}
 use Rattle.answer_path.proofs.Turns.{due_by, of_owner, refused_turn, shuts_by}
 use Rattle.answer_path.proofs.Answering.{owner_with}
 use Rattle.answer_path.proofs.answer.ask.Goals as goal
@@ -33,8 +33,9 @@ returns-in-Err g c =
     let dataset = c.args.dataset.now in
     let query = query_of c.args.query.now in
     let draws = g.S.Streams.given c.args.streams.now c.args.owner in
-    let refusal = refusal_at c.in-Err.refusal in
-    let why = subst (λ (tables : Signature). IsProgramRefusal tables query.program refusal) c.sig.ensures.tables c.in-Err.ensures.refused in
+    let refusal = refusal_at c.told.result in
+    let why = subst (λ (tables : Signature). IsProgramRefusal tables query.program refusal) c.sig.ensures.tables
+    (undecided_told c.sig.result.now query.program c.in-Err.unjudged refusal c.in-Err.ensures.undecided c.told.ensures) in
     let turn : (owner : Owner) → IsOwnerOf pass.opened.ledger.entry dataset owner → IsTurn owner draws query pass (refused refusal) pass =
     of_owner (λ (owner : Owner). IsTurn owner draws query pass (refused refusal) pass) pass dataset
     (λ name. refused_turn (owner_with name pass.opened.ledger.entry dataset) draws query pass refusal why) in
