@@ -6,3 +6,5 @@ pub mod RowProgram
 pub mod RowReplies
 pub mod RowEnding
 pub mod RowStatus
+pub mod GrantRow
+pub mod ServeRow

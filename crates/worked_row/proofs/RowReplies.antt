@@ -53,10 +53,10 @@ use Rattle.worked_row.specs.Held.{catalog, census, loaded_owner, loading, zeros}
 use Rattle.worked_row.proofs.RowDraws.{noise_is_two}
 use Rattle.worked_row.proofs.RowProgram.{judgement, size_is_three, tables}
 
-abbrev house : House
+abbrev pub house : House
 house = house_of loading.register
 
-abbrev owner : Owner
+abbrev pub owner : Owner
 owner = owner_of catalog ((census, loaded_owner.holding), 3)
 
 abbrev query : Query
@@ -68,16 +68,16 @@ asking = record { analyst = 0; view = Whole; e = 1000000; p = 1; q = 1; digest =
 abbrev grant : Grant
 grant = record { number = 0; taken = 1000000; seen = 1 }
 
-abbrev first_turn : Turn
+abbrev pub first_turn : Turn
 first_turn = record { who = None; line = codes "hello ann" }
 
-abbrev second_turn : Turn
+abbrev pub second_turn : Turn
 second_turn = record { who = Some 0; line = codes "ask census 1 size people" }
 
-abbrev third_turn : Turn
+abbrev pub third_turn : Turn
 third_turn = record { who = Some 0; line = codes "bye" }
 
-turns : turns_of house script ≡ first_turn ∷ second_turn ∷ third_turn ∷ []
+pub turns : turns_of house script ≡ first_turn ∷ second_turn ∷ third_turn ∷ []
 unfolding lines_of request_of meant_by
 turns = refl
 
@@ -166,7 +166,7 @@ abbrev replies_with : Replied → List Replied
 replies_with reply = greeted (codes "ann") ∷ reply ∷ ended ∷ []
 
 -- the three replies
-record IsRow (replies : List Replied) : Type 0 where
+pub record IsRow (replies : List Replied) : Type 0 where
   reply : Replied
   said : IsSaid reply
   are : replies ≡ replies_with reply
@@ -188,7 +188,7 @@ second_meets {S = S} Meets before last x y z is_first is_second is_third lead =
     subst (λ (m : Meant). TurnLeads house 0 Meets m before y (λ after. Lead house 0 Meets after (z ∷ []) last)) is_second behind in
     (asked.0, asked.1, subst (λ (m : Meant). TurnLeads house 0 Meets m asked.0 z (λ after. Lead house 0 Meets after [] last)) is_third asked.2)
 
-replies_from : (draws : ℕ → ℕ → ℕ → ℕ) → noise_at 1000000 (draws 0 0) ≡ Some (pos 2) → (xs : List Exchange) (last : List Record) (ends : Shut) (closed : Option Failure)
+pub replies_from : (draws : ℕ → ℕ → ℕ → ℕ) → noise_at 1000000 (draws 0 0) ≡ Some (pos 2) → (xs : List Exchange) (last : List Record) (ends : Shut) (closed : Option Failure)
     → map (λ x. x.turn) xs ≡ first_turn ∷ second_turn ∷ third_turn ∷ [] → ArePlain house xs → LeadExactly house draws 0 0 [] xs last → ShutsOn house draws 0 unshut xs ends
     → StillShut ends.failure closed → length ends.own ≡ length (closing closed) → IsRow (map (λ x. x.reply) xs)
 replies_from draws noise [] last ends closed turns plain lead shuts still counted = cc
@@ -230,7 +230,7 @@ text_with reply (inr (inl is)) = inr (inl (ap (λ (r : Replied). flat_map reply_
 text_with reply (inr (inr (inl is))) = inr (inr (inl (ap (λ (r : Replied). flat_map reply_text (replies_with r)) is ∙ lost_text)))
 text_with reply (inr (inr (inr is))) = inr (inr (inr (ap (λ (r : Replied). flat_map reply_text (replies_with r)) is ∙ failed_text)))
 
-text_is : (replies : List Replied) (text : List ℕ) → IsRow replies → text ≡ flat_map reply_text replies → IsRowText text
+pub text_is : (replies : List Replied) (text : List ℕ) → IsRow replies → text ≡ flat_map reply_text replies → IsRowText text
 text_is replies text row same =
     subst (λ (t : List ℕ). IsRowText t) (sym (same ∙ ap (λ (rs : List Replied). flat_map reply_text rs) row.are)) (text_with row.reply row.said)
 

@@ -26,7 +26,7 @@ use Rattle.worked_row.specs.Row.{script, row, row_without, row_lost, row_failed,
 use Rattle.worked_row.proofs.RowReplies.{answered_is}
 
 -- no records are a history
-no_records : (entry : Entry) → IsHistory entry []
+pub no_records : (entry : Entry) → IsHistory entry []
 no_records entry = record { follows = λ k next is. absurd (cc is) }
 
 -- it isn't refused
@@ -43,7 +43,7 @@ begins_new [] many is = absurd (omega (arith, many))
 begins_new (version ∷ rest) many is = (rest, ap (λ (v : ℕ). v ∷ rest) is)
 
 -- it is opened in version 3, without records
-none_there : (old : Shelf) (versions : List ℕ) (found : Journals) → IsJournalMade old → AreOpened loading zeros old versions found → ((rest : List ℕ) × (versions ≡ 3 ∷ rest)) × (found 0 ≡ [])
+pub none_there : (old : Shelf) (versions : List ℕ) (found : Journals) → IsJournalMade old → AreOpened loading zeros old versions found → ((rest : List ℕ) × (versions ≡ 3 ∷ rest)) × (found 0 ≡ [])
 none_there old versions found (bytes, told, made) opened =
     let version = get_or versions 0 3 in
     let stands : Stands (header_in loading zeros 0 version) (found 0) bytes =

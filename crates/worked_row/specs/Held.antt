@@ -4,9 +4,10 @@ use Rattle.budget_journal.specs.Journals.{Stands}
 use Rattle.fz_ast.specs.declared.row.Column.TheVariants.{Num}
 use Rattle.metric_values.specs.Values.{Flat, NumF}
 use Rattle.owner_catalog.specs.Catalog.{Catalog, OwnerEntry, TableEntry}
-use Rattle.catalog_loading.specs.Loaded.{LoadedOwner, LoadedTable, Loading, header_of, loading_with, owner_with, table_with}
+use Rattle.catalog_loading.specs.Loaded.{KeyedOwner, LoadedOwner, LoadedTable, Loading, header_of, loading_with, owner_with, table_with}
 use Rattle.query_server.specs.Shelves.{Shelf, bytes_on}
-use Rattle.worked_row.specs.Row.{table_text}
+use Rattle.catalog_loading.specs.Files.{Contents}
+use Rattle.worked_row.specs.Row.{catalog_text, table_text}
 
 abbrev pub zeros : List ℕ
 zeros = replicate 32 0
@@ -44,6 +45,15 @@ loaded_owner = owner_with census (loaded_table ∷ [])
 
 abbrev pub loading : Loading
 loading = loading_with catalog (loaded_owner ∷ [])
+
+-- the owner alone, as a grant reads it
+abbrev pub one : KeyedOwner
+one = record { catalog = catalog; number = 0; hashes = loaded_owner.hashes; key = zeros }
+
+-- the catalog, its table and the key of zeros
+abbrev pub AreRowFiles : Contents → Type 0
+AreRowFiles held =
+    (held (codes "cat.json") ≡ Some catalog_text) × (held (codes "people.csv") ≡ Some table_text) × (held (codes "key") ≡ Some zeros)
 
 -- the owner's journal was made for these files and this key, and has no records yet
 abbrev pub IsJournalMade : Shelf → Type 0

@@ -1,2 +1,4 @@
 pub mod Row
 pub mod Held
+pub mod Grant
+pub mod Serve

@@ -1,4 +1,5 @@
-//! A run over memory whose replies are known. They are derived from the top call's contract alone.
+//! A run over memory whose replies are known, and what a service and a grant come to over the same files. They are derived from the top
+//! call's contract alone.
 #![tactic(auto)]
 
 ghost use Rattle.std.specs.Prelude.{◌≡◌, ◌⊎◌, ◌≤◌, length, Some, [], ◌∷◌, codes, map, string_bytes, replicate, IfOk};
@@ -8,6 +9,9 @@ ghost use Rattle.query_server.specs.Shelves.{AreAtHome};
 ghost use Rattle.worked_row.specs.Held.{IsJournalMade};
 ghost use Rattle.worked_row.specs.Row.{catalog_text, table_text, row, row_without, row_lost, row_failed};
 
+mod rows;
+
+pub use crate::rows::{grant_row, serve_row};
 use fz_outside::files::{MemFile, MemFiles};
 use fz_outside::sink::{MemSink, Sink};
 use fz_outside::source::MemSource;
