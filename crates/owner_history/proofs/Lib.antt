@@ -13,7 +13,6 @@ pub mod Sound
 pub mod Examples
 mod ExamplesOfRecords
 mod ExamplesOfParts
-mod ExamplesOfLimits
 -- passed on to the crates above
 pub mod AnswerPath
 pub use Rattle.answer_path.proofs.OwnerDesk
