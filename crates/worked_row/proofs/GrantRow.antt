@@ -3,7 +3,7 @@ use Rattle.std.proofs.Common.{◌≡◌, ℕ, List, [], ◌∷◌, Option, Some,
 use Rattle.std.specs.Prelude.{IfSome, Ok, Result, option_and_then, option_map}
 use Rattle.std.specs.Fmt.{digits}
 use Rattle.std.specs.Io.KnownBytes.{append_known}
-use mathlib.Core.Logic.{◌⊎◌, inl, inr}
+use mathlib.Core.Logic.{inl, inr}
 use Rattle.outside_disks.specs.Disks.{Shown, Trace, seen_of}
 use Rattle.partition_charge.specs.Cost.{cost_of_charges, partition_cost}
 use Rattle.journal_records.specs.declared.records.Record.{Record}
@@ -19,7 +19,7 @@ use Rattle.command_words.proofs.Plain.{plain_is_tabled}
 use Rattle.catalog_loading.specs.Files.{Contents, always}
 use Rattle.catalog_loading.specs.Steps.{StepOutcome, done, from, ◌>>=◌}
 use Rattle.catalog_loading.specs.Loaded.{catalog_read, its_entry, its_header, its_name, key_read, number_named, owner_read}
-use Rattle.query_server.specs.Due.{IfFinished, IsToWrite, IsWrittenAt, command_steps, work_of}
+use Rattle.query_server.specs.Due.{IfFinished, IsWrittenAt, command_steps, work_of}
 use Rattle.query_server.specs.Grant.{IsGrantDue, WentBy, entry_in, grant_steps, header_in, verdict_on, verdict_status, verdict_text}
 use Rattle.query_server.specs.Opened.{IsOpened, IsUnopened}
 use Rattle.query_server.specs.Shelves.{OneDisk, Shelf, bytes_on}

@@ -1,5 +1,5 @@
 -- A grant of 5 epsilon to the row's owner.
-use Rattle.std.specs.Prelude.{◌≡◌, ℕ, List, [], ◌∷◌, codes, IfSome}
+use Rattle.std.specs.Prelude.{ℕ, List, [], ◌∷◌, codes, IfSome}
 use Rattle.budget_journal.specs.Journals.{Stands}
 use Rattle.journal_records.specs.declared.records.Record.{Record}
 use Rattle.journal_records.specs.declared.records.Record.TheVariants.{Grant}

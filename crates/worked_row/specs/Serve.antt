@@ -1,5 +1,5 @@
 -- A service of one worker and one connection, over which the row's script comes.
-use Rattle.std.specs.Prelude.{◌≡◌, ℕ, List, [], ◌∷◌, Option, Some, codes}
+use Rattle.std.specs.Prelude.{◌≡◌, ℕ, List, [], ◌∷◌, Some, codes}
 use Rattle.outside_links.specs.Links.{Connection, shown}
 use Rattle.command_words.specs.Command.{command_of, serve}
 use Rattle.query_server.specs.ServiceOver.{Door}

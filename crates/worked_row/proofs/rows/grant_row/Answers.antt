@@ -1,4 +1,3 @@
-use Rattle.std.proofs.Common.{◌≡◌}
 use Rattle.query_server.proofs.Contents.{at_held}
 use Rattle.worked_row.proofs.GrantRow.{granted}
 use Rattle.worked_row.proofs.rows.grant_row.Goals as goal

@@ -1,4 +1,3 @@
-use Rattle.std.proofs.Common.{◌≡◌, ap}
 use Rattle.query_server.proofs.Contents.{at_held}
 use Rattle.worked_row.proofs.ServeRow.{of_doors, served}
 use Rattle.worked_row.proofs.rows.serve_row.Goals as goal
