@@ -408,5 +408,5 @@ met_exists n owner draws start (recalls analyst number) seen has =
     record { reply = recall_reply number r; told = []; added = []; meets = (refl, refl, append-nil seen); had = recall_had ⊥ number r }
 met_exists n owner draws start balances seen has =
     record { reply = left_reply (left_by owner.entry seen); told = []; added = []; meets = (refl, refl, append-nil seen); had = tt }
-met_exists owner draws start (spends analyst) seen has =
+met_exists n owner draws start (spends analyst) seen has =
     record { reply = mine_reply (mine_by owner.entry seen analyst); told = []; added = []; meets = (refl, refl, append-nil seen); had = tt }
