@@ -33,7 +33,7 @@ DEFINITIONS = {
     "FILE_LIMIT": [("fz_outside", "length read.items ≤ #"), ("fz_outside", "length bytes ≤ #"), ("fz_outside", "# < length bytes")],
     "ROW_LIMIT": [("table_store", "most_rows")], "SCRIPT_LIMIT": [("query_server", "script_limit"), ("session_serve", "session_limit")],
     "LINE_LIMIT": [("wire_lines", "line_limit")], "MOST_EPS": [("journal_records", "epsilon_limit")], "DRAW_LIMIT": [("exact_bernoulli", "draw_limit")],
-    "WORKERS": [("command_words", "greatest_workers")], "AMOUNT_LIMIT": [("command_words", "greatest_amount")],
+    "WORKERS": [("worker_pool", "worker_limit")], "AMOUNT_LIMIT": [("command_words", "greatest_amount")],
     "PORT_LIMIT": [("command_words", "greatest_port")], "EACH_LIMIT": [("command_words", "greatest_each")],
     "SEED_LIMIT": [("command_words", "greatest_seed")], "ASKS_LIMIT": [("command_words", "greatest_asks")],
 }  # fmt: skip
