@@ -5,7 +5,7 @@ use Rattle.wire_lines.specs.Refusal.{no_memory}
 use Rattle.wire_lines.specs.Reply.{refused}
 use Rattle.session_core.specs.OwnerHouse.Owner.{Owner}
 use Rattle.session_core.specs.OwnerHouse.House.{House}
-use Rattle.session_core.specs.AnswerPath.Demand.{Demand, asks, balances, recalls}
+use Rattle.session_core.specs.AnswerPath.Demand.{Demand, asks, balances, recalls, spends}
 use Rattle.session_core.specs.Meant.{wants}
 use Rattle.session_core.specs.Exchanges.{Exchange}
 use Rattle.session_core.specs.Served.{AnswersOn, MeetsOnSome}
@@ -21,6 +21,7 @@ use Rattle.session_laws.proofs.Locals.{part_has}
 demanded : (draws : ℕ → ℕ → ℕ) (o start : ℕ) (owner : Owner) (demand : Demand) (seen : List Record) (x : Exchange) (after : List Record) → WantsTooManyWalks (wants o owner demand)
     → MeetsOnSome draws start owner demand seen x after → (x.reply ≡ refused no_memory) × (x.told ≡ [])
 demanded draws o start owner (asks query) seen x after walks meets = let t = told_of_walks owner draws start query seen x.reply x.told after walks meets in (t.0, t.1)
+demanded draws o start owner (spends analyst) seen x after walks meets = absurd walks
 demanded draws o start owner (recalls analyst number) seen x after walks meets = absurd walks
 demanded draws o start owner balances seen x after walks meets = absurd walks
 
