@@ -21,9 +21,9 @@ use Rattle.session_laws.proofs.Locals.{part_has}
 demanded : (draws : ℕ → ℕ → ℕ) (o start : ℕ) (owner : Owner) (demand : Demand) (seen : List Record) (x : Exchange) (after : List Record) → WantsTooManyWalks (wants o owner demand)
     → MeetsOnSome draws start owner demand seen x after → (x.reply ≡ refused no_memory) × (x.told ≡ [])
 demanded draws o start owner (asks query) seen x after walks meets = let t = told_of_walks owner draws start query seen x.reply x.told after walks meets in (t.0, t.1)
-demanded draws o start owner (spends analyst) seen x after walks meets = absurd walks
 demanded draws o start owner (recalls analyst number) seen x after walks meets = absurd walks
 demanded draws o start owner balances seen x after walks meets = absurd walks
+demanded draws o start owner (spends analyst) seen x after walks meets = absurd walks
 
 pub walks_served : (house : House) (draws : ℕ → ℕ → ℕ → ℕ) (o start : ℕ) (seen : List Record) (xs : List Exchange) (last : List Record) → AnswersOn house draws o start seen xs last → AreWalksTold house o xs
 walks_served house draws o start seen xs last answers k x owner demand at is walks =
