@@ -87,7 +87,7 @@ def wrong_record(rng, book):
         return wrong_grant(rng, book)
     if kind < 3 or not number:
         changes = [("number", number + rng.choice([1, -1]) if number else 1), ("taken", one.taken + rng.choice([1, -1]) if one.taken else 1),
-            ("analyst", rng.choice([book.analysts, 65535])), ("view", rng.choice([(0, 255), (0, 256), (0, 3999), (7, 0), (2, 0), (0, 3)])),
+            ("analyst", rng.choice([len(book.analysts), 65535])), ("view", rng.choice([(0, 255), (0, 256), (0, 3999), (7, 0), (2, 0), (0, 3)])),
             ("e", 10**9), ("program", bytes(32))]  # fmt: skip
         setattr(one, *rng.choice(changes))
         return one
