@@ -98,6 +98,7 @@ fi
 if compgen -G "$room/*.failed" >/dev/null; then passed=1; fi
 tried=$(find "$room" -name '*.passed' -o -name '*.failed' | wc -l)
 echo "$tried $kind tried" >"$room/tried"
-counted ci/behind_the_gate.sh "$room/tried" || passed=1
+# Those of the services are not counted: which of them can be tried depends on the machine.
+[ $kind = services ] || counted ci/behind_the_gate.sh "$room/tried" || passed=1
 if [ $passed = 0 ]; then echo "tools and pages: all as they should be, $tried scripts in $SECONDS s"; else echo "tools and pages: something is WRONG"; fi
 exit $passed
