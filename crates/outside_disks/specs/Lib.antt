@@ -4,3 +4,4 @@ pub mod Laws
 pub mod Memory
 pub mod Shown
 pub mod Stops
+pub mod Stored

@@ -10,6 +10,7 @@ ghost use Rattle.fz_outside.specs.Faults.{HasRisen, last_count};
 use fz_outside::Failed;
 
 pub mod disk;
+pub mod disks;
 pub mod failing;
 pub mod laws;
 pub mod memory;
