@@ -1,8 +1,12 @@
 mod Examples
+pub mod Forks
 pub mod Grants
+pub mod Levelling
 pub mod Machine
 pub mod Opens
+pub mod Sides
 pub mod Standing
+pub mod Told
 pub mod Wents
 pub mod Writes
 pub mod Verdicts
