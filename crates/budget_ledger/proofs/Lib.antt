@@ -1,4 +1,5 @@
 mod Examples
+mod ExamplesOfCopies
 pub mod Forks
 pub mod Grants
 pub mod Levelling
