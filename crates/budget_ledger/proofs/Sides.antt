@@ -232,7 +232,7 @@ module _ {D : Type 0} (trace : D → Option Trace) (faults : D → ℕ) (common 
   -- ---- one of two disks
 
   some_of : {X : Type 0} (o : Option X) → IsSome o → (x : X) × (o ≡ Some x)
-  some_of None some = absurd some
+  some_of None some = absurd (cc some)
   some_of (Some x) some = (x, refl)
 
   module _ (all : List Record) (closed : Option Failure) (begins : IsPrefix records all) (is_next : with_closing all closed ≡ more) where
@@ -265,7 +265,7 @@ module _ {D : Type 0} (trace : D → Option Trace) (faults : D → ℕ) (common 
   -- whether it is in use then
   pub half_in_use : (old new : Half D) (answer : Result ⊤ (Option Failure)) → HoldsHalf trace faults common records None old → IsReadyHalf old
       → HalfWent trace faults next old new answer → IsOk answer → IsInUse (copy_on trace faults more new)
-  half_in_use old new (Err fell) holds ready went ok = absurd ok
+  half_in_use old new (Err fell) holds ready went ok = absurd (cc ok)
   half_in_use (Gone disk) (Gone still) (Ok value) holds ready went ok = absurd went
   half_in_use (Gone disk) (Kept side) (Ok value) holds ready went ok = absurd went
   half_in_use (Kept side) (Gone disk) (Ok value) holds ready went ok = absurd went
@@ -278,7 +278,7 @@ module _ {D : Type 0} (trace : D → Option Trace) (faults : D → ℕ) (common 
       same_held x y e = cc
 
   gone_out : (all : List Record) (disk : D) → IsInUse (copy_on trace faults all (Gone disk)) → ⊥
-  gone_out all disk (held, same, still) = cc
+  gone_out all disk (held, same, still) = not_both None held refl same
 
   pub half_out : (all : List Record) (old new : Half D) (fell : Option Failure) → HalfWent trace faults next old new (Err fell)
       → IsInUse (copy_on trace faults all new) → ⊥

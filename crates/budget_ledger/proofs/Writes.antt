@@ -60,13 +60,13 @@ module _ {D : Type 0} (trace : D → Option Trace) (faults : D → ℕ) (ledger 
   halves_ready : (first second : Half D) → Holds ledger (Two first second) None → length ledger.records < ledger.entry.capacity → IsReadyHalf first × IsReadyHalf second
   halves_ready first second holds room =
       let low : length ledger.records < header.capacity = omega (arith, holds.book.capacity, room) in
-      (half_ready first holds.store.0 low, half_ready second holds.store.1 low)
+      (half_ready first holds.disks.0 low, half_ready second holds.disks.1 low)
 
   pub may_append : (store : Store D) (closed : Option Failure) → Holds ledger store closed → (closed ≡ None → length ledger.records < ledger.entry.capacity)
       → MayAppend store closed
   may_append (One journal) closed holds room = record {
-    ready = holds.store.ready;
-    room = λ none. omega (arith, holds.store.counted none, room none, holds.book.capacity, holds.store.room);
+    ready = holds.disks.ready;
+    room = λ none. omega (arith, holds.disks.counted none, room none, holds.book.capacity, holds.disks.room);
   }
   may_append (Two first second) closed holds room = λ none.
       halves_ready first second (subst (λ (o : Option Failure). Holds ledger (Two first second) o) none holds) (room none)
@@ -92,7 +92,7 @@ module _ {D : Type 0} (trace : D → Option Trace) (faults : D → ℕ) (ledger 
       follows = λ failure closed. absurd (not_both None failure refl closed);
       copies = copies;
     };
-    store = store;
+    disks = store;
   }
 
   grown_went : (old new : Store D) → WhereTold (HasPassed header ledger.records more.records None) (trace_in trace faults old) (trace_in trace faults new)
@@ -120,10 +120,10 @@ module _ {D : Type 0} (trace : D → Option Trace) (faults : D → ℕ) (ledger 
         → capacity_of new ≡ capacity_of old → Grown (One old) (One new)
     grown_one old new holds sound written capacity =
         let told = told_added header ledger.records next (mark_of old) (mark_of new) (trace (disk_of old)) (trace (disk_of new))
-            (omega (arith, holds.store.counted refl, room, holds.book.capacity, holds.store.room)) (rest_before old holds) (holds.store.marked refl) written.appended in (
+            (omega (arith, holds.disks.counted refl, room, holds.book.capacity, holds.disks.room)) (rest_before old holds) (holds.disks.marked refl) written.appended in (
           grown_book (One old) (One new) holds sound told.0 tt (record {
-            room = capacity ∙ holds.store.room;
-            counted = λ none. omega (arith, written.counted, holds.store.counted refl, length-append ledger.records (next ∷ []));
+            room = capacity ∙ holds.disks.room;
+            counted = λ none. omega (arith, written.counted, holds.disks.counted refl, length-append ledger.records (next ∷ []));
             marked = λ none. told.2;
             ready = λ none. written.ready;
           }),
@@ -134,16 +134,16 @@ module _ {D : Type 0} (trace : D → Option Trace) (faults : D → ℕ) (ledger 
         → HalfWent trace faults next first first' x → HalfWent trace faults next second second' y → IsOk x ⊎ IsOk y
         → IsInUse (copy_on trace faults more.records first') ⊎ IsInUse (copy_on trace faults more.records second')
     in_use_by first second x y first' second' holds one two (inl ok) =
-        inl (half_in_use trace faults header ledger.records next first first' x holds.store.0 (halves_ready first second holds room).0 one ok)
+        inl (half_in_use trace faults header ledger.records next first first' x holds.disks.0 (halves_ready first second holds room).0 one ok)
     in_use_by first second x y first' second' holds one two (inr ok) =
-        inr (half_in_use trace faults header ledger.records next second second' y holds.store.1 (halves_ready first second holds room).1 two ok)
+        inr (half_in_use trace faults header ledger.records next second second' y holds.disks.1 (halves_ready first second holds room).1 two ok)
 
     grown_two : (first second first' second' : Half D) → Holds ledger (Two first second) None → IsSound more
         → HasWrittenBoth trace faults next first second first' second' None None → Grown (Two first second) (Two first' second')
     grown_two first second first' second' holds sound written =
         let ready = halves_ready first second holds room in
-        let one = half_on trace faults header ledger.records next first first' written.on_first holds.store.0 ready.0 written.first in
-        let two = half_on trace faults header ledger.records next second second' written.on_second holds.store.1 ready.1 written.second in (
+        let one = half_on trace faults header ledger.records next first first' written.on_first holds.disks.0 ready.0 written.first in
+        let two = half_on trace faults header ledger.records next second second' written.on_second holds.disks.1 ready.1 written.second in (
           grown_book (Two first second) (Two first' second') holds sound tt (record {
             untold = refl;
             counted = refl;
@@ -186,7 +186,7 @@ module _ {D : Type 0} (trace : D → Option Trace) (faults : D → ℕ) (ledger 
             (subst (MayFollow ledger.entry ledger.records) (sym (ap (λ (f : Failure). f.pending) is)) may);
         copies = copies;
       };
-      store = store;
+      disks = store;
     }
 
     shut_went : (old new : Store D) (failure : Failure) → failure ≡ record { failed_at = faults_in faults new (Some failure); pending = next }
@@ -214,11 +214,11 @@ module _ {D : Type 0} (trace : D → Option Trace) (faults : D → ℕ) (ledger 
     shut_one old new closed holds may failed capacity =
         let here : Failure = record { failed_at = faults (disk_of new); pending = next } in
         let told = told_failed header ledger.records next (faults (disk_of new)) (mark_of old) (trace (disk_of old)) (trace (disk_of new))
-            (omega (arith, holds.store.counted refl, room, holds.book.capacity, holds.store.room)) (rest_before old holds) (holds.store.marked refl) failed.refused in (
+            (omega (arith, holds.disks.counted refl, room, holds.book.capacity, holds.disks.room)) (rest_before old holds) (holds.disks.marked refl) failed.refused in (
           here,
           failed.closed,
           (shut_book (One old) (One new) here holds may refl told.0 tt (record {
-            room = capacity ∙ holds.store.room;
+            room = capacity ∙ holds.disks.room;
             counted = λ none. absurd (not_both (Some here) here none refl);
             marked = λ none. absurd (not_both (Some here) here none refl);
             ready = λ none. absurd (not_both (Some here) here none refl);
@@ -236,8 +236,8 @@ module _ {D : Type 0} (trace : D → Option Trace) (faults : D → ℕ) (ledger 
     shut_by first second first' second' x y failure holds may went_first went_second pending above by =
         let ready = halves_ready first second holds room in
         let ahead : ledger.records ++ failure.pending ∷ [] ≡ ledger.records ++ next ∷ [] = ap (λ (r : Record). ledger.records ++ r ∷ []) pending in
-        let one = half_without trace faults header ledger.records next ledger.records (Some failure) (prefix_self ledger.records) ahead first first' x holds.store.0 ready.0 went_first in
-        let two = half_without trace faults header ledger.records next ledger.records (Some failure) (prefix_self ledger.records) ahead second second' y holds.store.1 ready.1 went_second in
+        let one = half_without trace faults header ledger.records next ledger.records (Some failure) (prefix_self ledger.records) ahead first first' x holds.disks.0 ready.0 went_first in
+        let two = half_without trace faults header ledger.records next ledger.records (Some failure) (prefix_self ledger.records) ahead second second' y holds.disks.1 ready.1 went_second in
         let is : failure ≡ record { failed_at = failure.failed_at; pending = next } = λ i. record { failed_at = failure.failed_at; pending = pending i } in (
           shut_book (Two first second) (Two first' second') failure holds may is tt (record {
             untold = refl;
@@ -260,10 +260,10 @@ module _ {D : Type 0} (trace : D → Option Trace) (faults : D → ℕ) (ledger 
         → MayFollow ledger.entry ledger.records next → HalfWent trace faults next first first' (Err x) → HalfWent trace faults next second second' (Err y)
         → closed ≡ option_or y x → Closing (Two first second) (Two first' second') closed
     shut_two first second first' second' x (Some failure) closed holds may one two is =
-        let fell = half_fell trace faults header ledger.records next second second' failure holds.store.1 (halves_ready first second holds room).1 two in
+        let fell = half_fell trace faults header ledger.records next second second' failure holds.disks.1 (halves_ready first second holds room).1 two in
         (failure, is, shut_by first second first' second' x (Some failure) failure holds may one two fell.0 fell.1 (inr fell.2))
     shut_two first second first' second' (Some failure) None closed holds may one two is =
-        let fell = half_fell trace faults header ledger.records next first first' failure holds.store.0 (halves_ready first second holds room).0 one in
+        let fell = half_fell trace faults header ledger.records next first first' failure holds.disks.0 (halves_ready first second holds room).0 one in
         (failure, is, shut_by first second first' second' (Some failure) None failure holds may one two fell.0 fell.1 (inl fell.2))
     shut_two first second first' second' None None closed holds may one two is =
         absurd (⊎_elim (half_was_out trace faults header ledger.records next first first' one) (half_was_out trace faults header ledger.records next second second' two)

@@ -126,7 +126,7 @@ module _ {D : Type 0} (trace : D → Option Trace) (faults : D → ℕ) where
 
   pub record HoldsBook (ledger : Ledger) (header : Header) (store : Store D) (closed : Option Failure) : Type 0 where
     pub book : IsBook (account_in ledger header store closed)
-    pub store : HoldsStore header ledger.records store closed
+    pub disks : HoldsStore header ledger.records store closed
 
   -- ---- an append
 
@@ -184,38 +184,38 @@ module _ {D : Type 0} (trace : D → Option Trace) (faults : D → ℕ) where
   HalfWent next (Kept old) (Kept new) (Err (Some failure)) = HasFailedOn next old new failure
 
   -- One of two disks, or both, have the record.
-  pub record HasWrittenBoth (next : Record) (first second first' second' : Half D) (was is : Option Failure) : Type 0 where
+  pub record HasWrittenBoth (next : Record) (a b a' b' : Half D) (was is : Option Failure) : Type 0 where
     pub open_before : was ≡ None
     pub open_after : is ≡ None
     pub on_first : Result ⊤ (Option Failure)
     pub on_second : Result ⊤ (Option Failure)
-    pub first : HalfWent next first first' on_first
-    pub second : HalfWent next second second' on_second
+    pub first : HalfWent next a a' on_first
+    pub second : HalfWent next b b' on_second
     pub written : IsOk on_first ⊎ IsOk on_second
 
   -- Neither has it: the book is closed by the failure of the one that failed last.
-  pub record HasFailedBoth (next : Record) (first second first' second' : Half D) (was is : Option Failure) : Type 0 where
+  pub record HasFailedBoth (next : Record) (a b a' b' : Half D) (was is : Option Failure) : Type 0 where
     pub open_before : was ≡ None
     pub fell_first : Option Failure
     pub fell_second : Option Failure
-    pub first : HalfWent next first first' (Err fell_first)
-    pub second : HalfWent next second second' (Err fell_second)
+    pub first : HalfWent next a a' (Err fell_first)
+    pub second : HalfWent next b b' (Err fell_second)
     pub closed : is ≡ option_or fell_second fell_first
 
-  abbrev pub IsUnappendedBoth : Record → (first second first' second' : Half D) → (was is : Option Failure) → AppendFault → Type 0
-  IsUnappendedBoth next first second first' second' was is (Closed failed_at) = (failure : Failure) × (was ≡ Some failure) × (failed_at ≡ failure.failed_at)
-      × (first' ≡ first) × (second' ≡ second) × (is ≡ was)
-  IsUnappendedBoth next first second first' second' was is DiskFault = HasFailedBoth next first second first' second' was is
+  abbrev pub IsUnappendedBoth : Record → (a b a' b' : Half D) → (was is : Option Failure) → AppendFault → Type 0
+  IsUnappendedBoth next a b a' b' was is (Closed failed_at) = (failure : Failure) × (was ≡ Some failure) × (failed_at ≡ failure.failed_at)
+      × (a' ≡ a) × (b' ≡ b) × (is ≡ was)
+  IsUnappendedBoth next a b a' b' was is DiskFault = HasFailedBoth next a b a' b' was is
 
   -- the same of what keeps a book
   abbrev pub HasWrittenTo : Record → (old new : Store D) → (was is : Option Failure) → Type 0
   HasWrittenTo next (One old) (One new) was is = HasWritten next old new was is × (capacity_of new ≡ capacity_of old)
-  HasWrittenTo next (One old) (Two first second) was is = ⊥
-  HasWrittenTo next (Two first second) (One new) was is = ⊥
-  HasWrittenTo next (Two first second) (Two first' second') was is = HasWrittenBoth next first second first' second' was is
+  HasWrittenTo next (One old) (Two a b) was is = ⊥
+  HasWrittenTo next (Two a b) (One new) was is = ⊥
+  HasWrittenTo next (Two a b) (Two a' b') was is = HasWrittenBoth next a b a' b' was is
 
   abbrev pub IsUnappendedTo : Record → (old new : Store D) → (was is : Option Failure) → AppendFault → Type 0
   IsUnappendedTo next (One old) (One new) was is fault = IsUnappended next old new was is fault × (capacity_of new ≡ capacity_of old)
-  IsUnappendedTo next (One old) (Two first second) was is fault = ⊥
-  IsUnappendedTo next (Two first second) (One new) was is fault = ⊥
-  IsUnappendedTo next (Two first second) (Two first' second') was is fault = IsUnappendedBoth next first second first' second' was is fault
+  IsUnappendedTo next (One old) (Two a b) was is fault = ⊥
+  IsUnappendedTo next (Two a b) (One new) was is fault = ⊥
+  IsUnappendedTo next (Two a b) (Two a' b') was is fault = IsUnappendedBoth next a b a' b' was is fault
