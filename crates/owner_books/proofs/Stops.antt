@@ -101,7 +101,7 @@ version_of_book book = book.storage.header.version
 pub new_book : (entry wanted : Entry) (given header : Header) (before : Option Shown) (trace : Option Trace) (faults : ℕ) (book : Account) → entry ≡ wanted → given ≡ header
     → before ≡ Some (record { trace = trace; faults = faults }) → WhereTold (Found book.storage.header book.ledger.found) trace book.storage.trace
     → (book.ledger ≡ record { entry = record entry { version = version_of_book book }; found = book.ledger.found; records = book.ledger.found })
-    × (book.storage ≡ record { header = record given { version = version_of_book book }; trace = book.storage.trace; faults = faults; closed = None })
+    × (book.storage ≡ record { header = record given { version = version_of_book book }; trace = book.storage.trace; faults = faults; closed = None; copies = None })
     → IsBook book → IsNewBook (record wanted { version = version_of_book book }) (record header { version = version_of_book book }) before book
 new_book entry wanted given header before trace faults book is same at found fresh sound =
     let its = ap (λ (l : Ledger). l.entry) fresh.0 ∙ ap (λ (e : Entry). record e { version = version_of_book book }) is in
