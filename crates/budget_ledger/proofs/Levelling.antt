@@ -30,6 +30,23 @@ module _ {D : Type 0} (trace : D → Option Trace) (faults : D → ℕ) where
   side_went next old new (Err (Closed n)) written stopped = (Err None, stopped)
   side_went next old new (Err DiskFault) written stopped = (Err (Some stopped.0), stopped.1)
 
+  -- a side of a book whose header is its own but for the version
+  pub holds_under : (common : Header) (records : List Record) (closed : Option Failure) (side : Side D) → side.header ≡ record common { version = side.header.version }
+      → HoldsSide trace faults side.header records closed side → HoldsSide trace faults common records closed side
+  holds_under common records closed side is holds = record {
+    copy = record {
+      header = is;
+      begins = holds.copy.begins;
+      whole = holds.copy.whole;
+      kept = holds.copy.kept;
+      failed = holds.copy.failed;
+      follows = holds.copy.follows;
+    };
+    journal = holds.journal;
+    has = holds.has;
+    whole = holds.whole;
+  }
+
   pub level_ready : (common : Header) (records : List Record) (slot : ℕ) (side : Side D) → HoldsSide trace faults common (take slot records) None side → slot < length records
       → length records ≤ capacity_of side.journal → IsReadySide side
   level_ready common records slot side holds low room = record {
@@ -38,6 +55,7 @@ module _ {D : Type 0} (trace : D → Option Trace) (faults : D → ℕ) where
       room = λ none. omega (arith, holds.journal.counted none, length-take-le slot records (omega arith), low, room);
     };
     counted = λ none. holds.journal.counted none ∙ sym (holds.whole none);
+    room = holds.journal.room;
   }
 
   pub level_step : (common : Header) (found records more : List Record) (next : Record) (start mid new : Side D) (answer : Result ⊤ AppendFault) → more ≡ records ++ next ∷ []
