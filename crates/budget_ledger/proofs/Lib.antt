@@ -1,10 +1,15 @@
+pub mod BothJoins
+pub mod BothMade
+pub mod BothOpens
 mod Examples
+mod ExamplesOfBoth
 mod ExamplesOfCopies
 pub mod Forks
 pub mod Grants
 pub mod Levelling
 pub mod Machine
 pub mod Opens
+pub mod SameCost
 pub mod Sides
 pub mod Standing
 pub mod Told
