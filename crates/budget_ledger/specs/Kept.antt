@@ -84,12 +84,18 @@ module _ {D : Type 0} (trace : D → Option Trace) (faults : D → ℕ) where
   abbrev pub copies_on : List Record → (first second : Half D) → Copies
   copies_on records first second = record { first = copy_on records first; second = copy_on records second }
 
-  -- what a book's disks show
+  -- what a book's disks show: two show each for itself
+  abbrev pub trace_in : Store D → Option Trace
+  trace_in (One journal) = trace (disk_of journal)
+  trace_in (Two first second) = None
+
+  abbrev pub copies_in : List Record → Store D → Option Copies
+  copies_in records (One journal) = None
+  copies_in records (Two first second) = Some (copies_on records first second)
+
   abbrev pub storage_in : List Record → Header → Store D → Option Failure → Storage
-  storage_in records header (One journal) closed =
-      record { header = header; trace = trace (disk_of journal); faults = faults (disk_of journal); closed = closed; copies = None }
-  storage_in records header (Two first second) closed =
-      record { header = header; trace = None; faults = count_of closed; closed = closed; copies = Some (copies_on records first second) }
+  storage_in records header store closed =
+      record { header = header; trace = trace_in store; faults = faults_in faults store closed; closed = closed; copies = copies_in records store }
 
   -- what contracts see of a book
   abbrev pub account_in : Ledger → Header → Store D → Option Failure → Account
