@@ -105,6 +105,10 @@ pub record ArePassesOn (entries : ℕ → Entry) (headers : ℕ → Header) (n :
   pub taken : (o : ℕ) → o < n → new o ≡ None
   pub others : (o : ℕ) → n ≤ o → new o ≡ old o
 
+-- what a book shows of its disk, or of its two
+abbrev pub shown_by : Account → Stored
+shown_by book = stored_by book.storage
+
 -- A pass was closed, and gave its book back: with the records found and the pass's own, and where that is none, as it was opened.
 pub record GaveBook (pass : Pass) (book : Account) : Type 0 where
   pub ledger : book.ledger ≡ ledger_on pass.opened book.ledger.records
@@ -115,6 +119,6 @@ pub record GaveBook (pass : Pass) (book : Account) : Type 0 where
 
 -- The first owners' disks were put back as these books show them, which their passes gave; the others are as they were.
 pub record ArePutBack (n : ℕ) (passes : List Pass) (books : ℕ → Account) (old new : Shelf) : Type 0 where
-  pub each : (o : ℕ) → o < n → new o ≡ Some (stored_by (books o).storage)
+  pub each : (o : ℕ) → o < n → new o ≡ Some (shown_by (books o))
   pub gave : (o : ℕ) → o < n → GaveBook (pass_at passes o) (books o)
   pub others : (o : ℕ) → n ≤ o → new o ≡ old o
