@@ -3,7 +3,7 @@ use Rattle.std.proofs.Common.{◌≡◌, ℕ, suc, ◌+◌, ◌<◌, ◌≤◌, 
 use mathlib.Core.Logic.{◌⊎◌, inl, inr}
 use Rattle.std.proofs.lemmas.Bool.{cases_eq, eq-eqb}
 use Rattle.std.proofs.Math.Seq.{get_or-append_seam}
-use Rattle.outside_disks.specs.Disks.{Shown, Trace}
+use Rattle.outside_disks.specs.Stored.{Stored}
 use Rattle.outside_bays.specs.Bays.{Changes}
 use Rattle.outside_bays.proofs.Shelves.{not-equal}
 use Rattle.budget_ledger.specs.Account.{Account}
@@ -13,17 +13,15 @@ use Rattle.owner_books.specs.Shelves.{Shelf}
 use Rattle.owner_books.specs.Books.{ArePutBack, GaveBook, shown_by}
 use Rattle.owner_books.proofs.Bundled.{one_fewer}
 
-pub changed_here : (k : ℕ) (now : Option Shown) (old new : Shelf) → Changes k now old new → new k ≡ now
+pub changed_here : (k : ℕ) (now : Option Stored) (old new : Shelf) → Changes k now old new → new k ≡ now
 changed_here k now old new changes = changes k ∙ ap (λ (b : Bool). if b then now else old k) (eq-eqb k k refl)
 
-pub changed_elsewhere : (k n : ℕ) (now : Option Shown) (old new : Shelf) → (n ≡ k → ⊥) → Changes k now old new → new n ≡ old n
+pub changed_elsewhere : (k n : ℕ) (now : Option Stored) (old new : Shelf) → (n ≡ k → ⊥) → Changes k now old new → new n ≡ old n
 changed_elsewhere k n now old new isnt changes = changes n ∙ ap (λ (b : Bool). if b then now else old n) (not-equal n k isnt)
 
-pub changed_to : (k j : ℕ) (t u : Option Trace) (m n : ℕ) (old new : Shelf) → k ≡ j → t ≡ u → m ≡ n → Changes k (Some (record { trace = t; faults = m })) old new → Changes j (Some (record { trace = u; faults = n })) old new
-changed_to k j t u m n old new here trace faults changes =
-    subst (λ (i : ℕ). Changes i (Some (record { trace = u; faults = n })) old new) here
-    (subst (λ (w : Option Trace). Changes k (Some (record { trace = w; faults = n })) old new) trace
-    (subst (λ (i : ℕ). Changes k (Some (record { trace = t; faults = i })) old new) faults changes))
+pub changed_to : (k j : ℕ) (given shown : Stored) (old new : Shelf) → k ≡ j → given ≡ shown → Changes k (Some given) old new → Changes j (Some shown) old new
+changed_to k j given shown old new here is changes =
+    subst (λ (i : ℕ). Changes i (Some shown) old new) here (subst (λ (s : Stored). Changes k (Some s) old new) is changes)
 
 -- the books of some owners, and one more
 abbrev with_book : (ℕ → Account) → ℕ → Account → ℕ → Account

@@ -1,5 +1,6 @@
 pub mod Bundled
 pub mod Disks
+pub mod Twins
 pub mod Back
 pub mod Passes
 pub mod Unopened
