@@ -7,3 +7,4 @@ pub mod Unopened
 pub mod Stops
 pub mod Versions
 pub mod Made
+mod Examples

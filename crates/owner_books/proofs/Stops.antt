@@ -155,6 +155,16 @@ shelf_stopped name entry header before now old new fault stop was is told left s
     subst (λ (s : Option Stored). IsUnopenedStop name entry header s new stop) (sym was)
     (subst (λ (s : Option Stored). IsUnopenedStop name entry header (Some before) s stop) (sym is) (fault_stopped name entry header before now fault stop told left stops))
 
+-- the line of a disk comes where it failed, and of two where none is left
+pub faulted : (name : List ℕ) (fault : BothFault) (line : Vec ℕ Global) → IsBothFaultStop name fault (Disk line) → fault ≡ both_fault.Refused open_fault.DiskFault
+faulted name (both_fault.Refused open_fault.DiskFault) line is = refl
+faulted name (both_fault.Refused open_fault.NoMemory) line is = cc is
+faulted name (both_fault.Refused (open_fault.NotInitialised n)) line is = absurd is
+faulted name (both_fault.Refused (open_fault.Changed kept found)) line is = absurd is
+faulted name (both_fault.Refused (open_fault.Damaged slot)) line is = absurd is
+faulted name (both_fault.Forked slot) line is = absurd is
+faulted name both_fault.VersionsDiffer line is = absurd is
+
 -- what is said of a told disk
 pub told_shown : (P : List ℕ → Type 0) (trace : Option Trace) → ((t : Trace) → trace ≡ Some t → P (seen_of t)) → IfSome (option_map seen_of trace) P
 told_shown P None p = tt
