@@ -1,8 +1,13 @@
 mod Examples
+mod ExamplesOfCopies
+pub mod Forks
 pub mod Grants
+pub mod Levelling
 pub mod Machine
 pub mod Opens
+pub mod Sides
 pub mod Standing
+pub mod Told
 pub mod Wents
 pub mod Writes
 pub mod Verdicts
