@@ -1,3 +1,4 @@
+pub mod BothOpens
 mod Examples
 mod ExamplesOfCopies
 pub mod Forks
@@ -5,6 +6,7 @@ pub mod Grants
 pub mod Levelling
 pub mod Machine
 pub mod Opens
+pub mod SameCost
 pub mod Sides
 pub mod Standing
 pub mod Told
