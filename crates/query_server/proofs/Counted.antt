@@ -8,7 +8,7 @@ use Rattle.std.proofs.lemmas.Bool.{cases_eq, cases_lt, eq-eqb}
 use Rattle.std.proofs.lemmas.List.{length-take-le, take_more}
 use Rattle.std.proofs.lemmas.Grind.{flat_map-append}
 use Rattle.fz_outside.specs.Faults.{HasRisen}
-use Rattle.outside_disks.specs.Disks.{Shown}
+use Rattle.outside_disks.specs.Stored.{Stored}
 use Rattle.outside_bays.proofs.Shelves.{not-equal}
 use Rattle.journal_records.specs.declared.records.Header.{Header}
 use Rattle.journal_records.specs.declared.records.Record.{Record}
@@ -186,7 +186,7 @@ one_left o old mid new before left = record {
   others = λ p past. left.elsewhere p (λ same. omega (arith, past, same)) ∙ before.others p (omega (arith, past));
 }
   where
-    here : (p : ℕ) (shown : Shown) → p < o + 1 → old p ≡ Some shown → (p ≡ o) ⊎ (p ≡ o → ⊥) → (after : Shown) × (new p ≡ Some after) × IsOnlySynced shown after
+    here : (p : ℕ) (shown : Stored) → p < o + 1 → old p ≡ Some shown → (p ≡ o) ⊎ (p ≡ o → ⊥) → (after : Stored) × (new p ≡ Some after) × IsOnlySynced shown after
     here p shown less at (inl same) =
         let after = left.here shown (before.others o (omega arith) ∙ ap old (sym same) ∙ at) in
         (after.0, ap new same ∙ after.1, after.2)
@@ -216,10 +216,10 @@ rose_since o old mid new a b c first second home before left (inr (p, was, is, a
         let step = before.owned p begun.0 less begun.1 in
         let same : step.0 ≡ was = let e : Some step.0 ≡ Some was = sym step.1 ∙ at in cc e in
         let still : is ≡ was = let e : Some is ≡ Some was = sym now ∙ left.elsewhere p (λ q. omega (arith, less, q)) ∙ at in cc e in
-        let low : begun.0.faults ≤ was.faults = subst (λ (s : Shown). begun.0.faults ≤ s.faults) same step.2.counts in
-        let high : was.faults ≤ is.faults = subst (λ (s : Shown). was.faults ≤ s.faults) (sym still) (omega arith) in
+        let low : begun.0.faults ≤ was.faults = subst (λ (s : Stored). begun.0.faults ≤ s.faults) same step.2.counts in
+        let high : was.faults ≤ is.faults = subst (λ (s : Stored). was.faults ≤ s.faults) (sym still) (omega arith) in
         (p, begun.0, is, begun.1, now, risen_from begun.0.faults was.faults is.faults is.faults low high (omega arith) rose)
     here (inr past) = (p, was, is, sym (before.others p past) ∙ at, now, rose)
 
 pub opened_as : (entry : Entry) (header : Header) (mid old : Shelf) (o : ℕ) (found : List Record) → mid o ≡ old o → IsOpened entry header (bytes_on mid o) found → IsOpened entry header (bytes_on old o) found
-opened_as entry header mid old o found at opened = subst (λ (shown : Option Shown). IsOpened entry header (bytes_on (λ _. shown) o) found) at opened
+opened_as entry header mid old o found at opened = subst (λ (shown : Option Stored). IsOpened entry header (bytes_on (λ _. shown) o) found) at opened

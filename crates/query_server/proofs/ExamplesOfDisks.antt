@@ -3,7 +3,8 @@ use Rattle.std.proofs.Common.{◌≡◌, ℕ, zero, suc, ◌<◌, ◌≤◌, Lis
 use Rattle.std.specs.Prelude.{codes, pos, slice_index, IfSome}
 use Rattle.std.specs.Fmt.{digits}
 use mathlib.Core.Logic.{inl, inr}
-use Rattle.outside_disks.specs.Disks.{Shown, Step, Trace, overlaid, seen}
+use Rattle.outside_disks.specs.Disks.{Step, Trace, overlaid, seen}
+use Rattle.outside_disks.specs.Stored.{Stored}
 use Rattle.outside_disks.specs.Disks.Step.{Wrote, Synced}
 use Rattle.partition_charge.specs.declared.view.View.TheVariants.{Whole}
 use Rattle.partition_charge.specs.Cost.{cost_of_charges, partition_cost}
@@ -134,13 +135,13 @@ spent_by_version = refl
 -- ---- what the disks show
 
 -- a disk that tells these bytes
-abbrev telling : List ℕ → Option Shown
-telling bytes = Some (record { trace = Some (record { start = bytes; steps = [] }); faults = 0 })
+abbrev telling : List ℕ → Option Stored
+telling bytes = Some (record { trace = Some (record { start = bytes; steps = [] }); faults = 0; twins = None })
 
 -- the first owner's disk holds these bytes, the second one's tells nothing, and no other disk is at home
 abbrev shelf_with : List ℕ → Shelf
 shelf_with bytes zero = telling bytes
-shelf_with bytes (suc zero) = Some (record { trace = None; faults = 0 })
+shelf_with bytes (suc zero) = Some (record { trace = None; faults = 0; twins = None })
 shelf_with bytes (suc (suc o)) = None
 
 told : (bytes : List ℕ) → bytes_on (shelf_with bytes) 0 ≡ Some bytes
@@ -171,13 +172,13 @@ none_at_home home = true≢false (sym (home 0 (omega arith)).1)
 
 -- ---- what becomes of them
 
-abbrev shown : List ℕ → Shown
-shown bytes = record { trace = Some (record { start = bytes; steps = [] }); faults = 0 }
+abbrev shown : List ℕ → Stored
+shown bytes = record { trace = Some (record { start = bytes; steps = [] }); faults = 0; twins = None }
 
-as_it_was : (before : Shown) → IsOnlySynced before before
+as_it_was : (before : Stored) → IsOnlySynced before before
 as_it_was before = record { synced = inl refl; counts = omega arith }
 
-synced : (bytes : List ℕ) → IsOnlySynced (shown bytes) (record { trace = Some (record { start = bytes; steps = Synced ∷ [] }); faults = 0 })
+synced : (bytes : List ℕ) → IsOnlySynced (shown bytes) (record { trace = Some (record { start = bytes; steps = Synced ∷ [] }); faults = 0; twins = None })
 synced bytes = record { synced = inr refl; counts = omega arith }
 
 sync_failed : (bytes : List ℕ) → IsOnlySynced (shown bytes) (record (shown bytes) { faults = 1 })
@@ -193,7 +194,7 @@ not_unchanged more is = cc
 not_a_sync : (more : List ℕ) → Wrote 0 more ∷ [] ≡ Synced ∷ [] → ⊥
 not_a_sync more is = cc
 
-written : (bytes more : List ℕ) → IsOnlySynced (shown bytes) (record { trace = Some (record { start = bytes; steps = Wrote 0 more ∷ [] }); faults = 0 }) → ⊥
+written : (bytes more : List ℕ) → IsOnlySynced (shown bytes) (record { trace = Some (record { start = bytes; steps = Wrote 0 more ∷ [] }); faults = 0; twins = None }) → ⊥
 written bytes more goes = elim goes.synced [ inl is ↦ not_unchanged more (ap steps_in is) | inr is ↦ not_a_sync more (ap steps_in is) ]
 
 as_they_were : (owners : ℕ) (shelf : Shelf) → EachDisk owners (λ o. IsOnlySynced) shelf shelf
@@ -286,21 +287,21 @@ no_byte new status text due is =
     omega (arith, long, due.some)
 
 -- a journal is made on an empty disk, and where no count rose
-made_over_a_byte : (header : Header) (after : Shown) → IsMade header (shown (7 ∷ [])) after → ⊥
+made_over_a_byte : (header : Header) (after : Stored) → IsMade header (shown (7 ∷ [])) after → ⊥
 made_over_a_byte header after is = let none : 7 ∷ [] ≡ [] = (is.made (record { start = 7 ∷ []; steps = [] }) refl).0 in cc none
 
-made_with_a_fault : (header : Header) (trace : Option Trace) → IsMade header (shown []) (record { trace = trace; faults = 1 }) → ⊥
+made_with_a_fault : (header : Header) (trace : Option Trace) → IsMade header (shown []) (record { trace = trace; faults = 1; twins = None }) → ⊥
 made_with_a_fault header trace is = omega (arith, is.counts)
 
 -- ---- the disk at which an `init` ended: where its count rose it may hold anything, and else nothing was written
 
-abbrev wrote : (bytes more : List ℕ) (faults : ℕ) → Shown
-wrote bytes more faults = record { trace = Some (record { start = bytes; steps = Wrote 0 more ∷ [] }); faults = faults }
+abbrev wrote : (bytes more : List ℕ) (faults : ℕ) → Stored
+wrote bytes more faults = record { trace = Some (record { start = bytes; steps = Wrote 0 more ∷ [] }); faults = faults; twins = None }
 
 failed_disk_may_be_written : (bytes more : List ℕ) → MayHaveFailed (shown bytes) (wrote bytes more 1)
 failed_disk_may_be_written bytes more = (omega arith, inr (λ below. omega arith))
 
-synced_disk : (bytes : List ℕ) → MayHaveFailed (shown bytes) (record { trace = Some (record { start = bytes; steps = Synced ∷ [] }); faults = 0 })
+synced_disk : (bytes : List ℕ) → MayHaveFailed (shown bytes) (record { trace = Some (record { start = bytes; steps = Synced ∷ [] }); faults = 0; twins = None })
 synced_disk bytes = (omega arith, inl (synced bytes))
 
 written_without_a_fault : (bytes more : List ℕ) → MayHaveFailed (shown bytes) (wrote bytes more 0) → ⊥
@@ -311,15 +312,15 @@ written_without_a_fault bytes more (count, inr risen) = let no : 0 < 0 = risen (
 
 -- two owners' disks and a third, which have failed so often
 abbrev counted : (first second third : ℕ) → Shelf
-counted first second third zero = Some (record { trace = None; faults = first })
-counted first second third (suc zero) = Some (record { trace = None; faults = second })
-counted first second third (suc (suc zero)) = Some (record { trace = None; faults = third })
+counted first second third zero = Some (record { trace = None; faults = first; twins = None })
+counted first second third (suc zero) = Some (record { trace = None; faults = second; twins = None })
+counted first second third (suc (suc zero)) = Some (record { trace = None; faults = third; twins = None })
 counted first second third (suc (suc (suc o))) = None
 
 nothing_made : MayBeMadeInPart loading key (counted 0 0 0) (counted 0 0 0)
 nothing_made = inl (λ o. refl)
 
-abbrev failures_shown : Option Shown → ℕ
+abbrev failures_shown : Option Stored → ℕ
 failures_shown None = 0
 failures_shown (Some disk) = disk.faults
 
@@ -348,7 +349,7 @@ second_disk = (1, omega arith, refl, opened, others)
 -- it was the first one's disk
 first_disk : (o : ℕ) → o < 2 → codes "disk b\n" ≡ disk_text (owner_name_at loading o) → NoOtherRose o (counted 0 0 0) (counted 1 0 0) → ⊥
 first_disk zero lt is others = let wrong : 10 ≡ 101 = ap (λ text. slice_index text 6) is in omega (arith, wrong)
-first_disk (suc zero) lt is others = let wrong : 1 ≡ 0 = others 0 (λ same. omega (arith, same)) (record { trace = None; faults = 0 }) (record { trace = None; faults = 1 }) refl refl in omega (arith, wrong)
+first_disk (suc zero) lt is others = let wrong : 1 ≡ 0 = others 0 (λ same. omega (arith, same)) (record { trace = None; faults = 0; twins = None }) (record { trace = None; faults = 1; twins = None }) refl refl in omega (arith, wrong)
 first_disk (suc (suc o)) lt is others = omega (arith, lt)
 
 another_owners_disk : IsDiskLine (to_count loading key) (counted 0 0 0) (counted 1 0 0) (codes "disk b\n") → ⊥
@@ -377,23 +378,23 @@ no_disk_opened old new text line = line
 
 -- ---- so is an `init`'s: the journals of the owners before it are made
 
-abbrev failed_times : ℕ → Shown
-failed_times n = record { trace = None; faults = n }
+abbrev failed_times : ℕ → Stored
+failed_times n = record { trace = None; faults = n; twins = None }
 
 second_made : AreMadeBefore loading key 1 MayHaveFailed (counted 0 0 0) (counted 0 1 0)
 second_made = record { made = made; here = here; behind = behind }
   where
-    made : (p : ℕ) (before : Shown) → p < 1 → counted 0 0 0 p ≡ Some before → (after : Shown) × (counted 0 1 0 p ≡ Some after) × IsMade (new_header loading key p) before after
+    made : (p : ℕ) (before : Stored) → p < 1 → counted 0 0 0 p ≡ Some before → (after : Stored) × (counted 0 1 0 p ≡ Some after) × IsMade (new_header loading key p) before after
     made zero before less is =
         let one : failed_times 0 ≡ before = cc is in
-        subst (λ (b : Shown). (after : Shown) × (counted 0 1 0 0 ≡ Some after) × IsMade (header_of loading key 0) b after) one
+        subst (λ (b : Stored). (after : Stored) × (counted 0 1 0 0 ≡ Some after) × IsMade (header_of loading key 0) b after) one
         (failed_times 0, refl, record { made = λ t told. absurd (cc told); counts = refl })
     made (suc p) before less is = absurd (omega (arith, less))
 
-    here : (before : Shown) → counted 0 0 0 1 ≡ Some before → (after : Shown) × (counted 0 1 0 1 ≡ Some after) × MayHaveFailed before after
+    here : (before : Stored) → counted 0 0 0 1 ≡ Some before → (after : Stored) × (counted 0 1 0 1 ≡ Some after) × MayHaveFailed before after
     here before is =
         let one : failed_times 0 ≡ before = cc is in
-        subst (λ (b : Shown). (after : Shown) × (counted 0 1 0 1 ≡ Some after) × MayHaveFailed b after) one (failed_times 1, refl, (omega arith, inr (λ below. omega arith)))
+        subst (λ (b : Stored). (after : Stored) × (counted 0 1 0 1 ≡ Some after) × MayHaveFailed b after) one (failed_times 1, refl, (omega arith, inr (λ below. omega arith)))
 
     behind : (p : ℕ) → 1 < p → counted 0 1 0 p ≡ counted 0 0 0 p
     behind zero less = absurd (omega (arith, less))
@@ -422,7 +423,7 @@ both_failed zero lt is made = let wrong : 10 ≡ 101 = ap (λ text. slice_index 
 both_failed (suc zero) lt is made =
     let first = made.made 0 (failed_times 0) (omega arith) refl in
     let one : failed_times 1 ≡ first.0 = cc first.1 in
-    let wrong : 1 ≡ 0 = ap (λ (s : Shown). s.faults) one ∙ first.2.counts in
+    let wrong : 1 ≡ 0 = ap (λ (s : Stored). s.faults) one ∙ first.2.counts in
     omega (arith, wrong)
 both_failed (suc (suc o)) lt is made = omega (arith, lt)
 
@@ -479,7 +480,7 @@ module _ (bytes : ℕ → List ℕ) (made : (o : ℕ) → Stands (header_of load
       let short : length (bytes 0) ≡ 0 = ap length none in
       omega (arith, long, short)
 
-not_valid_untold : IsValidFor (to_answer 1 loading key) (λ o. Some (record { trace = None; faults = 0 })) → ⊥
+not_valid_untold : IsValidFor (to_answer 1 loading key) (λ o. Some (record { trace = None; faults = 0; twins = None })) → ⊥
 not_valid_untold (told, journals) = let wrong : false ≡ true = told 0 (omega arith) in true≢false (sym wrong)
 
 -- a program asks nothing of the disks; faulty words and a refused name are never valid
@@ -521,7 +522,7 @@ module _ (tables : Signature) (X Y : Dataset) (program : List ℕ) (shelf : Shel
 
 -- A disk to which a byte was written doesn't keep what was found: a stop may leave a file that none could have left before.
 written_isnt_kept : (owner : Owner) (draws : ℕ → ℕ → ℕ) (header : Header) (found : List Record)
-    → KeepsFound owner draws header found (shown []) (record { trace = Some (record { start = []; steps = Wrote 0 (7 ∷ []) ∷ [] }); faults = 0 }) → ⊥
+    → KeepsFound owner draws header found (shown []) (record { trace = Some (record { start = []; steps = Wrote 0 (7 ∷ []) ∷ [] }); faults = 0; twins = None }) → ⊥
 unfolding overlaid
 written_isnt_kept owner draws header found keeps =
     let same : seen [] (Wrote 0 (7 ∷ []) ∷ []) ≡ [] = keeps.images.each _ (inl (seen-image [] (Wrote 0 (7 ∷ []) ∷ []))) in

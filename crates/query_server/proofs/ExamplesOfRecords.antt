@@ -3,7 +3,8 @@ use Rattle.std.proofs.Common.{◌≡◌, ℕ, ◌<◌, ◌≤◌, List, [], ◌�
 use Rattle.std.specs.List.{flat_map}
 use mathlib.Core.Logic.{◌⊎◌, inl, inr}
 use Rattle.fz_outside.specs.Faults.{HasRisen, last_count}
-use Rattle.outside_disks.specs.Disks.{IsImageOf, Shown, Trace, seen_of}
+use Rattle.outside_disks.specs.Disks.{IsImageOf, Trace, seen_of}
+use Rattle.outside_disks.specs.Stored.{Stored}
 use Rattle.journal_records.specs.declared.records.Header.{Header}
 use Rattle.journal_records.specs.declared.records.Record.{Record}
 use Rattle.budget_core.specs.Entries.{Entry}
@@ -30,8 +31,8 @@ use Rattle.query_server.specs.declared.end.Status.TheVariants as code
 -- ---- an owner's disk through a run
 
 -- a disk that tells nothing but its count of faults
-abbrev untold : (faults : ℕ) → Shown
-untold faults = record { trace = None; faults = faults }
+abbrev untold : (faults : ℕ) → Stored
+untold faults = record { trace = None; faults = faults; twins = None }
 
 module _ (entry : Entry) (header : Header) (r : Record) where
   -- a record was added, and nothing failed
@@ -85,11 +86,11 @@ module _ (entry : Entry) (header : Header) (r : Record) where
       omega (arith, h)
 
   -- A disk that tells an empty file has kept no journal; and one of which a stop may leave a file without the record has not kept that.
-  no_journal : WentOn entry header [] [] None (untold 2) (record { trace = Some (record { start = []; steps = [] }); faults = 2 }) → ⊥
+  no_journal : WentOn entry header [] [] None (untold 2) (record { trace = Some (record { start = []; steps = [] }); faults = 2; twins = None }) → ⊥
   no_journal w = let long : 128 ≤ 0 = journal-long header [] [] w.kept.stands in omega (arith, long)
 
-  unsynced : (before : Shown) (t : Trace) (faults : ℕ) (file : List ℕ) → IsImageOf t file → Stands header [] file
-      → WentOn entry header [] (r ∷ []) None before (record { trace = Some t; faults = faults }) → ⊥
+  unsynced : (before : Stored) (t : Trace) (faults : ℕ) (file : List ℕ) → IsImageOf t file → Stands header [] file
+      → WentOn entry header [] (r ∷ []) None before (record { trace = Some t; faults = faults; twins = None }) → ⊥
   unsynced before t faults file image none w =
       let same : file ≡ seen_of t = w.kept.stable file image in
       let both : r ∷ [] ≡ [] = stands-one header (r ∷ []) [] (seen_of t) w.kept.stands (subst (Stands header []) same none) in

@@ -2,7 +2,8 @@
 use Rattle.std.proofs.Common.{◌≡◌, ℕ, List, length, Option, Some, None, Vec, Global, refl, sym, ◌∙◌, ap, subst}
 use Rattle.std.specs.Prelude.{Result, Ok, Err, IsOk, IsSome, IfSome}
 use mathlib.Core.Logic.{inl, inr}
-use Rattle.outside_disks.specs.Disks.{Shown, WhereTold}
+use Rattle.outside_disks.specs.Disks.{WhereTold}
+use Rattle.outside_disks.specs.Stored.{Stored}
 use Rattle.outside_bays.specs.Bays.{Changes}
 use Rattle.fz_outside.specs.Faults.{HasRisen}
 use Rattle.journal_records.specs.declared.records.Header.{Header}
@@ -49,21 +50,21 @@ unopened_end one amount old new script (Refused name) disk others is = absurd is
 unopened_end one amount old new script Fault disk others is = absurd is
 
 -- where the disk of one owner alone went on, no other's count rose
-pub one_risen : (o : ℕ) (Goes : Shown → Shown → Type 0) (old new : Shelf) → OneDisk o Goes old new → NoOtherRose o old new
+pub one_risen : (o : ℕ) (Goes : Stored → Stored → Type 0) (old new : Shelf) → OneDisk o Goes old new → NoOtherRose o old new
 one_risen o Goes old new went p isnt = same_still p old new (went.elsewhere p isnt)
 
 -- What a book that was opened on an owner's disk went through, and how its disk was put back.
 module _ (entry : Entry) (header : Header) (o : ℕ) (old mid new : Shelf) (opened later : Account) (is : IsNewBook entry header (old o) opened) (took : TookDisk o old mid)
     (back : Changes o (Some (shown_by later)) mid new) (went : Went opened.ledger.records later.ledger.records opened.storage later.storage) (sound : IsBook later) where
-  back_here : (Goes : Shown → Shown → Type 0) → ((before : Shown) → old o ≡ Some before → Goes before (shown_by later)) → OneDisk o Goes old new
+  back_here : (Goes : Stored → Stored → Type 0) → ((before : Stored) → old o ≡ Some before → Goes before (shown_by later)) → OneDisk o Goes old new
   back_here Goes goes = record {
     here = λ before was. (shown_by later, changed_here o (Some (shown_by later)) mid new back, goes before was);
     elsewhere = λ p isnt. changed_elsewhere o p (Some (shown_by later)) mid new isnt back ∙ took.1 p isnt;
   }
 
-  on_disk : (before : Shown) → old o ≡ Some before → WhereTold (Found header opened.ledger.found) before.trace opened.storage.trace × (opened.storage.faults ≡ before.faults)
+  on_disk : (before : Stored) → old o ≡ Some before → WhereTold (Found header opened.ledger.found) before.trace opened.storage.trace × (opened.storage.faults ≡ before.faults)
   on_disk before was =
-      subst (λ (s : Option Shown). IfSome s (λ b. WhereTold (Found header opened.ledger.found) b.trace opened.storage.trace × (opened.storage.faults ≡ b.faults))) was is.on
+      subst (λ (s : Option Stored). IfSome s (λ b. WhereTold (Found header opened.ledger.found) b.trace opened.storage.trace × (opened.storage.faults ≡ b.faults))) was is.on
 
   -- nothing was done to it
   pub untouched : later ≡ opened → OneDisk o IsOnlySynced old new
@@ -144,7 +145,7 @@ module _ (one : KeyedOwner) (amount version : ℕ) (old mid new : Shelf) (opened
   granted_end script (Err (Journal line)) wrong = absurd wrong
   granted_end script (Err Fault) wrong = absurd wrong
 
-  rose_here : (before : Shown) → old one.number ≡ Some before → IsUnappendedGrant opened amount later → SomeRose old new
+  rose_here : (before : Stored) → old one.number ≡ Some before → IsUnappendedGrant opened amount later → SomeRose old new
   rose_here before was (allowed, (Closed failed_at, (failure, shut, at, unchanged))) = not_closed failure shut
   rose_here before was (allowed, (DiskFault, closed)) = (
     one.number,

@@ -6,7 +6,8 @@ use mathlib.Core.Logic.{inl, inr}
 use Rattle.fz_outside.specs.declared.FileFault.{FileFault}
 use Rattle.fz_outside.specs.declared.FileFault.TheVariants.{Failed, NoMemory as NoneToRead}
 use Rattle.word_streams.specs.Draws.{draws_of}
-use Rattle.outside_disks.specs.Disks.{Shown, WhereTold}
+use Rattle.outside_disks.specs.Disks.{WhereTold}
+use Rattle.outside_disks.specs.Stored.{Stored}
 use Rattle.journal_records.specs.declared.records.Record.{Record}
 use Rattle.budget_journal.specs.Journals.{Found}
 use Rattle.budget_core.specs.Entries.{Entry}
@@ -110,11 +111,11 @@ module _ (loading : Loading) (key : List ℕ) (lawful : IsLoading loading) where
   books_closed mid new after books back = λ o owner at. (back.gave o (in_catalog loading.register lawful.register o (slice_get_within house.owners o owner at))).closed
 
   -- an owner's disk, by its pass before the script and the book that the pass after it gave
-  pub owner_went : (o : ℕ) (old : Shelf) (before : Shown) (p q : Pass) (book : Account) → old o ≡ Some before → IsNewPass (entry_at loading o) (header_of loading key o) (old o) p → q.opened ≡ p.opened → GaveBook q book
+  pub owner_went : (o : ℕ) (old : Shelf) (before : Stored) (p q : Pass) (book : Account) → old o ≡ Some before → IsNewPass (entry_at loading o) (header_of loading key o) (old o) p → q.opened ≡ p.opened → GaveBook q book
       → WentOn (entry_at loading o) (header_of loading key o) p.opened.ledger.found book.ledger.records book.storage.closed before (shown_by book)
   owner_went o old before p q book at new same gave =
       let found = p.opened.ledger.found in
-      let on = subst (λ (s : Option Shown). IfSome s (λ b. WhereTold (Found (header_of loading key o) found) b.trace p.opened.storage.trace × (p.opened.storage.faults ≡ b.faults))) at new.book.on in
+      let on = subst (λ (s : Option Stored). IfSome s (λ b. WhereTold (Found (header_of loading key o) found) b.trace p.opened.storage.trace × (p.opened.storage.faults ≡ b.faults))) at new.book.on in
       let went = subst (λ (a : Account). Went a.ledger.records book.ledger.records a.storage book.storage) same gave.went in
       let entry : book.ledger.entry ≡ entry_at loading o = ap (λ (l : Ledger). l.entry) gave.ledger ∙ ap (λ (a : Account). a.ledger.entry) same ∙ new.book.of_entry in
       went_on (entry_at loading o) (header_of loading key o) found book.ledger.records p.opened.storage book.storage before new.book.of_header new.book.unclosed on.1 on.0

@@ -4,7 +4,8 @@ use Rattle.fz_outside.specs.Faults.{HasRisen}
 use Rattle.std.specs.Prelude.{IfSome}
 use mathlib.Core.Logic.{◌⊎◌, inl, inr}
 use mathlib.Core.List.{IsPrefix}
-use Rattle.outside_disks.specs.Disks.{Shown, Trace, IsImageOf, Passes, WhereTold, noted}
+use Rattle.outside_disks.specs.Disks.{Trace, IsImageOf, Passes, WhereTold, noted}
+use Rattle.outside_disks.specs.Stored.{Stored}
 use Rattle.outside_disks.specs.Disks.Step.{Synced}
 use Rattle.journal_records.specs.declared.records.Header.{Header}
 use Rattle.journal_records.specs.declared.records.Record.{Record}
@@ -42,7 +43,7 @@ moments_since header found records closed (Some t) (Some u) None begins f p = ab
 moments_since header found records closed (Some t) (Some u) (Some v) begins (is, rest) p =
     subst (λ (w : Trace). Passes (IsMoment header found records closed) w v) is (passed_since header found records closed u v rest begins p)
 
-pub went_on : (entry : Entry) (header : Header) (found records : List Record) (opened later : Storage) (before : Shown) → opened.header ≡ header → opened.closed ≡ None → opened.faults ≡ before.faults
+pub went_on : (entry : Entry) (header : Header) (found records : List Record) (opened later : Storage) (before : Stored) → opened.header ≡ header → opened.closed ≡ None → opened.faults ≡ before.faults
     → WhereTold (Found header found) before.trace opened.trace → Went found records opened later → IfSome later.trace (IsKeptNow later.header records later.closed)
     → ((failure : Failure) → later.closed ≡ Some failure → MayFollow entry records failure.pending) → WentOn entry header found records later.closed before (record { trace = later.trace; faults = later.faults })
 went_on entry header found records opened later before of_header unclosed faults f w kept follows = record {

@@ -1,7 +1,8 @@
 -- What an owner keeps where nothing is written to its disk, or a grant alone.
 use Rattle.std.specs.Prelude.{◌≡◌, ◌⊎◌, ℕ, List, [], ◌∷◌, ◌++◌, length, slice_get, Some, IfSome, IsOk}
 use Rattle.word_streams.specs.Draws.{draws_of}
-use Rattle.outside_disks.specs.Disks.{IsImageOf, Passes, Shown, WhereTold, noted, seen_of}
+use Rattle.outside_disks.specs.Disks.{IsImageOf, Passes, WhereTold, noted, seen_of}
+use Rattle.outside_disks.specs.Stored.{Stored}
 use Rattle.outside_disks.specs.Disks.Step.{Synced}
 use Rattle.journal_records.specs.declared.records.Header.{Header}
 use Rattle.journal_records.specs.declared.records.Record.{Record}
@@ -23,7 +24,7 @@ use Rattle.query_server.specs.declared.end.Status.TheVariants.{Done}
 
 -- An owner's disk stood for these records, and does so still. They are legal, cost at most the budget, and are explained by just the
 -- programs that explain them, against any second dataset with a displacement of at most cost times distance.
-pub record KeepsFound (owner : Owner) (draws : ℕ → ℕ → ℕ) (header : Header) (found : List Record) (before after : Shown) : Type 0 where
+pub record KeepsFound (owner : Owner) (draws : ℕ → ℕ → ℕ) (header : Header) (found : List Record) (before after : Stored) : Type 0 where
   pub stands : IfSome after.trace (λ t. Stands header found (seen_of t))
   -- each file that a stop may have left meanwhile is one that a stop before may have left; and since the disk was synced, as a
   -- journal's opening does, each stands for the records
@@ -34,10 +35,10 @@ pub record KeepsFound (owner : Owner) (draws : ℕ → ℕ → ℕ) (header : He
 
 -- So it is of each owner whose disk is at home with a journal that is opened in its version, whatever became of the others.
 abbrev pub AreKept : Loading → (key : List ℕ) → (old new : Shelf) → Type 0
-AreKept loading key old new = (versions : List ℕ) → length versions ≡ owner_limit → (o : ℕ) (owner : Owner) (found : List Record) (before : Shown)
+AreKept loading key old new = (versions : List ℕ) → length versions ≡ owner_limit → (o : ℕ) (owner : Owner) (found : List Record) (before : Stored)
     → slice_get (house_in loading versions).owners o ≡ Some owner → old o ≡ Some before
     → IsOpened (entry_at (in_versions loading versions) o) (header_of (in_versions loading versions) key o) (bytes_on old o) found
-    → (after : Shown) × (new o ≡ Some after) × KeepsFound owner (draws_of key o) (header_of (in_versions loading versions) key o) found before after
+    → (after : Stored) × (new o ≡ Some after) × KeepsFound owner (draws_of key o) (header_of (in_versions loading versions) key o) found before after
 
 -- So it is of one owner, whatever its tables hold, and every other disk is as it was.
 abbrev pub IsKept : KeyedOwner → (old new : Shelf) → Type 0
@@ -47,7 +48,7 @@ IsKept one old new = OneDisk one.number (λ before after. (version : ℕ) (owner
 
 -- Each file that a stop may have left since the journal was opened, and each that one leaves now, stands for the records found, or
 -- for these and the next one; where that was appended, a stop leaves nothing else now.
-pub record MayHaveGained (header : Header) (found : List Record) (next : Record) (Appended : Type 0) (before after : Shown) : Type 0 where
+pub record MayHaveGained (header : Header) (found : List Record) (next : Record) (Appended : Type 0) (before after : Stored) : Type 0 where
   pub images : WhereTold (Passes (IsBeforeOrAfter header found next)) (noted Synced before.trace) after.trace
   pub appended : Appended → IfSome after.trace (IsAtRest header (found ++ next ∷ []))
 

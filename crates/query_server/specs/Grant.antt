@@ -1,6 +1,6 @@
 -- `grant`: the budget of one owner is raised.
 use Rattle.std.specs.Prelude.{◌≡◌, ◌⊎◌, true, false, ℕ, List, length, Result, Ok, Err, IsOk, Some, None, ◌++◌, codes, decimal}
-use Rattle.outside_disks.specs.Disks.{Shown}
+use Rattle.outside_disks.specs.Stored.{Stored}
 use Rattle.journal_records.specs.declared.records.Header.{Header}
 use Rattle.journal_records.specs.declared.records.Record.{Record}
 use Rattle.journal_records.specs.declared.records.Record.TheVariants.{Grant}
@@ -57,7 +57,7 @@ verdict_text owner (Err (TooLarge budget amount)) = codes "too large " ++ decima
 verdict_text owner (Err (Full used unsettled capacity)) = codes "full " ++ decimal used ++ codes " " ++ decimal capacity ++ codes "\n"
 
 -- The owner's disk by the verdict: the grant stands behind what was found, or nothing was written.
-abbrev pub WentBy : Entry → Header → (found : List Record) → (amount : ℕ) → Result Left GrantRefusal → (before after : Shown) → Type 0
+abbrev pub WentBy : Entry → Header → (found : List Record) → (amount : ℕ) → Result Left GrantRefusal → (before after : Stored) → Type 0
 WentBy entry header found amount (Ok left) before after = WentOn entry header found (with_grant found amount) None before after
 WentBy entry header found amount (Err refusal) before after = IsOnlySynced before after
 

@@ -4,7 +4,8 @@ use mathlib.Core.List.{IsPrefix}
 use Rattle.std.specs.List.{flat_map}
 use Rattle.word_streams.specs.Draws.{draws_of}
 use Rattle.fz_outside.specs.Faults.{HasRisen}
-use Rattle.outside_disks.specs.Disks.{Passes, Shown, WhereTold, noted}
+use Rattle.outside_disks.specs.Disks.{Passes, WhereTold, noted}
+use Rattle.outside_disks.specs.Stored.{Stored}
 use Rattle.outside_disks.specs.Disks.Step.{Synced}
 use Rattle.journal_records.specs.declared.records.Header.{Header}
 use Rattle.journal_records.specs.declared.records.Record.{Record}
@@ -45,7 +46,7 @@ run_kind catalog key workers = record { steps = run_steps catalog key workers; s
 -- for the first of these records, among them those found; where an append failed, it may have that one's record too. What a stop
 -- leaves now stands for all of them. The disk's count of faults rose where an append failed, of a record that may follow them, and
 -- else it stands still.
-pub record WentOn (entry : Entry) (header : Header) (found records : List Record) (closed : Option Failure) (before after : Shown) : Type 0 where
+pub record WentOn (entry : Entry) (header : Header) (found records : List Record) (closed : Option Failure) (before after : Stored) : Type 0 where
   pub begins : IsPrefix found records
   pub moments : WhereTold (Passes (IsMoment header found records closed)) (noted Synced before.trace) after.trace
   pub kept : IfSome after.trace (IsKeptNow header records closed)

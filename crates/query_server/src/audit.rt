@@ -72,7 +72,7 @@ fn count_owner<B: Bay>(
 {
     let book = open_book(alloc, bay, opened, header, owner)?;
     let counted = put_counted(lines, opened.catalog(), owner, &book);
-    bay.put_back(owner, book.into_disk());
+    bay.put_back(owner, book.into_disks());
     counted?;
     Ok(())
 }

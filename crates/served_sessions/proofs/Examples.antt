@@ -67,7 +67,7 @@ clinic = the_owner three_rows
 -- ---- ann asks, and the answer isn't written; another client says `bye`
 
 abbrev storage : Storage
-storage = record { header = record { owner = 0; budget = 10000000; capacity = 100; digest = []; version = 2 }; trace = None; faults = 0; closed = None }
+storage = record { header = record { owner = 0; budget = 10000000; capacity = 100; digest = []; version = 2 }; trace = None; faults = 0; closed = None; copies = None }
 
 abbrev opened : Account
 opened = record { ledger = record { entry = clinic.entry; found = []; records = [] }; storage = storage }

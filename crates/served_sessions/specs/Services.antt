@@ -2,7 +2,7 @@
 use Rattle.std.specs.Prelude.{◌≡◌, ℕ, Bool, List, Some}
 use Rattle.word_streams.specs.Draws.{draws_of}
 use Rattle.fz_outside.specs.Faults.{HasRisen}
-use Rattle.outside_disks.specs.Disks.{Shown}
+use Rattle.outside_disks.specs.Stored.{Stored}
 use Rattle.journal_records.specs.declared.records.Record.{Record}
 use Rattle.budget_journal.specs.Journals.{Stands}
 use Rattle.owner_house.specs.Owner.{Owner}
@@ -50,4 +50,4 @@ module _ (loading : Loading) (key : List ℕ) (workers : ℕ) (old new : Shelf) 
 
   -- The count of faults of this owner's disk rose while the service was at work.
   abbrev pub ItsDiskFailed : Type 0
-  ItsDiskFailed = (before : Shown) → old o ≡ Some before → (after : Shown) × (new o ≡ Some after) × HasRisen before.faults after.faults
+  ItsDiskFailed = (before : Stored) → old o ≡ Some before → (after : Stored) × (new o ≡ Some after) × HasRisen before.faults after.faults

@@ -4,7 +4,8 @@ use Rattle.std.specs.Prelude.{IfSome, Ok, Result, option_and_then, option_map}
 use Rattle.std.specs.Fmt.{digits}
 use Rattle.std.specs.Io.KnownBytes.{append_known}
 use mathlib.Core.Logic.{inl, inr}
-use Rattle.outside_disks.specs.Disks.{Shown, Trace, seen_of}
+use Rattle.outside_disks.specs.Disks.{Trace, seen_of}
+use Rattle.outside_disks.specs.Stored.{Stored}
 use Rattle.partition_charge.specs.Cost.{cost_of_charges, partition_cost}
 use Rattle.journal_records.specs.declared.records.Record.{Record}
 use Rattle.budget_journal.specs.Journals.{Stands, IsAtRest}
@@ -88,7 +89,7 @@ unfolding digits
 its_line = refl
 
 -- a disk at rest has the bytes that stand for its records
-rested : (after : Shown) → IfSome after.trace (IsAtRest (header_in one 3) (the_grant ∷ [])) → IfSome (option_map seen_of after.trace) (Stands (header_in one 3) (the_grant ∷ []))
+rested : (after : Stored) → IfSome after.trace (IsAtRest (header_in one 3) (the_grant ∷ [])) → IfSome (option_map seen_of after.trace) (Stands (header_in one 3) (the_grant ∷ []))
 rested after kept = here after.trace kept
   where
     here : (t : Option Trace) → IfSome t (IsAtRest (header_in one 3) (the_grant ∷ [])) → IfSome (option_map seen_of t) (Stands (header_in one 3) (the_grant ∷ []))
@@ -98,13 +99,13 @@ rested after kept = here after.trace kept
 its_bytes : (old new : Shelf) (bytes : List ℕ) → bytes_on old 0 ≡ Some bytes → OneDisk 0 (WentBy (entry_in one 3) (header_in one 3) [] 5000000 the_verdict) old new → IsGranted new
 its_bytes old new bytes told disk = here (old 0) refl
   where
-    here : (shown : Option Shown) → old 0 ≡ shown → IsGranted new
+    here : (shown : Option Stored) → old 0 ≡ shown → IsGranted new
     here None is =
-        let none : None ≡ Some bytes = subst (λ (s : Option Shown). option_map seen_of (option_and_then (λ (shown : Shown). shown.trace) s) ≡ Some bytes) is told in
+        let none : None ≡ Some bytes = subst (λ (s : Option Stored). option_map seen_of (option_and_then (λ (shown : Stored). shown.trace) s) ≡ Some bytes) is told in
         cc
     here (Some before) is =
         let went = disk.here before is in
-        subst (λ (s : Option Shown). IfSome (bytes_on (λ o. s) 0) (Stands (header_in one 3) (the_grant ∷ []))) (sym went.1) (rested went.0 went.2.kept)
+        subst (λ (s : Option Stored). IfSome (bytes_on (λ o. s) 0) (Stands (header_in one 3) (the_grant ∷ []))) (sym went.1) (rested went.0 went.2.kept)
 
 abbrev IsGrantedEnd : Shelf → Status → List ℕ → Type 0
 IsGrantedEnd new status text = (status ≡ Done) × (text ≡ granted_text) × IsGranted new
