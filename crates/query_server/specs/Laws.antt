@@ -5,7 +5,7 @@ use Rattle.word_streams.specs.Draws.{draws_of}
 use Rattle.fz_outside.specs.Faults.{HasRisen}
 use Rattle.fz_ast.specs.Signature.{Signature, IsSignature}
 use Rattle.metric_values.specs.Tables.{Dataset, IsDataset}
-use Rattle.outside_disks.specs.Stored.{Stored}
+use Rattle.outside_disks.specs.Stored.{HasCountRisen, Stored}
 use Rattle.wire_lines.specs.Reply.{Replied, refused as refused_reply, reply_text}
 use Rattle.wire_lines.specs.Refusal.{by_disk}
 use Rattle.wire_lines.specs.declared.refusal.DiskRefusal.{DiskRefusal}
@@ -222,6 +222,6 @@ DiskRefusalsHaveCauses = (loading : Loading) (key : List ℕ) (workers : ℕ) (o
     (k o : ℕ) (x : Exchange) (owner : Owner) (query : Query) (refusal : DiskRefusal) → o < owners_in loading →
     slice_get answered.exchanges k ≡ Some x → meant_at (house_of loading.register) x.turn ≡ wants o owner (asks query) →
     x.reply ≡ refused_reply (by_disk refusal) →
-    ((before : Stored) → old o ≡ Some before → (after : Stored) × (new o ≡ Some after) × HasRisen before.faults after.faults)
+    ((before : Stored) → old o ≡ Some before → (after : Stored) × (new o ≡ Some after) × HasCountRisen before after)
     × (refusal ≡ DiskFault → (failure : Failure) × (answered.closed o ≡ Some failure)
     × IsPendingOf owner (draws_of key o) query x.told failure.pending)

@@ -1,8 +1,7 @@
 -- A service by several workers as a run of each owner's.
 use Rattle.std.specs.Prelude.{◌≡◌, ℕ, Bool, List, Some}
 use Rattle.word_streams.specs.Draws.{draws_of}
-use Rattle.fz_outside.specs.Faults.{HasRisen}
-use Rattle.outside_disks.specs.Stored.{Stored}
+use Rattle.outside_disks.specs.Stored.{HasCountRisen, Stored}
 use Rattle.journal_records.specs.declared.records.Record.{Record}
 use Rattle.budget_journal.specs.Journals.{Stands}
 use Rattle.owner_house.specs.Owner.{Owner}
@@ -48,6 +47,6 @@ module _ (loading : Loading) (key : List ℕ) (workers : ℕ) (old new : Shelf) 
       (left : List Record) × Stands (header_of loading key o) left bytes
       × IsRun (house_of loading.register) (draws_of key) o owner (found o) (crew_run_of sent left)
 
-  -- The count of faults of this owner's disk rose while the service was at work.
+  -- A count of faults of this owner's disks rose while the service was at work.
   abbrev pub ItsDiskFailed : Type 0
-  ItsDiskFailed = (before : Stored) → old o ≡ Some before → (after : Stored) × (new o ≡ Some after) × HasRisen before.faults after.faults
+  ItsDiskFailed = (before : Stored) → old o ≡ Some before → (after : Stored) × (new o ≡ Some after) × HasCountRisen before after
