@@ -1,7 +1,9 @@
 -- What a book's fields say of it.
-use Rattle.std.specs.Prelude.{◌≡◌, ℕ, ◌+◌, ◌≤◌, false, length, Option, None, Some, IfSome}
+use Rattle.std.specs.Prelude.{◌≡◌, ◌⊎◌, ℕ, ◌+◌, ◌<◌, ◌≤◌, false, List, length, take, Option, None, Some, IfSome, IsSome, Result, Ok, Err, IsOk, ⊤}
 use Rattle.fz_outside.specs.Faults.{HasRisen}
-use Rattle.outside_disks.specs.Disks.{Trace, WhereTold}
+use Rattle.outside_disks.specs.Disks.{Trace, Shown, WhereTold}
+use Rattle.outside_disks.specs.declared.disks.Disks.{Disks}
+use Rattle.outside_disks.specs.declared.disks.Disks.TheVariants.{One as OneDisk, Both}
 use Rattle.journal_records.specs.declared.records.Record.{Record}
 use Rattle.journal_records.specs.declared.records.Header.{Header}
 use Rattle.budget_journal.specs.declared.journal.Journal.{Journal}
@@ -9,15 +11,16 @@ use Rattle.budget_journal.specs.Journals.{disk_of, used, is_closed, capacity_of,
 use Rattle.budget_core.specs.declared.entry.ReserveFault.{ReserveFault}
 use Rattle.budget_core.specs.declared.entry.ReserveFault.TheVariants.{OverBudget, Full, OverShare}
 use Rattle.budget_core.specs.Ledger.{Ledger}
-use Rattle.budget_ledger.specs.Account.{Failure, Account, IsBook}
+use Rattle.budget_ledger.specs.Account.{Failure, Held, Copy, Copies, Storage, Account, IsHeldCopy, IsBook, count_of}
 use Rattle.budget_ledger.specs.declared.book.AppendFault.{AppendFault}
 use Rattle.budget_ledger.specs.declared.book.AppendFault.TheVariants.{Closed, DiskFault}
 use Rattle.budget_ledger.specs.declared.book.BookFault.{BookFault}
 use Rattle.budget_ledger.specs.declared.book.BookFault.TheVariants.{Refused, Unwritten}
-
-abbrev pub account_by : Ledger → Header → Option Trace → ℕ → Option Failure → Account
-account_by ledger header trace faults closed
-    = record { ledger = ledger; storage = record { header = header; trace = trace; faults = faults; closed = closed } }
+use Rattle.budget_ledger.specs.declared.halves.Side.{Side}
+use Rattle.budget_ledger.specs.declared.halves.Half.{Half}
+use Rattle.budget_ledger.specs.declared.halves.Half.TheVariants.{Gone, Kept}
+use Rattle.budget_ledger.specs.declared.halves.Store.{Store}
+use Rattle.budget_ledger.specs.declared.halves.Store.TheVariants.{One, Two}
 
 -- what a refusal on the records becomes, where an append may have failed
 abbrev pub refusal_with : ReserveFault → Option Failure → BookFault
@@ -26,19 +29,107 @@ refusal_with (OverShare spent after limit seen) None = Refused (OverShare spent 
 refusal_with (OverBudget spent after budget seen) closed = Refused (OverBudget spent after budget seen)
 refusal_with (Full used unsettled capacity) closed = Refused (Full used unsettled capacity)
 
-module _ {D : Type 0} (trace : D → Option Trace) (faults : D → ℕ) where
-  -- what contracts see of a book, by what its disk shows
-  abbrev pub account_in : Ledger → Header → Journal D → Option Failure → Account
-  account_in ledger header journal closed = account_by ledger header (trace (disk_of journal)) (faults (disk_of journal)) closed
+-- the failure of the one that failed last
+abbrev pub last_of : (fell later : Option Failure) → Option Failure
+last_of fell None = fell
+last_of fell (Some failure) = Some failure
 
-  -- What holds of a book's fields: while no append has failed, the journal is open, each record has its slot, and the disk is where
-  -- the journal is.
-  pub record HoldsBook (ledger : Ledger) (header : Header) (journal : Journal D) (closed : Option Failure) : Type 0 where
-    pub book : IsBook (account_in ledger header journal closed)
-    pub room : capacity_of journal ≡ header.capacity
-    pub counted : closed ≡ None → used journal ≡ length ledger.records
-    pub marked : closed ≡ None → IfSome (trace (disk_of journal)) (IsMarked (mark_of journal) header ledger.records)
+module _ {D : Type 0} where
+  -- A journal to which no append has failed may be appended to.
+  pub record IsReady (journal : Journal D) (closed : Option Failure) : Type 0 where
     pub ready : closed ≡ None → is_closed journal ≡ false
+    pub room : closed ≡ None → used journal < capacity_of journal
+
+  -- so may one on one of two disks, which has as many records as its slots say
+  pub record IsReadySide (side : Side D) : Type 0 where
+    pub journal : IsReady side.journal side.failure
+    pub counted : side.failure ≡ None → used side.journal ≡ side.has
+
+  abbrev pub IsReadyHalf : Half D → Type 0
+  IsReadyHalf (Gone disk) = ⊤
+  IsReadyHalf (Kept side) = IsReadySide side
+
+  -- and a book that isn't closed
+  abbrev pub MayAppend : Store D → Option Failure → Type 0
+  MayAppend (One journal) closed = IsReady journal closed
+  MayAppend (Two first second) closed = closed ≡ None → IsReadyHalf first × IsReadyHalf second
+
+  abbrev pub disk_in : Half D → D
+  disk_in (Gone disk) = disk
+  disk_in (Kept side) = disk_of side.journal
+
+  abbrev pub disks_in : Store D → Disks D
+  disks_in (One journal) = OneDisk (disk_of journal)
+  disks_in (Two first second) = Both (disk_in first) (disk_in second)
+
+  -- The count of failed calls. Of two disks it is that of the one that closed the book.
+  abbrev pub faults_in : (D → ℕ) → Store D → Option Failure → ℕ
+  faults_in faults (One journal) closed = faults (disk_of journal)
+  faults_in faults (Two first second) closed = count_of closed
+
+module _ {D : Type 0} (trace : D → Option Trace) (faults : D → ℕ) where
+  -- ---- what contracts see
+
+  abbrev pub shown_on : D → Shown
+  shown_on disk = record { trace = trace disk; faults = faults disk }
+
+  -- what a side has of these records
+  abbrev pub held_on : List Record → Side D → Held
+  held_on records side = record { header = side.header; has = take side.has records; closed = side.failure }
+
+  abbrev pub copy_on : List Record → Half D → Copy
+  copy_on records (Gone disk) = record { shown = shown_on disk; held = None }
+  copy_on records (Kept side) = record { shown = shown_on (disk_of side.journal); held = Some (held_on records side) }
+
+  abbrev pub copies_on : List Record → (first second : Half D) → Copies
+  copies_on records first second = record { first = copy_on records first; second = copy_on records second }
+
+  -- what a book's disks show: two show each for itself
+  abbrev pub trace_in : Store D → Option Trace
+  trace_in (One journal) = trace (disk_of journal)
+  trace_in (Two first second) = None
+
+  abbrev pub copies_in : List Record → Store D → Option Copies
+  copies_in records (One journal) = None
+  copies_in records (Two first second) = Some (copies_on records first second)
+
+  abbrev pub storage_in : List Record → Header → Store D → Option Failure → Storage
+  storage_in records header store closed =
+      record { header = header; trace = trace_in store; faults = faults_in faults store closed; closed = closed; copies = copies_in records store }
+
+  -- what contracts see of a book
+  abbrev pub account_in : Ledger → Header → Store D → Option Failure → Account
+  account_in ledger header store closed = record { ledger = ledger; storage = storage_in ledger.records header store closed }
+
+  -- ---- what holds of a book's fields
+
+  -- While no append has failed, the journal is open, each record has its slot, and the disk is where the journal is.
+  pub record HoldsJournal (header : Header) (records : List Record) (journal : Journal D) (closed : Option Failure) : Type 0 where
+    pub room : capacity_of journal ≡ header.capacity
+    pub counted : closed ≡ None → used journal ≡ length records
+    pub marked : closed ≡ None → IfSome (trace (disk_of journal)) (IsMarked (mark_of journal) header records)
+    pub ready : closed ≡ None → is_closed journal ≡ false
+
+  -- A side of a book with this header and these records, closed so or open. While no append to the side has failed, it has them all.
+  pub record HoldsSide (common : Header) (records : List Record) (closed : Option Failure) (side : Side D) : Type 0 where
+    pub copy : IsHeldCopy common records closed (shown_on (disk_of side.journal)) (held_on records side)
+    pub journal : HoldsJournal side.header records side.journal side.failure
+    pub has : side.has ≤ length records
+    pub whole : side.failure ≡ None → side.has ≡ length records
+
+  abbrev pub HoldsHalf : Header → List Record → Option Failure → Half D → Type 0
+  HoldsHalf common records closed (Gone disk) = ⊤
+  HoldsHalf common records closed (Kept side) = HoldsSide common records closed side
+
+  abbrev pub HoldsStore : Header → List Record → Store D → Option Failure → Type 0
+  HoldsStore header records (One journal) closed = HoldsJournal header records journal closed
+  HoldsStore header records (Two first second) closed = HoldsHalf header records closed first × HoldsHalf header records closed second
+
+  pub record HoldsBook (ledger : Ledger) (header : Header) (store : Store D) (closed : Option Failure) : Type 0 where
+    pub book : IsBook (account_in ledger header store closed)
+    pub store : HoldsStore header ledger.records store closed
+
+  -- ---- an append
 
   -- A record was appended, and no append has failed.
   pub record HasWritten (next : Record) (old new : Journal D) (was is : Option Failure) : Type 0 where
@@ -61,3 +152,71 @@ module _ {D : Type 0} (trace : D → Option Trace) (faults : D → ℕ) where
   abbrev pub IsUnappended : Record → (old new : Journal D) → (was is : Option Failure) → AppendFault → Type 0
   IsUnappended next old new was is (Closed failed_at) = (failure : Failure) × (was ≡ Some failure) × (failed_at ≡ failure.failed_at) × (new ≡ old) × (is ≡ was)
   IsUnappended next old new was is DiskFault = HasFailed next old new was is
+
+  -- A record was appended to a side.
+  pub record HasWrittenOn (next : Record) (old new : Side D) : Type 0 where
+    pub header : new.header ≡ old.header
+    pub room : capacity_of new.journal ≡ capacity_of old.journal
+    pub written : HasWritten next old.journal new.journal old.failure new.failure
+    pub has : new.has ≡ old.has + 1
+
+  -- The append of a record to a side failed, and it is dropped.
+  pub record HasFailedOn (next : Record) (old new : Side D) (failure : Failure) : Type 0 where
+    pub header : new.header ≡ old.header
+    pub room : capacity_of new.journal ≡ capacity_of old.journal
+    pub failed : HasFailed next old.journal new.journal old.failure new.failure
+    pub dropped : new.failure ≡ Some failure
+    pub has : new.has ≡ old.has
+
+  -- why a record wasn't appended to a side
+  abbrev pub IsUnappendedOn : Record → (old new : Side D) → AppendFault → Type 0
+  IsUnappendedOn next old new (Closed failed_at) = (new ≡ old) × IsSome old.failure
+  IsUnappendedOn next old new DiskFault = (failure : Failure) × HasFailedOn next old new failure
+
+  -- What an append made of one of two disks: it has the record; or it failed, and with which failure; or it isn't in use, and wasn't touched.
+  abbrev pub HalfWent : {T : Type 0} → Record → (old new : Half D) → Result T (Option Failure) → Type 0
+  HalfWent next (Gone disk) (Gone still) (Ok value) = ⊥
+  HalfWent next (Gone disk) (Gone still) (Err None) = still ≡ disk
+  HalfWent next (Gone disk) (Gone still) (Err (Some failure)) = ⊥
+  HalfWent next (Gone disk) (Kept side) answer = ⊥
+  HalfWent next (Kept side) (Gone disk) answer = ⊥
+  HalfWent next (Kept old) (Kept new) (Ok value) = HasWrittenOn next old new
+  HalfWent next (Kept old) (Kept new) (Err None) = (new ≡ old) × IsSome old.failure
+  HalfWent next (Kept old) (Kept new) (Err (Some failure)) = HasFailedOn next old new failure
+
+  -- One of two disks, or both, have the record.
+  pub record HasWrittenBoth (next : Record) (first second first' second' : Half D) (was is : Option Failure) : Type 0 where
+    pub open_before : was ≡ None
+    pub open_after : is ≡ None
+    pub on_first : Result ⊤ (Option Failure)
+    pub on_second : Result ⊤ (Option Failure)
+    pub first : HalfWent next first first' on_first
+    pub second : HalfWent next second second' on_second
+    pub written : IsOk on_first ⊎ IsOk on_second
+
+  -- Neither has it: the book is closed by the failure of the one that failed last.
+  pub record HasFailedBoth (next : Record) (first second first' second' : Half D) (was is : Option Failure) : Type 0 where
+    pub open_before : was ≡ None
+    pub fell_first : Option Failure
+    pub fell_second : Option Failure
+    pub first : HalfWent {⊤} next first first' (Err fell_first)
+    pub second : HalfWent {⊤} next second second' (Err fell_second)
+    pub closed : is ≡ last_of fell_first fell_second
+
+  abbrev pub IsUnappendedBoth : Record → (first second first' second' : Half D) → (was is : Option Failure) → AppendFault → Type 0
+  IsUnappendedBoth next first second first' second' was is (Closed failed_at) = (failure : Failure) × (was ≡ Some failure) × (failed_at ≡ failure.failed_at)
+      × (first' ≡ first) × (second' ≡ second) × (is ≡ was)
+  IsUnappendedBoth next first second first' second' was is DiskFault = HasFailedBoth next first second first' second' was is
+
+  -- the same of what keeps a book
+  abbrev pub HasWrittenTo : Record → (old new : Store D) → (was is : Option Failure) → Type 0
+  HasWrittenTo next (One old) (One new) was is = HasWritten next old new was is × (capacity_of new ≡ capacity_of old)
+  HasWrittenTo next (One old) (Two first second) was is = ⊥
+  HasWrittenTo next (Two first second) (One new) was is = ⊥
+  HasWrittenTo next (Two first second) (Two first' second') was is = HasWrittenBoth next first second first' second' was is
+
+  abbrev pub IsUnappendedTo : Record → (old new : Store D) → (was is : Option Failure) → AppendFault → Type 0
+  IsUnappendedTo next (One old) (One new) was is fault = IsUnappended next old new was is fault × (capacity_of new ≡ capacity_of old)
+  IsUnappendedTo next (One old) (Two first second) was is fault = ⊥
+  IsUnappendedTo next (Two first second) (One new) was is fault = ⊥
+  IsUnappendedTo next (Two first second) (Two first' second') was is fault = IsUnappendedBoth next first second first' second' was is fault

@@ -3,6 +3,7 @@
 ghost use Rattle.std.specs.Prelude.{◌≡◌, ◌<◌, ◌≤◌, None, false, IfOk, IfErr, IfSome, IsTrue, ◌↔◌, IsSome};
 ghost use Rattle.fz_outside.specs.Faults.{HasCause};
 ghost use Rattle.outside_disks.specs.Disks.{Trace, WhereTold, seen_of};
+ghost use Rattle.outside_disks.specs.Stored.{stored_of};
 ghost use Rattle.journal_records.specs.Encoding.{IsValid, IsHeader};
 ghost use Rattle.budget_journal.specs.Journals.{disk_of, used, is_closed, capacity_of, Found, MayHaveSynced};
 ghost use Rattle.budget_journal.specs.declared.opening.OpenFault.TheVariants.{DiskFault};
@@ -11,18 +12,20 @@ ghost use Rattle.budget_core.specs.Cost.{cost_of};
 ghost use Rattle.budget_core.specs.Granting.{IsAmount};
 ghost use Rattle.budget_core.specs.Ledger.{IsAskOf, IsUnsettled};
 ghost use Rattle.budget_core.specs.Sound.{IsSound};
-ghost use Rattle.budget_ledger.specs.Account.{IsKeptNow, IsBook, Went};
+ghost use Rattle.budget_ledger.specs.Account.{IsKeptNow, IsBook, Went, stored_by};
 ghost use Rattle.budget_ledger.specs.Booked.{IsReserved, IsSettlementOf, IsRaised};
 ghost use Rattle.budget_ledger.specs.Kept.{HasWritten, IsUnappended, refusal_with};
 ghost use Rattle.budget_ledger.specs.Opened.{IsBookFault};
 
 use crate::failure::Failure;
+use crate::halves::{Store, append, count_faults};
 use budget_core::answers::{Counts, GrantRefusal, Left, Mine, Recall};
 use budget_core::entry::{Ask, Grant, ReserveFault};
 use budget_core::ledger::Ledger;
 use budget_journal::journal::Journal;
 use journal_records::records::{Header, Outcome, Record};
 use outside_disks::disk::Disk;
+use outside_disks::disks::Disks;
 use std::marker::Model;
 
 /// Why a record wasn't appended.
@@ -52,10 +55,10 @@ pub enum GrantFault {
     Unwritten(AppendFault),
 }
 
-/// An owner's ledger, and the journal that keeps its records.
+/// An owner's ledger, and the journal that keeps its records, on one disk or on two.
 #[derive(Drop)]
 pub struct Book<D: Disk> {
-    pub(crate) journal: Journal<D>,
+    pub(crate) store: Store<D>,
     pub(crate) ledger: Ledger,
     pub(crate) header: Header,
     /// The append that failed, if one has.
@@ -68,13 +71,13 @@ impl<D: Disk> Model for Book<D> {
 
     ghost Value = { Account };
 
-    ghost view = { λ b. account_in D.trace D.faults b.ledger b.header b.journal b.failure };
+    ghost view = { λ b. account_in D.trace D.faults b.ledger b.header b.store b.failure };
 
-    ghost invariant = { λ b. HoldsBook D.trace D.faults b.ledger b.header b.journal b.failure };
+    ghost invariant = { λ b. HoldsBook D.trace D.faults b.ledger b.header b.store b.failure };
 }
 
 // Appends a record, if no append has failed.
-fn write_down<D: Disk>(
+pub(crate) fn write_down<D: Disk>(
     journal: &mut Journal<D>,
     failure: &mut Option<Failure>,
     next: &Record,
@@ -131,7 +134,7 @@ impl<D: Disk> Book<D> {
         };
         let reservation = self.ledger.reservation(ask, &grant);
         let next = Record::Reserve(reservation);
-        match write_down(&mut self.journal, &mut self.failure, &next) {
+        match append(&mut self.store, &mut self.failure, &next) {
             Ok(()) => {
                 self.ledger.reserve(&reservation);
                 Ok(grant)
@@ -150,7 +153,7 @@ impl<D: Disk> Book<D> {
     {
         let settlement = self.ledger.settlement(number, outcome);
         let next = Record::Settle(settlement);
-        write_down(&mut self.journal, &mut self.failure, &next)?;
+        append(&mut self.store, &mut self.failure, &next)?;
         Ok(self.ledger.settle(&settlement))
     }
 
@@ -168,7 +171,7 @@ impl<D: Disk> Book<D> {
         };
         let grant = self.ledger.grant_of(amount);
         let next = Record::Grant(grant);
-        match write_down(&mut self.journal, &mut self.failure, &next) {
+        match append(&mut self.store, &mut self.failure, &next) {
             Ok(()) => {
                 self.ledger.grant(&grant);
                 Ok(left)
@@ -235,20 +238,19 @@ impl<D: Disk> Book<D> {
         self.header.version
     }
 
-    /// How many calls of the disk have failed.
+    /// How many calls of the disk have failed. Of two disks it is the count of the one that closed the book, and 0 before.
     pub fn fault_count(&self) -> u64
         ensures { result ≡ self.now.storage.faults }
     {
-        self.journal.fault_count()
+        count_faults(&self.store, &self.failure)
     }
 
-    /// Gives the disk back.
-    pub fn into_disk(self) -> D
-        ensures trace { D.trace result ≡ self.storage.trace }
-        ensures faults { D.faults result ≡ self.storage.faults }
-        ensures kept { IfSome (D.trace result) (IsKeptNow self.storage.header self.ledger.records self.storage.closed) }
+    /// Gives the disk back, or both, a dropped one too.
+    pub fn into_disks(self) -> Disks<D>
+        ensures stored { stored_of D.trace D.faults result ≡ stored_by self.storage }
+        ensures kept { IfSome (stored_of D.trace D.faults result).trace (IsKeptNow self.storage.header self.ledger.records self.storage.closed) }
         ensures book { IsBook self }
     {
-        self.journal.into_disk()
+        self.store.into_disks()
     }
 }

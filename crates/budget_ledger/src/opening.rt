@@ -9,6 +9,7 @@ ghost use Rattle.budget_ledger.specs.Account.{IsBook};
 ghost use Rattle.budget_ledger.specs.Opened.{IsBookFault};
 
 use crate::book::Book;
+use crate::halves::Store;
 use budget_core::answers::FoundFault;
 use budget_core::entry::Entry;
 use budget_core::ledger::Ledger;
@@ -40,6 +41,7 @@ impl<D: Disk> Book<D> {
               trace = book.storage.trace;
               faults = D.faults disk;
               closed = None;
+              copies = None;
             })) }
         ensures book { IfOk result IsBook }
 
@@ -51,7 +53,7 @@ impl<D: Disk> Book<D> {
         let version = journal.version();
         match Ledger::found(alloc, entry.with_version(version), records) {
             Ok(ledger) => Ok(Book {
-                journal,
+                store: Store::One(journal),
                 ledger,
                 header: Header { version, ..*header },
                 failure: None,
