@@ -55,37 +55,29 @@ one_risen o Goes old new went p isnt = same_still p old new (went.elsewhere p is
 
 -- What a book that was opened on an owner's disk went through, and how its disk was put back.
 module _ (entry : Entry) (header : Header) (o : ℕ) (old mid new : Shelf) (opened later : Account) (is : IsNewBook entry header (old o) opened) (took : TookDisk o old mid)
-    (back : Changes o (Some (shown_by later)) mid new) (went : Went opened.ledger.records later.ledger.records opened.storage later.storage) (sound : IsBook later) where
-  back_here : (Goes : Stored → Stored → Type 0) → ((before : Stored) → old o ≡ Some before → Goes before (shown_by later)) → OneDisk o Goes old new
+    (back : Changes o (Some (stored_by later.storage)) mid new) (went : Went opened.ledger.records later.ledger.records opened.storage later.storage) (sound : IsBook later) where
+  back_here : (Goes : Stored → Stored → Type 0) → ((before : Stored) → old o ≡ Some before → Goes before (stored_by later.storage)) → OneDisk o Goes old new
   back_here Goes goes = record {
-    here = λ before was. (shown_by later, changed_here o (Some (shown_by later)) mid new back, goes before was);
-    elsewhere = λ p isnt. changed_elsewhere o p (Some (shown_by later)) mid new isnt back ∙ took.1 p isnt;
+    here = λ before was. (stored_by later.storage, changed_here o (Some (stored_by later.storage)) mid new back, goes before was);
+    elsewhere = λ p isnt. changed_elsewhere o p (Some (stored_by later.storage)) mid new isnt back ∙ took.1 p isnt;
   }
-
-  on_disk : (before : Stored) → old o ≡ Some before → WhereTold (Found header opened.ledger.found) before.trace opened.storage.trace × (opened.storage.faults ≡ before.faults)
-  on_disk before was =
-      subst (λ (s : Option Stored). IfSome s (λ b. WhereTold (Found header opened.ledger.found) b.trace opened.storage.trace × (opened.storage.faults ≡ b.faults))) was is.on
 
   -- nothing was done to it
   pub untouched : later ≡ opened → OneDisk o IsOnlySynced old new
-  untouched same = back_here IsOnlySynced (λ before was. subst (λ (a : Account). IsOnlySynced before (shown_by a)) (sym same) (book_synced entry header before (old o) opened was is))
+  untouched same = back_here IsOnlySynced (λ before was. subst (λ (a : Account). IsOnlySynced before (stored_by a.storage)) (sym same) (book_synced entry header before (old o) opened was is))
 
   -- it has these records now, and is closed so
   pub went_through : (records : List Record) (closed : Option Failure) → later.ledger.records ≡ records → later.storage.closed ≡ closed → later.ledger.entry ≡ entry
       → OneDisk o (WentOn entry header opened.ledger.found records closed) old new
   went_through records closed are shut its = back_here (WentOn entry header opened.ledger.found records closed) (λ before was.
-      let on = on_disk before was in
       let through : Went opened.ledger.found records opened.storage later.storage
       = subst (λ (xs : List Record). Went xs records opened.storage later.storage) is.fresh (subst (λ (xs : List Record). Went opened.ledger.records xs opened.storage later.storage) are went) in
-      subst (λ (c : Option Failure). WentOn entry header opened.ledger.found records c before (shown_by later)) shut
-      (went_on entry header opened.ledger.found records opened.storage later.storage before is.of_header is.unclosed on.1 on.0 through
-      (subst (λ (xs : List Record). IfSome later.storage.trace (IsKeptNow later.storage.header xs later.storage.closed)) are sound.kept)
-      (λ failure shut. subst (λ (e : Entry). MayFollow e records failure.pending) its
-      (subst (λ (xs : List Record). MayFollow later.ledger.entry xs failure.pending) are (sound.follows failure shut)))))
+      subst (λ (c : Option Failure). WentOn entry header opened.ledger.found records c before (stored_by later.storage)) shut
+      (went_on entry header records (old o) before opened later was is through are its sound))
 
 -- The same of a grant over a book that was just opened in this version.
 module _ (one : KeyedOwner) (amount version : ℕ) (old mid new : Shelf) (opened later : Account) (is : IsNewBook (entry_in one version) (header_in one version) (old one.number) opened)
-    (took : TookDisk one.number old mid) (back : Changes one.number (Some (shown_by later)) mid new)
+    (took : TookDisk one.number old mid) (back : Changes one.number (Some (stored_by later.storage)) mid new)
     (went : Went opened.ledger.records later.ledger.records opened.storage later.storage) (sound : IsBook later) where
   abbrev found : List Record
   found = opened.ledger.found

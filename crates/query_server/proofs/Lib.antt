@@ -1,5 +1,7 @@
 pub mod Prefixes
+pub mod Mirrored
 pub mod Went
+pub mod Enough
 pub mod Judged
 pub mod WholeViews
 pub mod Bounded

@@ -112,15 +112,12 @@ module _ (loading : Loading) (key : List ℕ) (lawful : IsLoading loading) where
 
   -- an owner's disk, by its pass before the script and the book that the pass after it gave
   pub owner_went : (o : ℕ) (old : Shelf) (before : Stored) (p q : Pass) (book : Account) → old o ≡ Some before → IsNewPass (entry_at loading o) (header_of loading key o) (old o) p → q.opened ≡ p.opened → GaveBook q book
-      → WentOn (entry_at loading o) (header_of loading key o) p.opened.ledger.found book.ledger.records book.storage.closed before (shown_by book)
+      → WentOn (entry_at loading o) (header_of loading key o) p.opened.ledger.found book.ledger.records book.storage.closed before (stored_by book.storage)
   owner_went o old before p q book at new same gave =
-      let found = p.opened.ledger.found in
-      let on = subst (λ (s : Option Stored). IfSome s (λ b. WhereTold (Found (header_of loading key o) found) b.trace p.opened.storage.trace × (p.opened.storage.faults ≡ b.faults))) at new.book.on in
       let went = subst (λ (a : Account). Went a.ledger.records book.ledger.records a.storage book.storage) same gave.went in
       let entry : book.ledger.entry ≡ entry_at loading o = ap (λ (l : Ledger). l.entry) gave.ledger ∙ ap (λ (a : Account). a.ledger.entry) same ∙ new.book.of_entry in
-      went_on (entry_at loading o) (header_of loading key o) found book.ledger.records p.opened.storage book.storage before new.book.of_header new.book.unclosed on.1 on.0
-      (subst (λ (rs : List Record). Went rs book.ledger.records p.opened.storage book.storage) new.book.fresh went) gave.sound.kept
-      (subst (λ (e : Entry). (failure : Failure) → book.storage.closed ≡ Some failure → MayFollow e book.ledger.records failure.pending) entry gave.sound.follows)
+      went_on (entry_at loading o) (header_of loading key o) book.ledger.records (old o) before p.opened book at new.book
+      (subst (λ (rs : List Record). Went rs book.ledger.records p.opened.storage book.storage) new.book.fresh went) refl entry gave.sound
 
   pub answered_over : (workers : ℕ) (old mid new : Shelf) (passes after : List Pass) (books : ℕ → Account) (script text : List ℕ) → 0 < workers
       → ArePassesOn (entry_at loading) (header_of loading key) (owners_in loading) old mid passes → HasWorked (house_of loading.register) (draws_of key) workers script text passes after
@@ -138,7 +135,7 @@ module _ (loading : Loading) (key : List ℕ) (lawful : IsLoading loading) where
         shut = all.1;
         disks = record {
           owned = λ o before within at. (
-            shown_by (books o),
+            stored_by (books o).storage,
             back.each o within,
             owner_went o old before (pass_at passes o) (pass_at after o) (books o) at (on.each o within) (h.owners o (owner_at house o) (there o within)).opened (back.gave o within),
           );

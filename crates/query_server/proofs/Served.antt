@@ -138,7 +138,7 @@ module _ (loading : Loading) (key : List ℕ) (versions : List ℕ) (counted : l
           shut = λ o owner at. (together house (draws_of key) workers s.sittings s.lasts passes after records closed fresh s.held closes o owner at).1;
           disks = record {
             owned = λ o before within at. (
-              shown_by (books o),
+              stored_by (books o).storage,
               back.each o within,
               owner_went house_found key lawful o old before (pass_at passes o) (pass_at after o) (books o) at (on.each o within)
                   (s.held.owners o (owner_at house o) (there house_found key lawful o within)).0.opened (back.gave o within),

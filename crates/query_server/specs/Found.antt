@@ -37,13 +37,13 @@ pub record KeepsFound (owner : Owner) (draws : ℕ → ℕ → ℕ) (header : He
 abbrev pub AreKept : Loading → (key : List ℕ) → (old new : Shelf) → Type 0
 AreKept loading key old new = (versions : List ℕ) → length versions ≡ owner_limit → (o : ℕ) (owner : Owner) (found : List Record) (before : Stored)
     → slice_get (house_in loading versions).owners o ≡ Some owner → old o ≡ Some before
-    → IsOpened (entry_at (in_versions loading versions) o) (header_of (in_versions loading versions) key o) (bytes_on old o) found
+    → IsOpened (entry_at (in_versions loading versions) o) (header_of (in_versions loading versions) key o) (old o) (new o) found
     → (after : Stored) × (new o ≡ Some after) × KeepsFound owner (draws_of key o) (header_of (in_versions loading versions) key o) found before after
 
 -- So it is of one owner, whatever its tables hold, and every other disk is as it was.
 abbrev pub IsKept : KeyedOwner → (old new : Shelf) → Type 0
 IsKept one old new = OneDisk one.number (λ before after. (version : ℕ) (owner : Owner) (found : List Record)
-    → HasData owner → owner.entry ≡ entry_in one version → IsOpened (entry_in one version) (header_in one version) (bytes_on old one.number) found
+    → HasData owner → owner.entry ≡ entry_in one version → IsOpened (entry_in one version) (header_in one version) (old one.number) (new one.number) found
     → KeepsFound owner (draws_of one.key one.number) (header_in one version) found before after) old new
 
 -- Each file that a stop may have left since the journal was opened, and each that one leaves now, stands for the records found, or
@@ -57,7 +57,7 @@ pub record MayHaveGained (header : Header) (found : List Record) (next : Record)
 pub record IsGrantMade (one : KeyedOwner) (amount : ℕ) (old new : Shelf) (status : Status) : Type 0 where
   pub version : ℕ
   pub found : List Record
-  pub opened : IsOpened (entry_in one version) (header_in one version) (bytes_on old one.number) found
+  pub opened : IsOpened (entry_in one version) (header_in one version) (old one.number) (new one.number) found
   pub allowed : IsOk (verdict_on one version found amount)
   pub follows : MayFollow (entry_in one version) found (Grant (grant_behind found amount))
   pub ends : IfFinished status (status ≡ Done)

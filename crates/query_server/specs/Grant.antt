@@ -65,7 +65,7 @@ WentBy entry header found amount (Err refusal) before after = IsOnlySynced befor
 pub record IsGrantAnswered (one : KeyedOwner) (amount : ℕ) (old new : Shelf) (status : Status) (text : List ℕ) : Type 0 where
   pub version : ℕ
   pub found : List Record
-  pub opened : IsOpened (entry_in one version) (header_in one version) (bytes_on old one.number) found
+  pub opened : IsOpened (entry_in one version) (header_in one version) (old one.number) (new one.number) found
   pub is_status : status ≡ verdict_status (verdict_on one version found amount)
   pub is_text : text ≡ verdict_text (its_name one) (verdict_on one version found amount)
   pub disk : OneDisk one.number (WentBy (entry_in one version) (header_in one version) found amount (verdict_on one version found amount)) old new
@@ -73,7 +73,7 @@ pub record IsGrantAnswered (one : KeyedOwner) (amount : ℕ) (old new : Shelf) (
 -- The owner's journal is refused. Nothing is written.
 pub record IsGrantUnopened (one : KeyedOwner) (old new : Shelf) (status : Status) (text : List ℕ) : Type 0 where
   pub refusal : JournalRefusal
-  pub refused : IsUnopened (its_entry one) (its_header one) (bytes_on old one.number) refusal
+  pub refused : IsUnopened (its_entry one) (its_header one) (old one.number) (new one.number) refusal
   pub is_status : status ≡ code.JournalRefused
   pub is_text : text ≡ journal_text (its_name one) refusal
   pub disk : OneDisk one.number IsOnlySynced old new
@@ -87,7 +87,7 @@ pub record IsGrantUnwritten (one : KeyedOwner) (amount : ℕ) (old new : Shelf) 
   pub version : ℕ
   pub found : List Record
   pub failure : Failure
-  pub opened : IsOpened (entry_in one version) (header_in one version) (bytes_on old one.number) found
+  pub opened : IsOpened (entry_in one version) (header_in one version) (old one.number) (new one.number) found
   pub allowed : IsOk (verdict_on one version found amount)
   pub pending : failure.pending ≡ Grant (grant_behind found amount)
   pub disk : OneDisk one.number (WentOn (entry_in one version) (header_in one version) found found (Some failure)) old new
