@@ -1,32 +1,43 @@
 -- What the code's books and passes are of the owners' disks.
 use Rattle.std.specs.Prelude.{◌≡◌, ℕ, ◌<◌, ◌≤◌, List, [], length, Option, Some, None, IfSome, ⊤}
-use Rattle.outside_disks.specs.Disks.{Shown, WhereTold}
+use Rattle.outside_disks.specs.Disks.{WhereTold}
+use Rattle.outside_disks.specs.Stored.{Stored, Twins}
 use Rattle.journal_records.specs.declared.records.Header.{Header}
 use Rattle.budget_journal.specs.Journals.{Found}
 use Rattle.budget_core.specs.Entries.{Entry}
 use Rattle.budget_core.specs.Legal.{IsHistory}
-use Rattle.budget_ledger.specs.Account.{Account, IsBook, Went}
+use Rattle.budget_ledger.specs.Account.{Account, Copies, IsBook, Went, stored_by}
+use Rattle.budget_ledger.specs.Both.{IsOpenedBoth}
+use Rattle.budget_ledger.specs.declared.both.BothFault.{BothFault}
+use Rattle.budget_ledger.specs.declared.both.BothFault.TheVariants as both_fault
 use Rattle.owner_desk.specs.Passes.{Pass, ledger_on}
 use Rattle.session_core.specs.Code.{IsClosedWith, fresh_pass, pass_at}
 use Rattle.catalog_loading.specs.Loaded.{Loading, new_header, new_entry, owner_name_at}
-use Rattle.owner_books.specs.Shelves.{Shelf, OneDisk, IsOnlySynced, bytes_on}
-use Rattle.owner_books.specs.Opened.{IsDiskNamed, IsRefusedAt, IsUnopened}
+use Rattle.owner_books.specs.Shelves.{Shelf, OneDisk, IsOnlySynced}
+use Rattle.owner_books.specs.Opened.{IsDiskNamed, IsRefusedAt, IsUnopened, IsUnwrittenAt}
 use Rattle.owner_books.specs.Refusals.{disk_text, journal_text}
 use Rattle.owner_books.specs.declared.refusals.JournalRefusal.{JournalRefusal}
-use Rattle.owner_books.specs.declared.refusals.JournalRefusal.TheVariants.{Uninitialised, Changed, Damaged}
+use Rattle.owner_books.specs.declared.refusals.JournalRefusal.TheVariants.{Uninitialised, Changed, Damaged, Forked}
 use Rattle.budget_journal.specs.declared.opening.OpenFault.{OpenFault}
 use Rattle.budget_journal.specs.declared.opening.OpenFault.TheVariants as open_fault
 use Rattle.catalog_loading.specs.declared.stops.Stop.{Stop}
 use Rattle.catalog_loading.specs.declared.stops.Stop.TheVariants.{Journal, Disk, NoMemory}
 
--- A book that was just opened on a disk that showed this.
-pub record IsNewBook (entry : Entry) (header : Header) (before : Option Shown) (book : Account) : Type 0 where
+-- A book has one disk where one showed this, and two where two did: then it was opened on both.
+abbrev pub IsOnBoth : Entry → Header → Account → (before : Option Twins) → Option Copies → Type 0
+IsOnBoth entry header book None None = ⊤
+IsOnBoth entry header book None (Some copies) = ⊥
+IsOnBoth entry header book (Some before) copies = IsOpenedBoth entry header before book
+
+-- A book that was just opened on a disk that showed this, or on two.
+pub record IsNewBook (entry : Entry) (header : Header) (before : Option Stored) (book : Account) : Type 0 where
   pub of_entry : book.ledger.entry ≡ entry
   pub fresh : book.ledger.records ≡ book.ledger.found
   pub of_header : book.storage.header ≡ header
   pub unclosed : book.storage.closed ≡ None
   pub history : IsHistory entry book.ledger.found
   pub on : IfSome before (λ b. WhereTold (Found header book.ledger.found) b.trace book.storage.trace × (book.storage.faults ≡ b.faults))
+  pub on_both : IfSome before (λ b. IsOnBoth entry header book b.twins book.storage.copies)
   pub sound : IsBook book
 
 -- A book was opened: its owner's disk is taken. Or it wasn't, and the disk is at home again, with nothing written.
@@ -55,28 +66,35 @@ IsBookFaultStop owner (open_fault.NotInitialised n) stop = IsJournalStop owner (
 IsBookFaultStop owner (open_fault.Changed kept found) stop = IsJournalStop owner Changed stop
 IsBookFaultStop owner (open_fault.Damaged slot) stop = IsJournalStop owner (Damaged slot) stop
 
--- why the book of an owner of this name, entry and header wasn't opened on a disk of these bytes
-abbrev pub IsUnopenedStop : (owner : List ℕ) → Entry → Header → (bytes : Option (List ℕ)) → Stop → Type 0
-IsUnopenedStop owner entry header bytes (Journal line) =
-    (refusal : JournalRefusal) × IsUnopened entry header bytes refusal × (line.items ≡ journal_text owner refusal)
-IsUnopenedStop owner entry header bytes (Disk line) = line.items ≡ disk_text owner
-IsUnopenedStop owner entry header bytes NoMemory = ⊤
-IsUnopenedStop owner entry header bytes stop = ⊥
+-- the same of two disks
+abbrev pub IsBothFaultStop : (owner : List ℕ) → BothFault → Stop → Type 0
+IsBothFaultStop owner (both_fault.Refused fault) stop = IsBookFaultStop owner fault stop
+IsBothFaultStop owner (both_fault.Forked slot) stop = IsJournalStop owner (Forked slot) stop
+IsBothFaultStop owner both_fault.VersionsDiffer stop = IsJournalStop owner Changed stop
+
+-- why the book of an owner of this name, entry and header wasn't opened on disks that showed this before and now
+abbrev pub IsUnopenedStop : (owner : List ℕ) → Entry → Header → (before now : Option Stored) → Stop → Type 0
+IsUnopenedStop owner entry header before now (Journal line) =
+    (refusal : JournalRefusal) × IsUnopened entry header before now refusal × IsUnwrittenAt before now × (line.items ≡ journal_text owner refusal)
+IsUnopenedStop owner entry header before now (Disk line) = line.items ≡ disk_text owner
+IsUnopenedStop owner entry header before now NoMemory = ⊤
+IsUnopenedStop owner entry header before now stop = ⊥
 
 -- the same of an owner of a house
-abbrev pub IsBookStop : Loading → (key : List ℕ) → Shelf → (o : ℕ) → Stop → Type 0
-IsBookStop loading key old o stop = IsUnopenedStop (owner_name_at loading o) (new_entry loading o) (new_header loading key o) (bytes_on old o) stop
+abbrev pub IsBookStop : Loading → (key : List ℕ) → (old new : Shelf) → (o : ℕ) → Stop → Type 0
+IsBookStop loading key old new o stop =
+    IsUnopenedStop (owner_name_at loading o) (new_entry loading o) (new_header loading key o) (old o) (new o) stop
 
 -- why not all books were opened
 abbrev pub IsOpenStop : Loading → (key : List ℕ) → (old new : Shelf) → Stop → Type 0
-IsOpenStop loading key old new (Journal line) = (o : ℕ) × (refusal : JournalRefusal) × IsRefusedAt loading key old o refusal
+IsOpenStop loading key old new (Journal line) = (o : ℕ) × (refusal : JournalRefusal) × IsRefusedAt loading key old new o refusal
     × (line.items ≡ journal_text (owner_name_at loading o) refusal)
 IsOpenStop loading key old new (Disk line) = IsDiskNamed loading key old new line.items
 IsOpenStop loading key old new NoMemory = ⊤
 IsOpenStop loading key old new stop = ⊥
 
--- A pass on which nothing was done yet, on a book that was just opened on a disk that showed this.
-pub record IsNewPass (entry : Entry) (header : Header) (before : Option Shown) (pass : Pass) : Type 0 where
+-- A pass on which nothing was done yet, on a book that was just opened on a disk that showed this, or on two.
+pub record IsNewPass (entry : Entry) (header : Header) (before : Option Stored) (pass : Pass) : Type 0 where
   pub fresh : pass ≡ fresh_pass pass.opened
   pub book : IsNewBook entry header before pass.opened
 
@@ -87,9 +105,9 @@ pub record ArePassesOn (entries : ℕ → Entry) (headers : ℕ → Header) (n :
   pub taken : (o : ℕ) → o < n → new o ≡ None
   pub others : (o : ℕ) → n ≤ o → new o ≡ old o
 
--- what a book shows of its disk
-abbrev pub shown_by : Account → Shown
-shown_by book = record { trace = book.storage.trace; faults = book.storage.faults }
+-- what a book shows of its disk, or of its two
+abbrev pub shown_by : Account → Stored
+shown_by book = stored_by book.storage
 
 -- A pass was closed, and gave its book back: with the records found and the pass's own, and where that is none, as it was opened.
 pub record GaveBook (pass : Pass) (book : Account) : Type 0 where

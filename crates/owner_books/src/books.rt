@@ -8,19 +8,25 @@ ghost use Rattle.session_core.specs.Bundles.{bundle_of};
 ghost use Rattle.session_core.specs.Code.{ArePasses};
 ghost use Rattle.owner_catalog.specs.Limits.{owner_limit};
 ghost use Rattle.catalog_loading.specs.Loaded.{entry_at, entry_in, header_in, header_of, in_versions, keyed, new_header, owners_in};
-ghost use Rattle.owner_books.specs.Shelves.{AreAtHome, EachDisk, IsOnlySynced, bytes_on};
-ghost use Rattle.owner_books.specs.Bays.{HasDiskCause, KeepsBay};
+ghost use Rattle.outside_disks.specs.Stored.{stored_of};
+ghost use Rattle.budget_journal.specs.declared.opening.OpenFault.TheVariants.{DiskFault};
+ghost use Rattle.budget_ledger.specs.declared.both.BothFault.TheVariants.{Refused};
+ghost use Rattle.owner_books.specs.Shelves.{AreAtHome, AreLost, EachDisk, IsOnlySynced, IsUnwritten};
+ghost use Rattle.owner_books.specs.Bays.{HasDiskCause, HasLostCause, KeepsBay};
+ghost use Rattle.owner_books.specs.Opened.{IsFaultOf};
 ghost use Rattle.owner_books.specs.Books.{ArePassesOn, ArePutBack, IsNewBook, IsNewPass, LeftDisk, TookDisk};
-ghost use Rattle.owner_books.specs.Books.{IsBookFaultStop, IsBookStop, IsDiskStop, IsJournalStop, IsOpenStop, IsUnopenedStop};
+ghost use Rattle.owner_books.specs.Books.{IsBookFaultStop, IsBookStop, IsBothFaultStop, IsDiskStop, IsJournalStop, IsOpenStop, IsUnopenedStop};
 
 use crate::refusals::{JournalRefusal, disk_line, journal_line};
 use budget_core::entry::Entry;
 use budget_journal::opening::OpenFault;
 use budget_ledger::book::Book;
+use budget_ledger::both::BothFault;
 use catalog_loading::{Keyed, Opened, Registered, Stop, headers_of};
 use journal_records::records::Header;
 use outside_bays::bay::Bay;
 use outside_disks::disk::Disk;
+use outside_disks::disks::Disks;
 use owner_desk::{Desk, Pass};
 use owner_house::entry::new_entry;
 use std::alloc::Global;
@@ -64,7 +70,49 @@ fn open_stop(alloc: Global, owner: &str, fault: &OpenFault) -> Stop
     }
 }
 
-/// Opens the book of this entry and header on an owner's disk. Where it isn't opened, the disk is put back.
+/// An owner's journal was not opened, on one disk or on two.
+fn both_stop(alloc: Global, owner: &str, fault: &BothFault) -> Stop
+    ensures { IsBothFaultStop owner.now fault.now result }
+{
+    match fault {
+        BothFault::Refused(fault) => open_stop(alloc, owner, fault),
+        BothFault::Forked { slot } => {
+            journal_stop(alloc, owner, JournalRefusal::Forked { slot: *slot })
+        }
+        BothFault::VersionsDiffer => journal_stop(alloc, owner, JournalRefusal::Changed),
+    }
+}
+
+/// Opens the book of this entry and header on a disk, or on both of two.
+fn open_disks<D: Disk>(
+    alloc: Global,
+    disks: Disks<D>,
+    entry: Entry,
+    header: &Header,
+) -> Result<Book<D>, (Disks<D>, BothFault)>
+    requires budget { header.now.budget ≡ entry.budget }
+    requires capacity { header.now.capacity ≡ entry.capacity }
+    ensures book { IfOk result (λ book. IsNewBook (record entry { version = book.storage.header.version })
+        (record header.now { version = book.storage.header.version }) (Some (stored_of D.trace D.faults disks)) book) }
+    ensures refused { IfErr result (λ refused. IsFaultOf entry header.now (stored_of D.trace D.faults disks)
+        (stored_of D.trace D.faults refused.0) refused.1) }
+    ensures left { IfErr result (λ refused. IsUnwritten (stored_of D.trace D.faults disks) (stored_of D.trace D.faults refused.0)) }
+    ensures cause { IfErr result (λ refused. refused.1 ≡ Refused DiskFault
+        → AreLost (stored_of D.trace D.faults disks) (stored_of D.trace D.faults refused.0)) }
+{
+    match disks {
+        Disks::One(disk) => match Book::open(alloc, disk, entry, header) {
+            Ok(book) => Ok(book),
+            Err((disk, fault)) => Err((Disks::One(disk), BothFault::Refused(fault))),
+        },
+        Disks::Both(first, second) => match Book::open_both(alloc, first, second, entry, header) {
+            Ok(book) => Ok(book),
+            Err((first, second, fault)) => Err((Disks::Both(first, second), fault)),
+        },
+    }
+}
+
+/// Opens the book of this entry and header on an owner's disks. Where it isn't opened, the disks are put back.
 pub fn open_on<B: Bay>(
     alloc: Global,
     bay: &mut B,
@@ -81,23 +129,24 @@ pub fn open_on<B: Bay>(
         (record header.now { version = book.storage.header.version }) (B.shelf bay.old owner) book) }
     ensures taken { OnOk result (TookDisk owner (B.shelf bay.old) (B.shelf bay.new)) }
     ensures left { OnErr result (LeftDisk owner (B.shelf bay.old) (B.shelf bay.new)) }
-    ensures stop { IfErr result (IsUnopenedStop name.now entry header.now (bytes_on (B.shelf bay.old) owner)) }
+    ensures stop { IfErr result (IsUnopenedStop name.now entry header.now (B.shelf bay.old owner) (B.shelf bay.new owner)) }
     ensures bay { KeepsBay B.shelf B.owners B.faults bay.old bay.new }
     ensures cause { HasDiskCause B.shelf B.owners B.faults bay.old bay.new result }
+    ensures lost { HasLostCause B.shelf B.owners B.faults bay.old bay.new result }
 {
-    let Ok(disk) = bay.take(owner) else {
+    let Ok(disks) = bay.take(owner) else {
         return Err(disk_stop(alloc, name));
     };
-    match Book::open(alloc, disk, entry, header) {
+    match open_disks(alloc, disks, entry, header) {
         Ok(book) => Ok(book),
-        Err((disk, fault)) => {
-            bay.put_back(owner, disk);
-            Err(open_stop(alloc, name, &fault))
+        Err((disks, fault)) => {
+            bay.put_back(owner, disks);
+            Err(both_stop(alloc, name, &fault))
         }
     }
 }
 
-/// Opens an owner's book on its disk. Where it isn't opened, the disk is put back.
+/// Opens an owner's book on its disks. Where it isn't opened, the disks are put back.
 pub fn open_book<B: Bay, H: Registered>(
     alloc: Global,
     bay: &mut B,
@@ -113,9 +162,10 @@ pub fn open_book<B: Bay, H: Registered>(
         (header_in opened.now.loading opened.now.key owner book.storage.header.version) (B.shelf bay.old owner) book) }
     ensures taken { OnOk result (TookDisk owner (B.shelf bay.old) (B.shelf bay.new)) }
     ensures left { OnErr result (LeftDisk owner (B.shelf bay.old) (B.shelf bay.new)) }
-    ensures stop { IfErr result (IsBookStop opened.now.loading opened.now.key (B.shelf bay.old) owner) }
+    ensures stop { IfErr result (IsBookStop opened.now.loading opened.now.key (B.shelf bay.old) (B.shelf bay.new) owner) }
     ensures bay { KeepsBay B.shelf B.owners B.faults bay.old bay.new }
     ensures cause { HasDiskCause B.shelf B.owners B.faults bay.old bay.new result }
+    ensures lost { HasLostCause B.shelf B.owners B.faults bay.old bay.new result }
 {
     let catalog = opened.catalog();
     let entry = new_entry(alloc, catalog, owner)?;
@@ -150,12 +200,12 @@ pub fn put_back<B: Bay>(bay: &mut B, desks: Vec<Desk<B::D>>, passes: Vec<Pass<B:
         let Some(desk) = desks.pop() else {
             unreachable!()
         };
-        bay.put_back(owner, desk.close(pass).into_disk());
+        bay.put_back(owner, desk.close(pass).into_disks());
     }
 }
 
-/// Opens an owner's book on its disk and puts it behind a lock, and gives the version of its journal. Where it isn't opened, or memory runs
-/// out, the disk is put back.
+/// Opens an owner's book on its disks and puts it behind a lock, and gives the version of its journal. Where it isn't opened, or memory runs
+/// out, the disks are put back.
 fn open_desk<B: Bay>(
     alloc: Global,
     bay: &mut B,
@@ -171,22 +221,23 @@ fn open_desk<B: Bay>(
         × IsNewPass (entry_in opened.now.loading owner r.2) (header_in opened.now.loading opened.now.key owner r.2) (B.shelf bay.old owner) r.1.knows) }
     ensures taken { OnOk result (TookDisk owner (B.shelf bay.old) (B.shelf bay.new)) }
     ensures left { OnErr result (LeftDisk owner (B.shelf bay.old) (B.shelf bay.new)) }
-    ensures stop { IfErr result (IsBookStop opened.now.loading opened.now.key (B.shelf bay.old) owner) }
+    ensures stop { IfErr result (IsBookStop opened.now.loading opened.now.key (B.shelf bay.old) (B.shelf bay.new) owner) }
     ensures bay { KeepsBay B.shelf B.owners B.faults bay.old bay.new }
     ensures cause { HasDiskCause B.shelf B.owners B.faults bay.old bay.new result }
+    ensures lost { HasLostCause B.shelf B.owners B.faults bay.old bay.new result }
 {
     let book = open_book(alloc, bay, opened, header, owner)?;
     let version = book.version();
     match Desk::new(alloc, owner, book) {
         Ok((desk, pass)) => Ok((desk, pass, version)),
         Err((book, _)) => {
-            bay.put_back(owner, book.into_disk());
+            bay.put_back(owner, book.into_disks());
             Err(Stop::NoMemory)
         }
     }
 }
 
-/// A desk for each owner, in order, over the book that is opened on its disk, and its first pass; the house takes the versions of the
+/// A desk for each owner, in order, over the book that is opened on its disks, and its first pass; the house takes the versions of the
 /// journals. Where a book isn't opened, or memory runs out, all disks are put back.
 pub fn open_desks<B: Bay>(
     alloc: Global,
@@ -206,6 +257,7 @@ pub fn open_desks<B: Bay>(
     ensures stop { IfErr result (IsOpenStop opened.old.loading opened.old.key (B.shelf bay.old) (B.shelf bay.new)) }
     ensures bay { KeepsBay B.shelf B.owners B.faults bay.old bay.new }
     ensures cause { HasDiskCause B.shelf B.owners B.faults bay.old bay.new result }
+    ensures lost { HasLostCause B.shelf B.owners B.faults bay.old bay.new result }
 {
     let headers = headers_of(alloc, opened)?;
     let mut desks = Vec::with_capacity(alloc, headers.len())?;

@@ -2,7 +2,7 @@
 
 ghost use Rattle.std.specs.Prelude.{◌≡◌, ◌≢◌, ◌⊎◌, ◌<◌, ◌≤◌, ℕ, IsSome, IfErr, OnOk};
 ghost use Rattle.fz_outside.specs.Faults.{HasRisen};
-ghost use Rattle.outside_disks.specs.Disks.{Shown};
+ghost use Rattle.outside_disks.specs.Stored.{HasCountRisen, stored_of};
 ghost use Rattle.journal_records.specs.Encoding.{IsHeader};
 ghost use Rattle.budget_journal.specs.declared.making.InitFault.TheVariants.{DiskFault};
 ghost use Rattle.catalog_loading.specs.Loaded.{new_header, owners_in};
@@ -14,12 +14,30 @@ use crate::books::{disk_stop, journal_stop};
 use crate::refusals::JournalRefusal;
 use budget_journal::journal::Journal;
 use budget_journal::making::InitFault;
+use budget_ledger::both::init_both;
 use catalog_loading::{OpenedTables, Stop, headers_of};
 use journal_records::records::Header;
 use outside_bays::bay::Bay;
+use outside_disks::disk::Disk;
+use outside_disks::disks::Disks;
 use std::alloc::Global;
 
-/// Makes the journal of an owner: its disk is taken, and put back.
+/// Makes a journal on an owner's disk, or on both of two.
+fn init_disks<D: Disk>(disks: &mut Disks<D>, header: &Header) -> Result<(), InitFault>
+    requires header { IsHeader header.now }
+    requires grown { 2 ≤ header.now.version }
+    ensures made { OnOk result (IsMade header.now (stored_of D.trace D.faults disks.old) (stored_of D.trace D.faults disks.new)) }
+    ensures unmade { IfErr result (λ fault. IsUnmade fault (stored_of D.trace D.faults disks.old) (stored_of D.trace D.faults disks.new)) }
+    ensures cause { IfErr result (λ fault. fault ≡ DiskFault
+        → HasCountRisen (stored_of D.trace D.faults disks.old) (stored_of D.trace D.faults disks.new)) }
+{
+    match disks {
+        Disks::One(disk) => Journal::init(disk, header),
+        Disks::Both(first, second) => init_both(first, second, header),
+    }
+}
+
+/// Makes the journal of an owner: its disks are taken, and put back.
 #[tactic(auto, using(crate::proofs::Made::untaken))]
 fn make_journal<B: Bay>(bay: &mut B, owner: u32, header: &Header) -> Result<(), InitFault>
     requires owner { owner < B.owners bay.old }
@@ -32,11 +50,11 @@ fn make_journal<B: Bay>(bay: &mut B, owner: u32, header: &Header) -> Result<(), 
     ensures bay { KeepsBay B.shelf B.owners B.faults bay.old bay.new }
     ensures passed { OnOk result (B.faults bay.new ≡ B.faults bay.old) }
     ensures cause { IfErr result (λ fault. fault ≡ DiskFault → HasRisen (B.faults bay.old) (B.faults bay.new)
-        ⊎ Turned (λ before after. HasRisen before.faults after.faults) (B.shelf bay.old owner) (B.shelf bay.new owner)) }
+        ⊎ Turned HasCountRisen (B.shelf bay.old owner) (B.shelf bay.new owner)) }
 {
-    let mut disk = bay.take(owner)?;
-    let made = Journal::init(&mut disk, header);
-    bay.put_back(owner, disk);
+    let mut disks = bay.take(owner)?;
+    let made = init_disks(&mut disks, header);
+    bay.put_back(owner, disks);
     made
 }
 

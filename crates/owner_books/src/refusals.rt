@@ -17,6 +17,8 @@ pub enum JournalRefusal {
     Damaged { slot: u32 },
     /// An `init` was done before: the disk has so many bytes.
     Exists { length: u64 },
+    /// Two disks have different records in this slot, the least such one.
+    Forked { slot: u32 },
 }
 
 /// Puts why a journal is refused behind a line.
@@ -28,6 +30,7 @@ fn put_refusal(line: &mut Vec<u8>, refusal: JournalRefusal) -> Result<(), AllocE
         JournalRefusal::Changed => line.extend_from_slice(b"changed"),
         JournalRefusal::Damaged { slot } => put_field(line, b"damaged ", u64::from(slot)),
         JournalRefusal::Exists { length } => put_field(line, b"exists ", length),
+        JournalRefusal::Forked { slot } => put_field(line, b"forked ", u64::from(slot)),
     }
 }
 
