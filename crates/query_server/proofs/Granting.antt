@@ -3,7 +3,7 @@ use Rattle.std.proofs.Common.{◌≡◌, ℕ, List, length, Option, Some, None, 
 use Rattle.std.specs.Prelude.{Result, Ok, Err, IsOk, IsSome, IfSome}
 use mathlib.Core.Logic.{inl, inr}
 use Rattle.outside_disks.specs.Disks.{WhereTold}
-use Rattle.outside_disks.specs.Stored.{Stored}
+use Rattle.outside_disks.specs.Stored.{HasCountRisen, Stored}
 use Rattle.outside_bays.specs.Bays.{Changes}
 use Rattle.fz_outside.specs.Faults.{HasRisen}
 use Rattle.journal_records.specs.declared.records.Header.{Header}
@@ -29,19 +29,18 @@ use Rattle.query_server.specs.Grant.{IsGrantUnwritten, WentBy, entry_in, header_
 use Rattle.query_server.specs.Granted.{IsBookBy, IsGrantEnd, IsUnappendedGrant, book_verdict}
 use Rattle.owner_books.specs.Opened.{IsOpened}
 use Rattle.query_server.specs.Run.{WentOn}
-use Rattle.owner_books.specs.Shelves.{NoOtherRose, OneDisk, IsOnlySynced, Shelf, SomeRose, bytes_on}
+use Rattle.owner_books.specs.Shelves.{NoOtherRose, OneDisk, IsOnlySynced, Shelf, SomeRose}
 use Rattle.query_server.specs.Work.{to_grant}
 use Rattle.owner_books.proofs.Back.{changed_elsewhere, changed_here}
 use Rattle.owner_books.proofs.Disks.{same_still}
 use Rattle.query_server.proofs.Home.{some_of}
 use Rattle.owner_books.proofs.Passes.{book_synced}
-use Rattle.owner_books.proofs.Stops.{book_opened}
-use Rattle.query_server.proofs.Went.{went_on}
+use Rattle.query_server.proofs.Went.{new_opened, went_on}
 
 -- A journal that isn't opened ends the grant, with nothing written.
 pub unopened_end : (one : KeyedOwner) (amount : ℕ) (old new : Shelf) (script : List ℕ) (stop : Stop) → OneDisk one.number IsOnlySynced old new → NoOtherRose one.number old new
-    → IsUnopenedStop (its_name one) (its_entry one) (its_header one) (bytes_on old one.number) stop → IsEndOf (to_grant amount one) old new script (Err stop)
-unopened_end one amount old new script (Journal line) disk others (refusal, unopened, is) =
+    → IsUnopenedStop (its_name one) (its_entry one) (its_header one) (old one.number) (new one.number) stop → IsEndOf (to_grant amount one) old new script (Err stop)
+unopened_end one amount old new script (Journal line) disk others (refusal, unopened, unwritten, is) =
     inl (inl (record { refusal = refusal; refused = unopened; is_status = refl; is_text = is; disk = disk }))
 unopened_end one amount old new script (Disk line) disk others is = inr (inr (inr (line, refl, (is, others))), inl disk)
 unopened_end one amount old new script NoMemory disk others is = inr (inr (inl refl), inl disk)
@@ -55,16 +54,16 @@ one_risen o Goes old new went p isnt = same_still p old new (went.elsewhere p is
 
 -- What a book that was opened on an owner's disk went through, and how its disk was put back.
 module _ (entry : Entry) (header : Header) (o : ℕ) (old mid new : Shelf) (opened later : Account) (is : IsNewBook entry header (old o) opened) (took : TookDisk o old mid)
-    (back : Changes o (Some (stored_by later.storage)) mid new) (went : Went opened.ledger.records later.ledger.records opened.storage later.storage) (sound : IsBook later) where
-  back_here : (Goes : Stored → Stored → Type 0) → ((before : Stored) → old o ≡ Some before → Goes before (stored_by later.storage)) → OneDisk o Goes old new
+    (back : Changes o (Some (shown_by later)) mid new) (went : Went opened.ledger.records later.ledger.records opened.storage later.storage) (sound : IsBook later) where
+  back_here : (Goes : Stored → Stored → Type 0) → ((before : Stored) → old o ≡ Some before → Goes before (shown_by later)) → OneDisk o Goes old new
   back_here Goes goes = record {
-    here = λ before was. (stored_by later.storage, changed_here o (Some (stored_by later.storage)) mid new back, goes before was);
-    elsewhere = λ p isnt. changed_elsewhere o p (Some (stored_by later.storage)) mid new isnt back ∙ took.1 p isnt;
+    here = λ before was. (shown_by later, changed_here o (Some (shown_by later)) mid new back, goes before was);
+    elsewhere = λ p isnt. changed_elsewhere o p (Some (shown_by later)) mid new isnt back ∙ took.1 p isnt;
   }
 
   -- nothing was done to it
   pub untouched : later ≡ opened → OneDisk o IsOnlySynced old new
-  untouched same = back_here IsOnlySynced (λ before was. subst (λ (a : Account). IsOnlySynced before (stored_by a.storage)) (sym same) (book_synced entry header before (old o) opened was is))
+  untouched same = back_here IsOnlySynced (λ before was. subst (λ (a : Account). IsOnlySynced before (shown_by a)) (sym same) (book_synced entry header before (old o) opened was is))
 
   -- it has these records now, and is closed so
   pub went_through : (records : List Record) (closed : Option Failure) → later.ledger.records ≡ records → later.storage.closed ≡ closed → later.ledger.entry ≡ entry
@@ -72,12 +71,12 @@ module _ (entry : Entry) (header : Header) (o : ℕ) (old mid new : Shelf) (open
   went_through records closed are shut its = back_here (WentOn entry header opened.ledger.found records closed) (λ before was.
       let through : Went opened.ledger.found records opened.storage later.storage
       = subst (λ (xs : List Record). Went xs records opened.storage later.storage) is.fresh (subst (λ (xs : List Record). Went opened.ledger.records xs opened.storage later.storage) are went) in
-      subst (λ (c : Option Failure). WentOn entry header opened.ledger.found records c before (stored_by later.storage)) shut
+      subst (λ (c : Option Failure). WentOn entry header opened.ledger.found records c before (shown_by later)) shut
       (went_on entry header records (old o) before opened later was is through are its sound))
 
 -- The same of a grant over a book that was just opened in this version.
 module _ (one : KeyedOwner) (amount version : ℕ) (old mid new : Shelf) (opened later : Account) (is : IsNewBook (entry_in one version) (header_in one version) (old one.number) opened)
-    (took : TookDisk one.number old mid) (back : Changes one.number (Some (stored_by later.storage)) mid new)
+    (took : TookDisk one.number old mid) (back : Changes one.number (Some (shown_by later)) mid new)
     (went : Went opened.ledger.records later.ledger.records opened.storage later.storage) (sound : IsBook later) where
   abbrev found : List Record
   found = opened.ledger.found
@@ -85,8 +84,17 @@ module _ (one : KeyedOwner) (amount version : ℕ) (old mid new : Shelf) (opened
   same : book_verdict opened amount ≡ verdict_on one version found amount
   same = λ i. grant_verdict (is.of_entry i) (length (reservations_of found)) (is.fresh i) amount
 
-  was_opened : IsOpened (entry_in one version) (header_in one version) (bytes_on old one.number) found
-  was_opened = book_opened (entry_in one version) (header_in one version) (old one.number) opened is
+  was_opened : (records : List Record) → later.ledger.records ≡ records → later.ledger.entry ≡ entry_in one version
+      → IsOpened (entry_in one version) (header_in one version) (old one.number) (new one.number) found
+  was_opened records are its =
+      new_opened (entry_in one version) (header_in one version) (old one.number) (new one.number) records opened later is (changed_here one.number (Some (shown_by later)) mid new back)
+      (subst (λ (xs : List Record). Went xs records opened.storage later.storage) is.fresh
+      (subst (λ (xs : List Record). Went opened.ledger.records xs opened.storage later.storage) are went)) are its sound
+
+  -- nothing of the ledger but its records hangs on the verdict
+  opened_by : (verdict : Result Left GrantRefusal) → IsBookBy opened amount verdict later → IsOpened (entry_in one version) (header_in one version) (old one.number) (new one.number) found
+  opened_by (Ok left) gained = was_opened later.ledger.records refl (ap (λ (l : Ledger). l.entry) gained.ledger ∙ is.of_entry)
+  opened_by (Err refusal) unchanged = was_opened later.ledger.records refl (ap (λ (a : Account). a.ledger.entry) unchanged ∙ is.of_entry)
 
   through : (records : List Record) (closed : Option Failure) → later.ledger.records ≡ records → later.storage.closed ≡ closed → later.ledger.entry ≡ entry_in one version
       → OneDisk one.number (WentOn (entry_in one version) (header_in one version) found records closed) old new
@@ -111,7 +119,7 @@ module _ (one : KeyedOwner) (amount version : ℕ) (old mid new : Shelf) (opened
     version = version;
     found = found;
     failure = record { failed_at = later.storage.faults; pending = Grant (grant_behind opened.ledger.records amount) };
-    opened = was_opened;
+    opened = was_opened later.ledger.records refl (ap (λ (l : Ledger). l.entry) closed.ledger ∙ is.of_entry);
     allowed = subst (λ (v : Result Left GrantRefusal). IsOk v) same allowed;
     pending = ap (λ (xs : List Record). Grant (grant_behind xs amount)) is.fresh;
     disk = through found (Some (record { failed_at = later.storage.faults; pending = Grant (grant_behind opened.ledger.records amount) }))
@@ -122,7 +130,7 @@ module _ (one : KeyedOwner) (amount version : ℕ) (old mid new : Shelf) (opened
   granted_end script (Ok end) (status, text, by) = inl (inr (record {
     version = version;
     found = found;
-    opened = was_opened;
+    opened = opened_by (book_verdict opened amount) by;
     is_status = status ∙ ap verdict_status same;
     is_text = text ∙ ap (verdict_text (its_name one)) same;
     disk = subst (λ (v : Result Left GrantRefusal). OneDisk one.number (WentBy (entry_in one version) (header_in one version) found amount v) old new) same
@@ -145,9 +153,10 @@ module _ (one : KeyedOwner) (amount version : ℕ) (old mid new : Shelf) (opened
     shown_by later,
     was,
     changed_here one.number (Some (shown_by later)) mid new back,
-    subst (λ (n : ℕ). HasRisen n later.storage.faults)
-        (on_disk (entry_in one version) (header_in one version) one.number old mid new opened later is took back went sound before was).1
-        (went.failed (record { failed_at = later.storage.faults; pending = Grant (grant_behind opened.ledger.records amount) }) is.unclosed closed.closed).0,
+    let fails = unwritten (allowed, (DiskFault, closed)) in
+    let now = fails.disk.here before was in
+    let shows : now.0 ≡ shown_by later = let e : Some now.0 ≡ Some (shown_by later) = sym now.1 ∙ changed_here one.number (Some (shown_by later)) mid new back in cc e in
+    subst (HasCountRisen before) shows (now.2.failed fails.failure refl).0,
   )
 
   -- The line of the disk comes only where its count rose.

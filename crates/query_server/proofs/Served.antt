@@ -124,7 +124,8 @@ module _ (loading : Loading) (key : List ℕ) (versions : List ℕ) (counted : l
       record {
         versions = versions;
         found = found_by passes;
-        opened = all_opened loading key versions counted lawful old mid passes on;
+        opened = all_opened loading key versions counted lawful old mid new passes after books on
+            (λ o within. (s.held.owners o (owner_at house o) (there house_found key lawful o within)).0.opened) back;
         first = passes;
         last = after;
         service = s;
@@ -138,7 +139,7 @@ module _ (loading : Loading) (key : List ℕ) (versions : List ℕ) (counted : l
           shut = λ o owner at. (together house (draws_of key) workers s.sittings s.lasts passes after records closed fresh s.held closes o owner at).1;
           disks = record {
             owned = λ o before within at. (
-              stored_by (books o).storage,
+              shown_by (books o),
               back.each o within,
               owner_went house_found key lawful o old before (pass_at passes o) (pass_at after o) (books o) at (on.each o within)
                   (s.held.owners o (owner_at house o) (there house_found key lawful o within)).0.opened (back.gave o within),

@@ -15,7 +15,7 @@ use Rattle.owner_catalog.specs.Limits.{owner_limit}
 use Rattle.generated_run.specs.OwnerHistory.Explains.{Explains}
 use Rattle.generated_run.specs.OwnerHistory.Sound.{IsBacked, IsOwed}
 use Rattle.catalog_loading.specs.Loaded.{KeyedOwner, Loading, entry_at, header_of, in_versions}
-use Rattle.owner_books.specs.Shelves.{OneDisk, Shelf, bytes_on}
+use Rattle.owner_books.specs.Shelves.{OneDisk, Shelf}
 use Rattle.owner_books.specs.Opened.{IsOpened, house_in}
 use Rattle.query_server.specs.Grant.{entry_in, header_in, verdict_on}
 use Rattle.query_server.specs.Due.{IfFinished}

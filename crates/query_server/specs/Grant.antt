@@ -15,7 +15,7 @@ use Rattle.catalog_loading.specs.Steps.{FileStep}
 use Rattle.catalog_loading.specs.Loaded.{KeyedOwner, its_entry, its_header, its_name, with_owner}
 use Rattle.query_server.specs.Work.{Work, to_grant}
 use Rattle.query_server.specs.Duty.{Duty, Kind}
-use Rattle.owner_books.specs.Shelves.{Shelf, NoOtherRose, OneDisk, IsOnlySynced, bytes_on}
+use Rattle.owner_books.specs.Shelves.{Shelf, NoOtherRose, OneDisk, IsOnlySynced}
 use Rattle.owner_books.specs.Opened.{IsOpened, IsUnopened}
 use Rattle.query_server.specs.Run.{WentOn}
 use Rattle.owner_books.specs.Refusals.{disk_text, journal_text}
