@@ -30,8 +30,8 @@ twins_of trace faults first second = record {
 -- What is found on one of two disks as it is opened: it is gone, since it is empty or a call on it failed; or it has records, in a
 -- journal of this version; or this refuses it, and so both.
 pub data Reading : Type 0 where
-  Gone : (empty : Bool) → Reading
-  Has : (version : ℕ) (records : List Record) → Reading
+  Missing : (empty : Bool) → Reading
+  Holding : (version : ℕ) (records : List Record) → Reading
   Unfit : (fault : OpenFault) → Reading
 
 -- what refuses both: neither that the disk failed, nor that it is empty
@@ -46,9 +46,9 @@ HoldsBytes P shown = IfSome shown.trace (λ t. P (seen_of t))
 
 -- This is found on a disk that showed that before and after.
 abbrev pub IsReading : Header → (before after : Shown) → Reading → Type 0
-IsReading header before after (Gone true) = HoldsBytes (λ bytes. bytes ≡ []) before
-IsReading header before after (Gone false) = HasRisen before.faults after.faults
-IsReading header before after (Has version records) = HoldsBytes (Stands (record header { version = version }) records) before
+IsReading header before after (Missing true) = HoldsBytes (λ bytes. bytes ≡ []) before
+IsReading header before after (Missing false) = HasRisen before.faults after.faults
+IsReading header before after (Holding version records) = HoldsBytes (Stands (record header { version = version }) records) before
 IsReading header before after (Unfit fault) = RefusesBoth fault × HoldsBytes (λ bytes. IsOpenFault header bytes fault) before
 
 -- ---- what is made of two
@@ -67,25 +67,25 @@ pub record IsFork (records others : List Record) (slot : ℕ) : Type 0 where
 -- Two disks make these records, in this version: those of the one that is there, or the longer list, which begins with the shorter. Where both
 -- are as long it is the first disk's.
 abbrev pub Make : (first second : Reading) → (version : ℕ) → List Record → Type 0
-Make (Has v a) (Gone empty) version records = (version ≡ v) × (records ≡ a)
-Make (Gone empty) (Has w b) version records = (version ≡ w) × (records ≡ b)
-Make (Has v a) (Has w b) version records = AgreeOnCost v w
+Make (Holding v a) (Missing empty) version records = (version ≡ v) × (records ≡ a)
+Make (Missing empty) (Holding w b) version records = (version ≡ w) × (records ≡ b)
+Make (Holding v a) (Holding w b) version records = AgreeOnCost v w
     × ((IsPrefix b a × (version ≡ v) × (records ≡ a)) ⊎ (IsPrefix a b × (length a < length b) × (version ≡ w) × (records ≡ b)))
 Make first second version records = ⊥
 
 -- Why two disks make none: what refuses the first, or else what refuses the second; or both are gone; or they differ.
 abbrev pub MakeNone : (first second : Reading) → BothFault → Type 0
 MakeNone (Unfit f) second fault = fault ≡ Refused f
-MakeNone (Gone empty) (Unfit g) fault = fault ≡ Refused g
-MakeNone (Has v a) (Unfit g) fault = fault ≡ Refused g
-MakeNone (Gone true) (Gone true) fault = fault ≡ Refused (NotInitialised 0)
-MakeNone (Gone true) (Gone false) fault = fault ≡ Refused DiskFault
-MakeNone (Gone false) (Gone empty) fault = fault ≡ Refused DiskFault
-MakeNone (Has v a) (Has w b) VersionsDiffer = AgreeOnCost v w → ⊥
-MakeNone (Has v a) (Has w b) (Forked slot) = AgreeOnCost v w × IsFork a b slot
-MakeNone (Has v a) (Has w b) (Refused f) = ⊥
-MakeNone (Has v a) (Gone empty) fault = ⊥
-MakeNone (Gone empty) (Has w b) fault = ⊥
+MakeNone (Missing empty) (Unfit g) fault = fault ≡ Refused g
+MakeNone (Holding v a) (Unfit g) fault = fault ≡ Refused g
+MakeNone (Missing true) (Missing true) fault = fault ≡ Refused (NotInitialised 0)
+MakeNone (Missing true) (Missing false) fault = fault ≡ Refused DiskFault
+MakeNone (Missing false) (Missing empty) fault = fault ≡ Refused DiskFault
+MakeNone (Holding v a) (Holding w b) VersionsDiffer = AgreeOnCost v w → ⊥
+MakeNone (Holding v a) (Holding w b) (Forked slot) = AgreeOnCost v w × IsFork a b slot
+MakeNone (Holding v a) (Holding w b) (Refused f) = ⊥
+MakeNone (Holding v a) (Missing empty) fault = ⊥
+MakeNone (Missing empty) (Holding w b) fault = ⊥
 
 -- why records that two disks make are no book's
 abbrev pub AreUnfit : Entry → List Record → BothFault → Type 0
@@ -107,9 +107,12 @@ pub record IsLeft (before after : Shown) : Type 0 where
   pub synced : MayHaveSynced before.trace after.trace
   pub counts : before.faults ≤ after.faults
 
--- The disk has failed, or the other has and this one is empty.
-abbrev pub HasFailedBoth : (before after : Twins) → Type 0
-HasFailedBoth before after =
+abbrev pub AreLeft : (before after : Twins) → Type 0
+AreLeft before after = IsLeft before.first after.first × IsLeft before.second after.second
+
+-- Both disks have failed, or one has and the other is empty.
+abbrev pub HaveFailed : (before after : Twins) → Type 0
+HaveFailed before after =
     (HasRisen before.first.faults after.first.faults × HasRisen before.second.faults after.second.faults)
     ⊎ ((HasRisen before.first.faults after.first.faults × HoldsBytes (λ bytes. bytes ≡ []) before.second)
     ⊎ (HoldsBytes (λ bytes. bytes ≡ []) before.first × HasRisen before.second.faults after.second.faults))
@@ -123,8 +126,8 @@ copy_read header shown version records
 
 -- One disk of a book that was just opened. It is gone, and only synced; or it was synced and had these records, and went on from there.
 abbrev pub IsOpenedCopy : Header → (before : Shown) → Reading → Copy → Type 0
-IsOpenedCopy header before (Gone empty) copy = (copy.held ≡ None) × IsReading header before copy.shown (Gone empty) × IsLeft before copy.shown
-IsOpenedCopy header before (Has version records) copy = (read : Option Trace)
+IsOpenedCopy header before (Missing empty) copy = (copy.held ≡ None) × IsReading header before copy.shown (Missing empty) × IsLeft before copy.shown
+IsOpenedCopy header before (Holding version records) copy = (read : Option Trace)
     × WhereTold (Found (record header { version = version }) records) before.trace read
     × CopyWent (copy_read header (record { trace = read; faults = before.faults }) version records) copy
 IsOpenedCopy header before (Unfit fault) copy = ⊥

@@ -4,3 +4,5 @@ pub mod Opened
 pub mod Kept
 pub mod Laws
 pub mod Machine
+pub mod Both
+pub mod Joined

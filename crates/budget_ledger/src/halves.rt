@@ -143,7 +143,7 @@ pub(crate) fn count_faults<D: Disk>(store: &Store<D>, failure: &Option<Failure>)
 }
 
 impl<D: Disk> Half<D> {
-    fn into_disk(self) -> D
+    pub(crate) fn into_disk(self) -> D
         ensures { result ≡ disk_in self }
     {
         match self {

@@ -2,6 +2,7 @@
 #![tactic(auto)]
 
 pub mod book;
+pub mod both;
 pub mod failure;
 pub mod halves;
 pub mod laws;

@@ -4,7 +4,7 @@ use Rattle.std.specs.Prelude.{IsSome, ◌==◌}
 use Rattle.std.proofs.lemmas.Bool.{cases_eq, cases_lt, eq-eqb, eqb-true}
 use Rattle.std.proofs.lemmas.List.{get_or-set_same, get_or-set_other, length-set}
 use Rattle.std.proofs.lemmas.Option.{slice_get-get_or, slice_get_past}
-use Rattle.outside_disks.specs.Disks.{Shown}
+use Rattle.outside_disks.specs.Stored.{Stored}
 use Rattle.outside_bays.specs.Bays.{shown_at, shelf_of, Changes}
 
 pub not-equal : (a b : ℕ) → (a ≡ b → ⊥) → (a == b) ≡ false
@@ -14,11 +14,11 @@ not-equal a b isnt = by_cases (a == b) (λ is. isnt (eqb-true a b is))
     by_cases true isnt = absurd (isnt refl)
     by_cases false isnt = refl
 
-none-some : (o : Option Shown) → o ≡ None → IsSome o → ⊥
+none-some : (o : Option Stored) → o ≡ None → IsSome o → ⊥
 none-some None is home = absurd cc
 none-some (Some x) is home = absurd cc
 
-module _ {A : Type 0} (show : A → Shown) (disks : List (Option A)) (n : ℕ) (lt : n < length disks) where
+module _ {A : Type 0} (show : A → Stored) (disks : List (Option A)) (n : ℕ) (lt : n < length disks) where
   pub shelf-at : (d place : Option A) → place ≡ get_or disks n d → shelf_of show disks n ≡ shown_at show (Some place)
   shelf-at d place is = ap (shown_at show) (slice_get-get_or disks n d lt ∙ ap Some (sym is))
 
@@ -41,7 +41,7 @@ module _ {A : Type 0} (show : A → Shown) (disks : List (Option A)) (n : ℕ) (
       (cases_eq k n)
 
 -- one was added
-pub shelf-push : {A : Type 0} (show : A → Shown) (disks : List (Option A)) (x : A) (want : Option Shown) → ((n : ℕ) → n < length disks → shelf_of show disks n ≡ want)
+pub shelf-push : {A : Type 0} (show : A → Stored) (disks : List (Option A)) (x : A) (want : Option Stored) → ((n : ℕ) → n < length disks → shelf_of show disks n ≡ want)
     → Some (show x) ≡ want → (n : ℕ) → n < length disks + 1 → shelf_of show (disks ++ Some x ∷ []) n ≡ want
 shelf-push show [] x want all is zero lt = is
 shelf-push show [] x want all is (suc n) lt = absurd (omega (arith, lt))

@@ -1,6 +1,6 @@
-//! Bays: where the disks of owners are kept, one for each.
+//! Bays: where the disks of owners are kept, one or two for each.
 //!
-//! A disk in a bay is at home, or it is taken and the one who took it has it.
+//! Disks in a bay are at home, or they are taken and the one who took them has them.
 #![tactic(auto)]
 
 pub mod bay;

@@ -3,6 +3,7 @@
 ghost use Rattle.std.specs.Prelude.{◌≡◌, ℕ, ◌<◌, Some, None, IsSome, length, is_err, IsErr, IfOk, OnOk, OnErr};
 ghost use Rattle.fz_outside.specs.Faults.{HasCause};
 ghost use Rattle.fz_outside.specs.Schedule.{is_listed, began};
+ghost use Rattle.outside_disks.specs.Stored.{stored_of};
 ghost use Rattle.outside_bays.specs.Bays.{Changes, Same, shelf_of};
 ghost use Rattle.outside_bays.specs.Failing.{disks_of, schedule_of};
 
@@ -10,20 +11,20 @@ use crate::bay::Bay;
 use fz_outside::Failed;
 use fz_outside::flaky::Schedule;
 use outside_disks::disk::Disk;
+use outside_disks::disks::Disks;
 
-/// Disks in memory, one for each owner. The calls that are listed fail, by their numbers from 0.
+/// Disks in memory, one or two for each owner. The calls that are listed fail, by their numbers from 0.
 #[derive(Drop)]
 pub struct MemBay<'a, D: Disk> {
-    disks: Vec<Option<D>>,
+    disks: Vec<Option<Disks<D>>>,
     schedule: Schedule<'a>,
 }
 
 impl<'a, D: Disk + Drop + Send> MemBay<'a, D> {
     /// These disks, all of them at home.
-    pub fn new(disks: Vec<Option<D>>, failing: &'a [u64]) -> Self
+    pub fn new(disks: Vec<Option<Disks<D>>>, failing: &'a [u64]) -> Self
         ensures owners { ⟦<MemBay<'a, D> as Bay>⟧.owners result ≡ length disks.items }
-        ensures shelf { (n : ℕ) → ⟦<MemBay<'a, D> as Bay>⟧.shelf result n ≡ shelf_of
-            (λ disk. record { trace = D.trace disk; faults = D.faults disk }) disks.items n }
+        ensures shelf { (n : ℕ) → ⟦<MemBay<'a, D> as Bay>⟧.shelf result n ≡ shelf_of (stored_of D.trace D.faults) disks.items n }
         ensures faults { ⟦<MemBay<'a, D> as Bay>⟧.faults result ≡ 0 }
         ensures calls { (schedule_of result).calls ≡ 0 }
         ensures failing { (schedule_of result).failing.now ≡ failing.now }
@@ -55,48 +56,47 @@ impl<D: Disk + Drop + Send> Bay for MemBay<'_, D> {
 
     ghost owners = { λ bay. length bay.disks.items };
 
-    ghost shelf = { λ bay. shelf_of (λ disk. record { trace = D.trace disk; faults = D.faults disk }) bay.disks.items };
+    ghost shelf = { λ bay. shelf_of (stored_of D.trace D.faults) bay.disks.items };
 
     ghost faults = { λ bay. bay.schedule.faults };
 
-    fn take(&mut self, owner: u32) -> Result<D, Failed>
+    fn take(&mut self, owner: u32) -> Result<Disks<D>, Failed>
         requires owner { owner < length (disks_of self.old) }
-        requires home { IsSome (shelf_of (λ disk. record { trace = D.trace disk; faults = D.faults disk }) (disks_of self.old) owner) }
+        requires home { IsSome (shelf_of (stored_of D.trace D.faults) (disks_of self.old) owner) }
 
         ensures began { schedule_of self.new ≡ began (schedule_of self.old) }
         ensures listed { is_err result ≡ is_listed (schedule_of self.old) }
 
         // As of any bay.
-        ensures given { IfOk result (λ disk. shelf_of (λ disk. record { trace = D.trace disk; faults = D.faults disk }) (disks_of self.old) owner ≡ Some
-            (record { trace = D.trace disk; faults = D.faults disk })) }
-        ensures taken { OnOk result (Changes owner None (shelf_of (λ disk. record { trace = D.trace disk; faults = D.faults disk }) (disks_of self.old))
-            (shelf_of (λ disk. record { trace = D.trace disk; faults = D.faults disk }) (disks_of self.new))) }
-        ensures err { OnErr result (Same (shelf_of (λ disk. record { trace = D.trace disk; faults = D.faults disk }) (disks_of self.old))
-            (shelf_of (λ disk. record { trace = D.trace disk; faults = D.faults disk }) (disks_of self.new))) }
+        ensures given { IfOk result (λ disks. shelf_of (stored_of D.trace D.faults) (disks_of self.old) owner ≡ Some (stored_of D.trace D.faults disks)) }
+        ensures taken { OnOk result (Changes owner None (shelf_of (stored_of D.trace D.faults) (disks_of self.old))
+            (shelf_of (stored_of D.trace D.faults) (disks_of self.new))) }
+        ensures err { OnErr result (Same (shelf_of (stored_of D.trace D.faults) (disks_of self.old))
+            (shelf_of (stored_of D.trace D.faults) (disks_of self.new))) }
         ensures owners { length (disks_of self.new) ≡ length (disks_of self.old) }
         ensures cause { HasCause (schedule_of self.old).faults (schedule_of self.new).faults (IsErr result) }
         ensures passed { OnOk result ((schedule_of self.new).faults ≡ (schedule_of self.old).faults) }
     {
         begin(&mut self.schedule)?;
         match self.disks[owner as usize].take() {
-            Some(disk) => Ok(disk),
+            Some(disks) => Ok(disks),
             None => Err(Failed),
         }
     }
 
-    fn put_back(&mut self, owner: u32, disk: D)
+    fn put_back(&mut self, owner: u32, disks: Disks<D>)
         requires owner { owner < length (disks_of self.old) }
-        requires taken { shelf_of (λ disk. record { trace = D.trace disk; faults = D.faults disk }) (disks_of self.old) owner ≡ None }
+        requires taken { shelf_of (stored_of D.trace D.faults) (disks_of self.old) owner ≡ None }
 
         ensures same { schedule_of self.new ≡ schedule_of self.old }
 
         // As of any bay.
-        ensures home { Changes owner (Some (record { trace = D.trace disk; faults = D.faults disk }))
-            (shelf_of (λ disk. record { trace = D.trace disk; faults = D.faults disk }) (disks_of self.old))
-            (shelf_of (λ disk. record { trace = D.trace disk; faults = D.faults disk }) (disks_of self.new)) }
+        ensures home { Changes owner (Some (stored_of D.trace D.faults disks))
+            (shelf_of (stored_of D.trace D.faults) (disks_of self.old))
+            (shelf_of (stored_of D.trace D.faults) (disks_of self.new)) }
         ensures owners { length (disks_of self.new) ≡ length (disks_of self.old) }
         ensures passed { (schedule_of self.new).faults ≡ (schedule_of self.old).faults }
     {
-        self.disks[owner as usize] = Some(disk);
+        self.disks[owner as usize] = Some(disks);
     }
 }

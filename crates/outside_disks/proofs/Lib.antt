@@ -4,4 +4,5 @@ pub mod Overlaid
 pub mod Pools
 pub mod Stops
 mod StopExamples
+mod StoredExamples
 pub mod Told

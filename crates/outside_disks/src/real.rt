@@ -40,6 +40,15 @@ const FILE_MODE: u32 = 0o600;
 
 const FOLDER_MODE: u32 = 0o700;
 
+// What was found where a file belongs.
+#[derive(Drop)]
+enum Found {
+    File(fs::File),
+    Nothing,
+    // something that can't be opened
+    Broken,
+}
+
 /// A file that is read and written. Where it isn't there it is an empty one, and its first write makes it and its folder.
 ///
 /// It is locked for as long as it is open, so that no other process has it open as a disk. Such a lock ends with the process.
@@ -47,7 +56,7 @@ const FOLDER_MODE: u32 = 0o700;
 pub struct FileDisk<'a, R> {
     rt: &'a R,
     home: FilePlace,
-    file: Option<fs::File>,
+    found: Found,
 }
 
 // A file for this process alone, or the error that says that another one has it.
@@ -77,7 +86,22 @@ impl<'a, R: rt::Files<File = fs::File>> FileDisk<'a, R> {
     pub fn new(rt: &'a R, home: FilePlace, file: Option<fs::File>) -> Self
         ensures { ⟦<FileDisk<'a, R> as Disk>⟧.faults result ≡ home.faults }
     {
-        FileDisk { rt, home, file }
+        let found = match file {
+            Some(file) => Found::File(file),
+            None => Found::Nothing,
+        };
+        FileDisk { rt, home, found }
+    }
+
+    /// The disk of a place whose file can't be opened: each of its calls fails.
+    pub fn broken(rt: &'a R, home: FilePlace) -> Self
+        ensures { ⟦<FileDisk<'a, R> as Disk>⟧.faults result ≡ home.faults }
+    {
+        FileDisk {
+            rt,
+            home,
+            found: Found::Broken,
+        }
     }
 
     /// Closes the file.
@@ -88,10 +112,18 @@ impl<'a, R: rt::Files<File = fs::File>> FileDisk<'a, R> {
     }
 }
 
-fn length_of(file: &Option<fs::File>) -> io::Result<u64> {
-    match file {
-        Some(file) => Ok(file.metadata()?.len()),
-        None => Ok(0),
+// Why a call fails of what can't be opened. No memory is taken.
+fn unopened<T>() -> io::Result<T>
+    ensures { IsErr result }
+{
+    Err(ErrorKind::Other.into())
+}
+
+fn length_of(found: &Found) -> io::Result<u64> {
+    match found {
+        Found::File(file) => Ok(file.metadata()?.len()),
+        Found::Nothing => Ok(0),
+        Found::Broken => unopened(),
     }
 }
 
@@ -109,13 +141,14 @@ fn read_whole(file: &fs::File, place: u64, buf: &mut [u8]) -> io::Result<()> {
     Ok(())
 }
 
-fn read_from(file: &Option<fs::File>, place: u64, buf: &mut [u8]) -> io::Result<()> {
-    match file {
-        Some(file) => read_whole(file, place, buf),
-        None => {
+fn read_from(found: &Found, place: u64, buf: &mut [u8]) -> io::Result<()> {
+    match found {
+        Found::File(file) => read_whole(file, place, buf),
+        Found::Nothing => {
             buf.fill(0);
             Ok(())
         }
+        Found::Broken => unopened(),
     }
 }
 
@@ -158,23 +191,24 @@ fn write_whole(file: &fs::File, place: u64, bytes: &[u8]) -> io::Result<()> {
 fn write_to<R: rt::Files<File = fs::File>>(
     rt: &R,
     home: &FilePlace,
-    file: &mut Option<fs::File>,
+    found: &mut Found,
     place: u64,
     bytes: &[u8],
 ) -> io::Result<()> {
-    if file.is_none() {
-        *file = Some(make(rt, home)?);
+    if matches!(found, Found::Nothing) {
+        *found = Found::File(make(rt, home)?);
     }
-    match file {
-        Some(file) => write_whole(file, place, bytes),
-        None => Err(ErrorKind::NotFound.into()),
+    match found {
+        Found::File(file) => write_whole(file, place, bytes),
+        _ => unopened(),
     }
 }
 
-fn sync_whole(file: &Option<fs::File>) -> io::Result<()> {
-    match file {
-        Some(file) => file.sync_data(),
-        None => Ok(()),
+fn sync_whole(found: &Found) -> io::Result<()> {
+    match found {
+        Found::File(file) => file.sync_data(),
+        Found::Nothing => Ok(()),
+        Found::Broken => unopened(),
     }
 }
 
@@ -189,13 +223,9 @@ fn is_at<R: rt::Files<File = fs::File>>(
 }
 
 // An error where the path leads to another file or to none. No memory is taken.
-fn look<R: rt::Files<File = fs::File>>(
-    rt: &R,
-    home: &FilePlace,
-    file: &Option<fs::File>,
-) -> io::Result<()> {
-    match file {
-        Some(file) if is_at(rt, home, file)? => Ok(()),
+fn look<R: rt::Files<File = fs::File>>(rt: &R, home: &FilePlace, found: &Found) -> io::Result<()> {
+    match found {
+        Found::File(file) if is_at(rt, home, file)? => Ok(()),
         _ => Err(ErrorKind::NotFound.into()),
     }
 }
@@ -216,24 +246,27 @@ impl<R: rt::Files<File = fs::File>> Disk for FileDisk<'_, R> {
     ghost faults = { λ disk. disk.home.faults };
 
     fn len(&mut self) -> Result<u64, Failed> {
-        count(length_of(&self.file), &mut self.home.faults)
+        count(length_of(&self.found), &mut self.home.faults)
     }
 
     fn read_at(&mut self, place: u64, buf: &mut [u8]) -> Result<(), Failed> {
-        count(read_from(&self.file, place, buf), &mut self.home.faults)
+        count(read_from(&self.found, place, buf), &mut self.home.faults)
     }
 
     fn write_at(&mut self, place: u64, bytes: &[u8]) -> Result<(), Failed> {
-        let written = write_to(self.rt, &self.home, &mut self.file, place, bytes);
+        let written = write_to(self.rt, &self.home, &mut self.found, place, bytes);
         count(written, &mut self.home.faults)
     }
 
     fn sync(&mut self) -> Result<(), Failed> {
-        count(sync_whole(&self.file), &mut self.home.faults)
+        count(sync_whole(&self.found), &mut self.home.faults)
     }
 
     fn is_in_place(&mut self) -> Result<(), Failed> {
-        count(look(self.rt, &self.home, &self.file), &mut self.home.faults)
+        count(
+            look(self.rt, &self.home, &self.found),
+            &mut self.home.faults,
+        )
     }
 
     fn fault_count(&self) -> u64 {

@@ -1,13 +1,39 @@
 -- what may become of the owners' disks
-use Rattle.std.proofs.Common.{◌≡◌, ℕ, ◌+◌, ◌<◌, ◌≤◌, Some, refl, sym, ◌∙◌, ap, subst, arith}
+use Rattle.std.proofs.Common.{◌≡◌, ℕ, ◌+◌, ◌<◌, ◌≤◌, Option, Some, None, refl, sym, ◌∙◌, ap, subst, arith}
 use mathlib.Core.Logic.{◌⊎◌, inl, inr}
 use Rattle.std.proofs.lemmas.Bool.{cases_lt}
 use Rattle.fz_outside.specs.Faults.{HasRisen}
 use Rattle.outside_disks.specs.Disks.{Shown}
-use Rattle.owner_books.specs.Shelves.{Shelf, EachDisk, IsOnlySynced, NothingWritten, OneDisk, StandsStill}
+use Rattle.outside_disks.specs.Stored.{EachTwin, Stored, Twins}
+use Rattle.budget_ledger.specs.Both.{IsLeft}
+use Rattle.owner_books.specs.Shelves.{AreSynced, BothGo, EachDisk, IsOnlySynced, IsStanding, IsUnwritten, NothingWritten, OneDisk, OneStands, Shelf, StandsStill}
 
-pub synced_same : (shown : Shown) → IsOnlySynced shown shown
-synced_same shown = record { synced = inl refl; counts = omega arith }
+pub left_same : (shown : Shown) → IsLeft shown shown
+left_same shown = record { synced = inl refl; counts = omega arith }
+
+both_same : (twins : Option Twins) → BothGo AreSynced twins twins
+both_same None = tt
+both_same (Some twins) = (inl (left_same twins.first), inl (left_same twins.second))
+
+pub synced_same : (stored : Stored) → IsOnlySynced stored stored
+synced_same stored = record { synced = inl refl; counts = omega arith; twins = both_same stored.twins }
+
+-- what wasn't written at all was only synced
+each_synced : (before after : Option Twins) → EachTwin IsLeft before after → BothGo AreSynced before after
+each_synced None None left = tt
+each_synced (Some before) (Some after) left = (inl left.0, inl left.1)
+each_synced None (Some after) left = absurd left
+each_synced (Some before) None left = absurd left
+
+pub unwritten_synced : (before after : Stored) → IsUnwritten before after → IsOnlySynced before after
+unwritten_synced before after left = record { synced = left.synced; counts = left.counts; twins = each_synced before.twins after.twins left.twins }
+
+each_same : (twins : Option Twins) → EachTwin IsLeft twins twins
+each_same None = tt
+each_same (Some twins) = (left_same twins.first, left_same twins.second)
+
+pub unwritten_same : (stored : Stored) → IsUnwritten stored stored
+unwritten_same stored = record { synced = inl refl; counts = omega arith; twins = each_same stored.twins }
 
 -- disks that weren't taken
 pub became_same : (n : ℕ) (shelf : Shelf) → EachDisk n (λ _. IsOnlySynced) shelf shelf
@@ -20,24 +46,37 @@ nothing_same shelf o before at = (before, at, synced_same before)
 pub nothing_written : (n : ℕ) (b a : Shelf) → EachDisk n (λ _. IsOnlySynced) b a → NothingWritten b a
 nothing_written n b a each o before at = here (cases_lt o n)
   where
-    here : (o < n) ⊎ (n ≤ o) → (now : Shown) × (a o ≡ Some now) × IsOnlySynced before now
+    here : (o < n) ⊎ (n ≤ o) → (now : Stored) × (a o ≡ Some now) × IsOnlySynced before now
     here (inl less) = each.owned o before less at
     here (inr past) = (before, each.others o past ∙ at, synced_same before)
 
 -- a disk that is as it was
-pub one_same : (o : ℕ) (Goes : Shown → Shown → Type 0) (shelf : Shelf) → ((before : Shown) → Goes before before) → OneDisk o Goes shelf shelf
+pub one_same : (o : ℕ) (Goes : Stored → Stored → Type 0) (shelf : Shelf) → ((before : Stored) → Goes before before) → OneDisk o Goes shelf shelf
 one_same o Goes shelf goes = record { here = λ before at. (before, at, goes before); elsewhere = λ p isnt. refl }
 
+pub one_more : (o : ℕ) (Goes More : Stored → Stored → Type 0) (old new : Shelf) → ((before after : Stored) → Goes before after → More before after) → OneDisk o Goes old new → OneDisk o More old new
+one_more o Goes More old new more one = record {
+  here = λ before at. let is = one.here before at in (is.0, is.1, more before is.0 is.2);
+  elsewhere = one.elsewhere;
+}
+
 -- the count of a disk that is as it was, or of which it is known what it shows
+both_stand : (twins : Option Twins) → BothGo OneStands twins twins
+both_stand None = tt
+both_stand (Some twins) = inl refl
+
+pub standing_same : (stored : Stored) → IsStanding stored stored
+standing_same stored = (refl, both_stand stored.twins)
+
 pub same_still : (o : ℕ) (old new : Shelf) → new o ≡ old o → StandsStill o old new
 same_still o old new same before after was is =
-    let one : after ≡ before = let e : Some after ≡ Some before = sym is ∙ same ∙ was in cc e in
-    ap (λ (s : Shown). s.faults) one
+    let one : before ≡ after = let e : Some before ≡ Some after = sym was ∙ sym same ∙ is in cc e in
+    subst (IsStanding before) one (standing_same before)
 
-pub shown_still : (o : ℕ) (old new : Shelf) (last : Shown) → new o ≡ Some last → ((before : Shown) → old o ≡ Some before → last.faults ≡ before.faults) → StandsStill o old new
+pub shown_still : (o : ℕ) (old new : Shelf) (last : Stored) → new o ≡ Some last → ((before : Stored) → old o ≡ Some before → IsStanding before last) → StandsStill o old new
 shown_still o old new last shows counts before after was is =
     let one : last ≡ after = let e : Some last ≡ Some after = sym shows ∙ is in cc e in
-    subst (λ (s : Shown). s.faults ≡ before.faults) one (counts before was)
+    subst (IsStanding before) one (counts before was)
 
 -- counts that rose at last, or in between, have risen since before
 pub risen_from : (old mid late new : ℕ) → old ≤ mid → mid ≤ late → late ≤ new → HasRisen mid late → HasRisen old new

@@ -29,8 +29,7 @@ pub record IsMade (header : Header) (before after : Stored) : Type 0 where
 
 -- Nothing was done to two disks. Of the first this is said where the second tells what it holds.
 abbrev pub AreUntouched : Twins → Twins → Type 0
-AreUntouched before after = (before.first.faults ≤ after.first.faults) × IsUntouched before.second after.second
-    × IfSome before.second.trace (λ t. IsUntouched before.first after.first)
+AreUntouched before after = IsUntouched before.second after.second × IfSome before.second.trace (λ t. IsUntouched before.first after.first)
 
 -- Nothing was written to the disk, nor to one of two.
 pub record IsNotMade (before after : Stored) : Type 0 where
@@ -39,10 +38,10 @@ pub record IsNotMade (before after : Stored) : Type 0 where
   pub twins : BothGo AreUntouched before.twins after.twins
 
 -- The disk at hand where the making was ended, or the two: nothing was written, or a count rose. Then a file may hold anything, and is
--- given up.
+-- given up. Two stay two.
 abbrev pub MayHaveFailed : (before after : Stored) → Type 0
 MayHaveFailed before after = (before.faults ≤ after.faults) × (IsNotMade before after ⊎ HasCountRisen before after)
-    × EachTwin (λ b a. b.faults ≤ a.faults) before.twins after.twins
+    × BothGo (λ b a. ⊤) before.twins after.twins
 
 -- The journals of the owners before this one are made, its disk went on like this, and those behind it are as they were.
 pub record AreMadeBefore (loading : Loading) (key : List ℕ) (o : ℕ) (Goes : Stored → Stored → Type 0) (old new : Shelf) : Type 0 where

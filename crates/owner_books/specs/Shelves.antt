@@ -8,7 +8,7 @@ use Rattle.outside_disks.specs.Stored.{EachTwin, HasCountRisen, Stored, Twins}
 use Rattle.journal_records.specs.declared.records.Header.{Header}
 use Rattle.journal_records.specs.declared.records.Record.{Record}
 use Rattle.budget_journal.specs.Journals.{IsAtRest, MayHaveSynced, Stands}
-use Rattle.budget_ledger.specs.Both.{HasFailedBoth, HoldsBytes, IsLeft}
+use Rattle.budget_ledger.specs.Both.{HaveFailed, HoldsBytes, IsLeft}
 use Rattle.owner_catalog.specs.Limits.{owner_limit}
 
 -- what each owner's disks show while they are at home, by the owner's number
@@ -111,10 +111,13 @@ pub record IsUnwritten (before after : Stored) : Type 0 where
 abbrev pub OneStands : Twins → Twins → Type 0
 OneStands before after = (after.first.faults ≡ before.first.faults) ⊎ (after.second.faults ≡ before.second.faults)
 
--- the count of faults of an owner's disk stands still, or of its two disks that of one
+-- the count of one disk stands still, or of two that of one
+abbrev pub IsStanding : (before after : Stored) → Type 0
+IsStanding before after = (after.faults ≡ before.faults) × BothGo OneStands before.twins after.twins
+
+-- so it is of an owner's
 abbrev pub StandsStill : (o : ℕ) → (old new : Shelf) → Type 0
-StandsStill o old new = (before after : Stored) → old o ≡ Some before → new o ≡ Some after
-    → (after.faults ≡ before.faults) × BothGo OneStands before.twins after.twins
+StandsStill o old new = (before after : Stored) → old o ≡ Some before → new o ≡ Some after → IsStanding before after
 
 -- no other owner's disk has a count that rose, nor have both of another owner's two
 abbrev pub NoOtherRose : (o : ℕ) → (old new : Shelf) → Type 0
@@ -126,7 +129,7 @@ SomeRose old new = (o : ℕ) × (before : Stored) × (after : Stored) × (old o 
 
 -- both failed, or one whose other is empty
 abbrev pub AreGone : Option Twins → Option Twins → Type 0
-AreGone (Some before) (Some after) = HasFailedBoth before after
+AreGone (Some before) (Some after) = HaveFailed before after
 AreGone before after = ⊥
 
 -- The one disk's count rose, or of two disks none is left.
