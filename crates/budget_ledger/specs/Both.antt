@@ -162,8 +162,8 @@ Tells header version records shown = TellsSome (λ t. Stands (record header { ve
 -- Two disks of which one list begins the other, and the longer may follow, are refused for the disks or for want of memory alone.
 abbrev pub BothOpenWhatStands : Type 0
 BothOpenWhatStands = (entry : Entry) (header : Header) (before after : Twins) (v w : ℕ) (a b : List Record)
-    → Tells header v a before.first → Tells header w b before.second → AgreeOnCost v w → IsPrefix a b ⊎ IsPrefix b a
-    → IsHistory (record entry { version = v }) a → IsHistory (record entry { version = w }) b
+    → Tells header v a before.first → Tells header w b before.second → AgreeOnCost v w
+    → (IsPrefix b a × IsHistory (record entry { version = v }) a) ⊎ (IsPrefix a b × IsHistory (record entry { version = w }) b)
     → (fault : BothFault) → IsBothFault entry header before after fault → (fault ≡ Refused DiskFault) ⊎ (fault ≡ Refused NoMemory)
 
 -- its count of faults stood still below its last value
