@@ -137,6 +137,7 @@ module _ (header : Header) (found : List Record) (next : Record) (bytes : List �
   may_be_left = record {
     images = passes-none (IsBeforeOrAfter header found next) (record { start = bytes; steps = Synced ∷ [] }) (λ c is. inl (subst (Stands header found) (sym is) stands));
     appended = λ none. absurd none;
+    twins = inl tt;
   }
 
   not_appended : MayHaveGained header found next ⊤ at_home (opened bytes) → ⊥

@@ -79,6 +79,7 @@ keeps_found owner draws header found before now of history stands synced =
       stands = still_stands header found before.trace now.trace synced.synced stands;
       images = synced_images before.trace now.trace synced.synced;
       since = since_synced header found before.trace now.trace synced.synced stands;
+      twins = synced.twins;
       owed = lawful_owed owner draws found found within (lawful_found owner draws found (record { history = history; within = within }));
       backed = λ programs explained.
           well_backed owner draws found programs found of within (well_found owner draws found programs (record { history = history; within = within; explained = explained }));
@@ -183,7 +184,7 @@ module _ (one : KeyedOwner) (amount : ℕ) (valid : IsAmount amount) (b a : Shel
   kept_so : (whole ≡ code.Done → ⊥) → OneDisk one.number IsOnlySynced b a → IsLeft
   kept_so isnt disk = inr (not_done whole status by isnt, one_kept one b a disk)
 
-  made_so : (version : ℕ) (found : List Record) → IsOpened (entry_in one version) (header_in one version) (bytes_on b one.number) found → IsOk (verdict_on one version found amount)
+  made_so : (version : ℕ) (found : List Record) → IsOpened (entry_in one version) (header_in one version) (b one.number) (a one.number) found → IsOk (verdict_on one version found amount)
       → IfFinished whole (whole ≡ code.Done) → OneDisk one.number (MayHaveGained (header_in one version) found (Grant (grant_behind found amount)) (status ≡ code.Done)) b a → IsLeft
   made_so version found opened allowed ends disk = inl (record {
     version = version;

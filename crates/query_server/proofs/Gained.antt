@@ -64,10 +64,12 @@ module _ (entry : Entry) (header : Header) (found : List Record) (next : Record)
   gained went = record {
     images = told_weaker (IsMoment header found (found ++ next ∷ []) None) (IsBeforeOrAfter header found next) was_appended (noted Synced before.trace) after.trace went.moments;
     appended = λ is. went.kept;
+    twins = inl went.twins;
   }
 
   pub may_have_gained : (failure : Failure) → failure.pending ≡ next → (Appended → ⊥) → WentOn entry header found found (Some failure) before after → MayHaveGained header found next Appended before after
   may_have_gained failure which isnt went = record {
     images = told_weaker (IsMoment header found found (Some failure)) (IsBeforeOrAfter header found next) (has_failed failure which) (noted Synced before.trace) after.trace went.moments;
     appended = λ is. absurd (isnt is);
+    twins = inr (isnt, failure, which, went.twins);
   }

@@ -11,7 +11,7 @@ use Rattle.budget_journal.specs.Journals.{Found, Stands}
 use Rattle.budget_core.specs.Entries.{Entry}
 use Rattle.budget_ledger.specs.Account.{Account, AreCopies, Copies, Copy, CopyWent, CopyWentBy, HasShut, Held, HeldWent, IsCopy, IsInUse, Storage}
 use Rattle.budget_ledger.specs.Both.{IsLeft, IsOpenedBoth, IsOpenedCopy, IsReading, Make, Reading, copy_read}
-use Rattle.budget_ledger.specs.Both.Reading.{Gone, Has, Unfit}
+use Rattle.budget_ledger.specs.Both.Reading.{Missing, Holding, Unfit}
 use Rattle.budget_ledger.specs.declared.failure.Failure.{Failure}
 use Rattle.budget_ledger.proofs.Wents.{held_then}
 use Rattle.owner_books.specs.Opened.{AreFoundOn, OfTwo}
@@ -41,13 +41,13 @@ copy_then a b c (Some x) (Some y) (Some z) p q = held_then a b c x y z p q
 
 -- what was found on it, and how it went on from there
 pub copy_on : (header : Header) (before : Shown) (reading : Reading) (opened later : Copy) → IsOpenedCopy header before reading opened → CopyWent opened later → IsOpenedCopy header before reading later
-copy_on header before (Gone empty) opened later (none, gone, left) went =
+copy_on header before (Missing empty) opened later (none, gone, left) went =
     let stays = gone_stays opened.shown later.shown opened.held later.held went none in (
       stays.1,
-      subst (λ (s : Shown). IsReading header before s (Gone empty)) (sym stays.0) gone,
+      subst (λ (s : Shown). IsReading header before s (Missing empty)) (sym stays.0) gone,
       subst (IsLeft before) (sym stays.0) left,
     )
-copy_on header before (Has version records) opened later (read, found, first) went = (
+copy_on header before (Holding version records) opened later (read, found, first) went = (
   read,
   found,
   copy_then (record { trace = read; faults = before.faults }) opened.shown later.shown
@@ -58,15 +58,15 @@ copy_on header before (Unfit fault) opened later wrong went = absurd wrong
 -- where an append to it failed, its count rose
 pub copy_risen : (header : Header) (before : Shown) (reading : Reading) (copy : Copy) → IsOpenedCopy header before reading copy → (held : Held) (failure : Failure) → copy.held ≡ Some held → held.closed ≡ Some failure
     → HasRisen before.faults copy.shown.faults
-copy_risen header before (Gone empty) copy (none, gone, left) held failure is closed = let both : None ≡ Some held = sym none ∙ is in cc both
-copy_risen header before (Has version records) copy (read, found, went) held failure is closed =
+copy_risen header before (Missing empty) copy (none, gone, left) held failure is closed = let both : None ≡ Some held = sym none ∙ is in cc both
+copy_risen header before (Holding version records) copy (read, found, went) held failure is closed =
     ((held_on (record { trace = read; faults = before.faults }) copy.shown (record { header = record header { version = version }; has = records; closed = None }) copy.held held went is).failed failure refl closed).0
 copy_risen header before (Unfit fault) copy wrong held failure is closed = absurd wrong
 
 -- and where none failed, it stands still
 pub copy_still : (header : Header) (before : Shown) (reading : Reading) (copy : Copy) → IsOpenedCopy header before reading copy → IsInUse copy → copy.shown.faults ≡ before.faults
-copy_still header before (Gone empty) copy (none, gone, left) (held, is, closed) = let both : None ≡ Some held = sym none ∙ is in cc both
-copy_still header before (Has version records) copy (read, found, went) (held, is, closed) =
+copy_still header before (Missing empty) copy (none, gone, left) (held, is, closed) = let both : None ≡ Some held = sym none ∙ is in cc both
+copy_still header before (Holding version records) copy (read, found, went) (held, is, closed) =
     (held_on (record { trace = read; faults = before.faults }) copy.shown (record { header = record header { version = version }; has = records; closed = None }) copy.held held went is).«open» closed
 copy_still header before (Unfit fault) copy wrong used = absurd wrong
 
@@ -147,8 +147,8 @@ told_stands header found (Some t) None f = absurd f
 told_stands header found (Some t) (Some u) (is, rest) = subst (λ (w : Trace). Stands header found (seen_of w)) is rest.stands
 
 pub reading_so : (header : Header) (before : Shown) (reading : Reading) (copy : Copy) → IsOpenedCopy header before reading copy → IsReading header before copy.shown reading
-reading_so header before (Gone empty) copy (none, gone, left) = gone
-reading_so header before (Has version records) copy (read, found, went) = told_stands (record header { version = version }) records before.trace read found
+reading_so header before (Missing empty) copy (none, gone, left) = gone
+reading_so header before (Holding version records) copy (read, found, went) = told_stands (record header { version = version }) records before.trace read found
 reading_so header before (Unfit fault) copy wrong = absurd wrong
 
 pub found_on : (header : Header) (found records : List Record) (closed : Option Failure) (before after : Twins) → BothWentOn header found records closed before after → AreFoundOn header found before after

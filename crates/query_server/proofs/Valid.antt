@@ -35,6 +35,7 @@ use Rattle.query_server.specs.declared.end.Status.TheVariants as code
 use Rattle.catalog_loading.specs.declared.stops.Stop.TheVariants.{Fault}
 use Rattle.query_server.proofs.Contents.{for_contents}
 use Rattle.query_server.proofs.Outcomes.{Comes, due_status, finished_due}
+use Rattle.budget_ledger.proofs.BothOpens.{both_stand}
 use Rattle.owner_books.proofs.Unopened.{not_refused}
 
 -- ---- journals that are there
@@ -63,7 +64,7 @@ not_fork k (inr is) = cc
 both_opened : (entry : Entry) (header : Header) (before now : Twins) → HoldTheSame entry header before → (fault : BothFault) → IsBothFault entry header before now fault
     → (fault ≡ Refused open_fault.DiskFault) ⊎ (fault ≡ Refused open_fault.NoMemory)
 both_opened entry header before now h fault =
-    both_open_what_stands entry header before now h.version h.other h.records h.others h.first h.second h.agree h.begins h.history h.also fault
+    both_stand entry header before now h.version h.other h.records h.others h.first h.second h.agree h.longer fault
 
 both_unrefused : (entry : Entry) (header : Header) (before now : Twins) (refusal : JournalRefusal) → HoldTheSame entry header before → AreBothUnopened entry header refusal before now → ⊥
 both_unrefused entry header before now (Uninitialised n) h is = not_length n (both_opened entry header before now h (Refused (open_fault.NotInitialised n)) is)

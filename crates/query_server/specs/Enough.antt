@@ -8,7 +8,7 @@ use Rattle.journal_records.specs.declared.records.Header.{Header}
 use Rattle.journal_records.specs.declared.records.Record.{Record}
 use Rattle.budget_journal.specs.Journals.{IsAtRest, Stands}
 use Rattle.budget_ledger.specs.Both.{IsLeft, Reading, StoodStill}
-use Rattle.budget_ledger.specs.Both.Reading.{Gone, Has, Unfit}
+use Rattle.budget_ledger.specs.Both.Reading.{Missing, Holding, Unfit}
 use Rattle.budget_ledger.specs.declared.failure.Failure.{Failure}
 use Rattle.wire_lines.specs.Reply.{refused as refused_reply}
 use Rattle.wire_lines.specs.Refusal.{by_disk}
@@ -38,19 +38,19 @@ StandsForFirst header had records bytes = (g : List Record) × IsPrefix had g ×
 
 -- So does each file that a stop may have left of a disk since its journal was opened, which synced it. A disk that was gone was only synced.
 abbrev pub LeavesFirst : Header → (records : List Record) → (before after : Shown) → Reading → Type 0
-LeavesFirst header records before after (Has version had) =
+LeavesFirst header records before after (Holding version had) =
     WhereTold (Passes (StandsForFirst (record header { version = version }) had records)) (noted Synced before.trace) after.trace
-LeavesFirst header records before after (Gone empty) = IsLeft before after
+LeavesFirst header records before after (Missing empty) = IsLeft before after
 LeavesFirst header records before after (Unfit fault) = ⊥
 
 -- And now a stop leaves all records, and nothing else.
 abbrev pub LeavesAll : Header → (records : List Record) → (after : Shown) → Reading → Type 0
-LeavesAll header records after (Has version had) = IfSome after.trace (IsAtRest (record header { version = version }) records)
+LeavesAll header records after (Holding version had) = IfSome after.trace (IsAtRest (record header { version = version }) records)
 LeavesAll header records after reading = ⊥
 
 -- One of two disks wasn't empty as its journal was opened, and its count of faults stands still since before that, below its last value.
 abbrev pub IsSound : (before after : Shown) → Reading → Type 0
-IsSound before after reading = StoodStill before after × (reading ≡ Gone true → ⊥)
+IsSound before after reading = StoodStill before after × (reading ≡ Missing true → ⊥)
 
 -- Then no ask is refused for the disks, and it has all records; and the other has first ones of the same.
 abbrev pub IsEnough : House → (o : ℕ) → List Exchange → Header → (records : List Record) → (before after other_before other_after : Shown)

@@ -1,5 +1,5 @@
 -- What an owner keeps where nothing is written to its disk, or a grant alone.
-use Rattle.std.specs.Prelude.{◌≡◌, ◌⊎◌, ℕ, List, [], ◌∷◌, ◌++◌, length, slice_get, Some, IfSome, IsOk}
+use Rattle.std.specs.Prelude.{◌≡◌, ◌⊎◌, ℕ, List, [], ◌∷◌, ◌++◌, length, slice_get, Some, None, IfSome, IsOk}
 use Rattle.word_streams.specs.Draws.{draws_of}
 use Rattle.outside_disks.specs.Disks.{IsImageOf, Passes, WhereTold, noted, seen_of}
 use Rattle.outside_disks.specs.Stored.{Stored}
@@ -10,15 +10,17 @@ use Rattle.journal_records.specs.declared.records.Record.TheVariants.{Grant}
 use Rattle.budget_journal.specs.Journals.{IsAtRest, IsBeforeOrAfter, Stands}
 use Rattle.budget_core.specs.Granting.{grant_behind}
 use Rattle.budget_core.specs.Legal.{MayFollow}
+use Rattle.budget_ledger.specs.declared.failure.Failure.{Failure}
 use Rattle.owner_house.specs.Owner.{HasData, Owner}
 use Rattle.owner_catalog.specs.Limits.{owner_limit}
 use Rattle.generated_run.specs.OwnerHistory.Explains.{Explains}
 use Rattle.generated_run.specs.OwnerHistory.Sound.{IsBacked, IsOwed}
 use Rattle.catalog_loading.specs.Loaded.{KeyedOwner, Loading, entry_at, header_of, in_versions}
-use Rattle.owner_books.specs.Shelves.{OneDisk, Shelf}
+use Rattle.owner_books.specs.Shelves.{AreSynced, BothGo, OneDisk, Shelf}
 use Rattle.owner_books.specs.Opened.{IsOpened, house_in}
 use Rattle.query_server.specs.Grant.{entry_in, header_in, verdict_on}
 use Rattle.query_server.specs.Due.{IfFinished}
+use Rattle.query_server.specs.Mirrors.{TwinsWentOn}
 use Rattle.query_server.specs.declared.end.Status.{Status}
 use Rattle.query_server.specs.declared.end.Status.TheVariants.{Done}
 
@@ -30,6 +32,8 @@ pub record KeepsFound (owner : Owner) (draws : ℕ → ℕ → ℕ) (header : He
   -- journal's opening does, each stands for the records
   pub images : WhereTold (λ t. Passes (IsImageOf t) t) before.trace after.trace
   pub since : (after.trace ≡ before.trace) ⊎ WhereTold (Passes (Stands header found)) (noted Synced before.trace) after.trace
+  -- of two disks each was synced, or got what it lacked of the other's records
+  pub twins : BothGo AreSynced before.twins after.twins
   pub owed : IsOwed owner found found
   pub backed : (programs : List (List ℕ)) → Explains owner draws programs found → IsBacked owner draws found programs found
 
@@ -51,6 +55,9 @@ IsKept one old new = OneDisk one.number (λ before after. (version : ℕ) (owner
 pub record MayHaveGained (header : Header) (found : List Record) (next : Record) (Appended : Type 0) (before after : Stored) : Type 0 where
   pub images : WhereTold (Passes (IsBeforeOrAfter header found next)) (noted Synced before.trace) after.trace
   pub appended : Appended → IfSome after.trace (IsAtRest header (found ++ next ∷ []))
+  -- two disks say this each for itself: the book has it, or was closed by its append
+  pub twins : TwinsWentOn header found (found ++ next ∷ []) None before.twins after.twins
+      ⊎ ((Appended → ⊥) × (failure : Failure) × (failure.pending ≡ next) × TwinsWentOn header found found (Some failure) before.twins after.twins)
 
 -- A grant was allowed behind the records found, which it may follow, and was appended, or its append failed; every other disk is as it
 -- was.

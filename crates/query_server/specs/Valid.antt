@@ -31,7 +31,7 @@ pub record HoldsRecords (entry : Entry) (header : Header) (bytes : List ℕ) : T
   pub stands : Stands (record header { version = version }) found bytes
   pub history : IsHistory (record entry { version = version }) found
 
--- Two disks tell such journals, of which one begins the other.
+-- Two disks tell journals in such versions, of which one begins the other, and the records of that one may follow one another.
 pub record HoldTheSame (entry : Entry) (header : Header) (twins : Twins) : Type 0 where
   pub version : ℕ
   pub other : ℕ
@@ -40,9 +40,8 @@ pub record HoldTheSame (entry : Entry) (header : Header) (twins : Twins) : Type 
   pub first : Tells header version records twins.first
   pub second : Tells header other others twins.second
   pub agree : AgreeOnCost version other
-  pub begins : IsPrefix records others ⊎ IsPrefix others records
-  pub history : IsHistory (record entry { version = version }) records
-  pub also : IsHistory (record entry { version = other }) others
+  pub longer : (IsPrefix others records × IsHistory (record entry { version = version }) records)
+      ⊎ (IsPrefix records others × IsHistory (record entry { version = other }) others)
 
 -- one disk tells such a journal, or two do
 abbrev pub TellsRecords : Entry → Header → (bytes : Option (List ℕ)) → Option Twins → Type 0
