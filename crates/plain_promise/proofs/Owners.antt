@@ -25,9 +25,9 @@ use Rattle.served_sessions.proofs.Services.{disk as service_disk, speaker as ser
 use Rattle.plain_promise.specs.Calls.{IsCall, file_on, script_call, service_call}
 
 -- the journal that is opened is what the disk holds
-opens : (loading : Loading) (key : List ℕ) (shelf : Shelf) (versions : List ℕ) (found : Journals) (o : ℕ) (before : Stored) → AreOpened loading key shelf versions found → o < owners_in loading → shelf o ≡ Some before
+opens : (loading : Loading) (key : List ℕ) (old new : Shelf) (versions : List ℕ) (found : Journals) (o : ℕ) (before : Stored) → AreOpened loading key old new versions found → o < owners_in loading → old o ≡ Some before
     → IfSome (file_on before) (Stands (header_of (in_versions loading versions) key o) (found o))
-opens loading key shelf versions found o before opened within was =
+opens loading key old new versions found o before opened within was =
     let its = (opened.each o within).stands in
     subst (λ (shown : Option Stored). IfSome (option_map seen_of (option_and_then (λ (s : Stored). s.trace) shown)) (Stands (header_of (in_versions loading versions) key o) (found o))) was its
 
@@ -49,7 +49,7 @@ module _ (words : List (List ℕ)) (reads : ReadsToCome) (old new : Shelf) (scri
         speakers = speaker loading a.key a.workers old new a.found script written lawful a.answered o owner before after here was is;
         gathered = a.answered.gathered.owners o owner here;
         shut = a.answered.shut o owner here;
-        opens = opens a.loading a.key old a.versions a.found o before a.opened (in_catalog loading.register lawful.register o (slice_get_within (house_of loading.register).owners o owner here)) was;
+        opens = opens a.loading a.key old new a.versions a.found o before a.opened (in_catalog loading.register lawful.register o (slice_get_within (house_of loading.register).owners o owner here)) was;
         went = disk loading a.key a.workers old new a.found script written lawful a.answered o owner before after here was is;
       }
 
@@ -72,6 +72,6 @@ module _ (words : List (List ℕ)) (reads : ReadsToCome) (old new : Shelf) (door
         speakers = service_speaker loading s.key s.workers old new s.at.found service_lawful were o owner here;
         gathered = s.at.over.gathered o owner here;
         shut = s.at.over.shut o owner here;
-        opens = opens s.loading s.key old s.at.versions s.at.found o before s.at.opened (in_catalog loading.register service_lawful.register o (slice_get_within (house_of loading.register).owners o owner here)) was;
+        opens = opens s.loading s.key old new s.at.versions s.at.found o before s.at.opened (in_catalog loading.register service_lawful.register o (slice_get_within (house_of loading.register).owners o owner here)) was;
         went = service_disk loading s.key s.workers old new s.at.found service_lawful were o owner here before after was is;
       }

@@ -23,7 +23,7 @@ use Rattle.owner_house.specs.Owner.{Owner}
 use Rattle.owner_catalog.specs.Catalog.{Catalog, OwnerEntry}
 use Rattle.owner_catalog.specs.Digest.{digest_of}
 use Rattle.generated_run.specs.SessionCore.Transcript.{Journals}
-use Rattle.catalog_loading.specs.Loaded.{Loading, entry_at, header_in, header_of, in_versions, new_entry, new_header, owner_name_at}
+use Rattle.catalog_loading.specs.Loaded.{Loading, entry_at, header_in, header_of, in_versions, new_entry, new_header, owner_name_at, version_at}
 use Rattle.owner_books.specs.Shelves.{Shelf, bytes_on, BothGo, TellBytes, AreAtHome, EachDisk, IsOnlySynced, IsStanding, NoOtherRose}
 use Rattle.owner_books.specs.Opened.{AreOpenedBefore, IsOneUnopened, IsRefusedAt}
 use Rattle.query_server.specs.Duty.{IsRefusalDue}
@@ -499,10 +499,7 @@ not_valid_audit = no_journals
 -- journals of no records are valid, and those that aren't told are not
 module _ (bytes : ℕ → List ℕ) (made : (o : ℕ) → Stands (header_of loading key o) [] (bytes o)) where
   valid_run : IsValidFor (to_answer 1 loading key) (λ o. telling (bytes o))
-  valid_run o lt = record { version = 3; found = []; stands = subst (λ (h : Header). Stands h [] (bytes o)) (third o) (made o); history = record { follows = λ k r at. absurd (cc (at)) } }
-    where
-      third : (o : ℕ) → header_of loading key o ≡ header_in loading key o 3
-      third o = refl
+  valid_run o lt = record { version = version_at loading o; found = []; stands = made o; history = record { follows = λ k r at. absurd (cc (at)) } }
 
   not_valid_making : IsValidFor (to_make loading key) (λ o. telling (bytes o)) → ⊥
   not_valid_making is =
