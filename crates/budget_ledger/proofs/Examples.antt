@@ -48,10 +48,10 @@ small = record { budget = 20; capacity = 10; analysts = 1; keys = []; version = 
 module _ (ledger : Ledger) (header : Header) (trace : Option Trace) where
   -- a book on which one append has failed, and one on which none has
   abbrev shut : Account
-  shut = record { ledger = ledger; storage = record { header = header; trace = trace; faults = 3; closed = Some (record { failed_at = 3; pending = lost }) } }
+  shut = record { ledger = ledger; storage = record { header = header; trace = trace; faults = 3; closed = Some (record { failed_at = 3; pending = lost }); copies = None } }
 
   abbrev ready : Account
-  ready = record { ledger = ledger; storage = record { header = header; trace = trace; faults = 2; closed = None } }
+  ready = record { ledger = ledger; storage = record { header = header; trace = trace; faults = 2; closed = None; copies = None } }
 
   -- a closed book answers so with its count, and stays as it is
   answers_closed : IsSettlementOf shut 0 Lost (Err (Closed 3)) shut
@@ -159,7 +159,7 @@ module _ (header : Header) (trace : Option Trace) where
   abbrev after_a_fault : Option Failure → Account
   after_a_fault closed = record {
     ledger = record { entry = record small { capacity = 3 }; found = []; records = left_open };
-    storage = record { header = header; trace = trace; faults = 3; closed = closed };
+    storage = record { header = header; trace = trace; faults = 3; closed = closed; copies = None };
   }
 
   abbrev three_shut : Account

@@ -1,10 +1,15 @@
 pub mod BothOpens
 mod Examples
+mod ExamplesOfCopies
+pub mod Forks
 pub mod Grants
+pub mod Levelling
 pub mod Machine
 pub mod Opens
 pub mod SameCost
+pub mod Sides
 pub mod Standing
+pub mod Told
 pub mod Wents
 pub mod Writes
 pub mod Verdicts

@@ -14,7 +14,7 @@ use Rattle.budget_core.specs.Entries.{Entry}
 use Rattle.budget_core.specs.Legal.{IsFirstAstray}
 use Rattle.budget_ledger.specs.Account.{Storage, IsMoment, HasPassed, Went}
 use Rattle.budget_ledger.specs.Opened.{IsBookFault}
-use Rattle.budget_ledger.proofs.Wents.{prefix_self}
+use Rattle.budget_ledger.proofs.Wents.{WentAlone, went_alone, prefix_self}
 
 -- a journal that was opened has synced its disk
 pub told_synced : (header : Header) (records : List Record) (old new : Option Trace) → WhereTold (Found header records) old new → MayHaveSynced old new
@@ -59,7 +59,7 @@ journal_fault entry header bytes NoMemory is = is
 
 -- ---- since a book was at rest
 
-told_moments : (old new : List Record) (before after : Storage) → Went old new before after → (s u : Option Trace) → IfSome s (IsAtRest before.header old)
+told_moments : (old new : List Record) (before after : Storage) → WentAlone old new before after → (s u : Option Trace) → IfSome s (IsAtRest before.header old)
     → WhereTold (HasPassed before.header old new after.closed) s u → WhereTold (Passes (IsMoment before.header old new after.closed)) s u
 told_moments old new before after went None None rest passed = tt
 told_moments old new before after went None (Some u) rest passed = passed
@@ -72,6 +72,10 @@ told_moments old new before after went (Some t) (Some u) rest passed =
     each bytes (inr is) = is
 
 -- Since a book was at rest, each file that a stop may have left is a moment between then and now.
+pub alone_from_rest : (old new : List Record) (before after : Storage) → IfSome before.trace (IsAtRest before.header old) → WentAlone old new before after
+    → WhereTold (Passes (IsMoment before.header old new after.closed)) before.trace after.trace
+alone_from_rest old new before after rest went = told_moments old new before after went before.trace after.trace rest went.moments
+
 pub went_from_rest : (old new : List Record) (before after : Storage) → IfSome before.trace (IsAtRest before.header old) → Went old new before after
     → WhereTold (Passes (IsMoment before.header old new after.closed)) before.trace after.trace
-went_from_rest old new before after rest went = told_moments old new before after went before.trace after.trace rest went.moments
+went_from_rest old new before after rest went = alone_from_rest old new before after rest (went_alone old new before after went)

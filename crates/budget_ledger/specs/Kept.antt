@@ -1,5 +1,6 @@
 -- What a book's fields say of it.
 use Rattle.std.specs.Prelude.{◌≡◌, ◌⊎◌, ℕ, ◌+◌, ◌<◌, ◌≤◌, false, List, length, take, Option, None, Some, IfSome, IsSome, Result, Ok, Err, IsOk, ⊤}
+use Rattle.core.specs.Option.{option_or}
 use Rattle.fz_outside.specs.Faults.{HasRisen}
 use Rattle.outside_disks.specs.Disks.{Trace, Shown, WhereTold}
 use Rattle.outside_disks.specs.declared.disks.Disks.{Disks}
@@ -28,11 +29,6 @@ refusal_with (OverShare spent after limit seen) (Some failure) = Unwritten (Clos
 refusal_with (OverShare spent after limit seen) None = Refused (OverShare spent after limit seen)
 refusal_with (OverBudget spent after budget seen) closed = Refused (OverBudget spent after budget seen)
 refusal_with (Full used unsettled capacity) closed = Refused (Full used unsettled capacity)
-
--- the failure of the one that failed last
-abbrev pub last_of : (fell later : Option Failure) → Option Failure
-last_of fell None = fell
-last_of fell (Some failure) = Some failure
 
 module _ {D : Type 0} where
   -- A journal to which no append has failed may be appended to.
@@ -77,9 +73,12 @@ module _ {D : Type 0} (trace : D → Option Trace) (faults : D → ℕ) where
   abbrev pub held_on : List Record → Side D → Held
   held_on records side = record { header = side.header; has = take side.has records; closed = side.failure }
 
+  abbrev pub held_in : List Record → Half D → Option Held
+  held_in records (Gone disk) = None
+  held_in records (Kept side) = Some (held_on records side)
+
   abbrev pub copy_on : List Record → Half D → Copy
-  copy_on records (Gone disk) = record { shown = shown_on disk; held = None }
-  copy_on records (Kept side) = record { shown = shown_on (disk_of side.journal); held = Some (held_on records side) }
+  copy_on records half = record { shown = shown_on (disk_in half); held = held_in records half }
 
   abbrev pub copies_on : List Record → (first second : Half D) → Copies
   copies_on records first second = record { first = copy_on records first; second = copy_on records second }
@@ -127,7 +126,7 @@ module _ {D : Type 0} (trace : D → Option Trace) (faults : D → ℕ) where
 
   pub record HoldsBook (ledger : Ledger) (header : Header) (store : Store D) (closed : Option Failure) : Type 0 where
     pub book : IsBook (account_in ledger header store closed)
-    pub store : HoldsStore header ledger.records store closed
+    pub disks : HoldsStore header ledger.records store closed
 
   -- ---- an append
 
@@ -174,7 +173,7 @@ module _ {D : Type 0} (trace : D → Option Trace) (faults : D → ℕ) where
   IsUnappendedOn next old new DiskFault = (failure : Failure) × HasFailedOn next old new failure
 
   -- What an append made of one of two disks: it has the record; or it failed, and with which failure; or it isn't in use, and wasn't touched.
-  abbrev pub HalfWent : {T : Type 0} → Record → (old new : Half D) → Result T (Option Failure) → Type 0
+  abbrev pub HalfWent : Record → (old new : Half D) → Result ⊤ (Option Failure) → Type 0
   HalfWent next (Gone disk) (Gone still) (Ok value) = ⊥
   HalfWent next (Gone disk) (Gone still) (Err None) = still ≡ disk
   HalfWent next (Gone disk) (Gone still) (Err (Some failure)) = ⊥
@@ -185,38 +184,38 @@ module _ {D : Type 0} (trace : D → Option Trace) (faults : D → ℕ) where
   HalfWent next (Kept old) (Kept new) (Err (Some failure)) = HasFailedOn next old new failure
 
   -- One of two disks, or both, have the record.
-  pub record HasWrittenBoth (next : Record) (first second first' second' : Half D) (was is : Option Failure) : Type 0 where
+  pub record HasWrittenBoth (next : Record) (a b a' b' : Half D) (was is : Option Failure) : Type 0 where
     pub open_before : was ≡ None
     pub open_after : is ≡ None
     pub on_first : Result ⊤ (Option Failure)
     pub on_second : Result ⊤ (Option Failure)
-    pub first : HalfWent next first first' on_first
-    pub second : HalfWent next second second' on_second
+    pub first : HalfWent next a a' on_first
+    pub second : HalfWent next b b' on_second
     pub written : IsOk on_first ⊎ IsOk on_second
 
   -- Neither has it: the book is closed by the failure of the one that failed last.
-  pub record HasFailedBoth (next : Record) (first second first' second' : Half D) (was is : Option Failure) : Type 0 where
+  pub record HasFailedBoth (next : Record) (a b a' b' : Half D) (was is : Option Failure) : Type 0 where
     pub open_before : was ≡ None
     pub fell_first : Option Failure
     pub fell_second : Option Failure
-    pub first : HalfWent {⊤} next first first' (Err fell_first)
-    pub second : HalfWent {⊤} next second second' (Err fell_second)
-    pub closed : is ≡ last_of fell_first fell_second
+    pub first : HalfWent next a a' (Err fell_first)
+    pub second : HalfWent next b b' (Err fell_second)
+    pub closed : is ≡ option_or fell_second fell_first
 
-  abbrev pub IsUnappendedBoth : Record → (first second first' second' : Half D) → (was is : Option Failure) → AppendFault → Type 0
-  IsUnappendedBoth next first second first' second' was is (Closed failed_at) = (failure : Failure) × (was ≡ Some failure) × (failed_at ≡ failure.failed_at)
-      × (first' ≡ first) × (second' ≡ second) × (is ≡ was)
-  IsUnappendedBoth next first second first' second' was is DiskFault = HasFailedBoth next first second first' second' was is
+  abbrev pub IsUnappendedBoth : Record → (a b a' b' : Half D) → (was is : Option Failure) → AppendFault → Type 0
+  IsUnappendedBoth next a b a' b' was is (Closed failed_at) = (failure : Failure) × (was ≡ Some failure) × (failed_at ≡ failure.failed_at)
+      × (a' ≡ a) × (b' ≡ b) × (is ≡ was)
+  IsUnappendedBoth next a b a' b' was is DiskFault = HasFailedBoth next a b a' b' was is
 
   -- the same of what keeps a book
   abbrev pub HasWrittenTo : Record → (old new : Store D) → (was is : Option Failure) → Type 0
   HasWrittenTo next (One old) (One new) was is = HasWritten next old new was is × (capacity_of new ≡ capacity_of old)
-  HasWrittenTo next (One old) (Two first second) was is = ⊥
-  HasWrittenTo next (Two first second) (One new) was is = ⊥
-  HasWrittenTo next (Two first second) (Two first' second') was is = HasWrittenBoth next first second first' second' was is
+  HasWrittenTo next (One old) (Two a b) was is = ⊥
+  HasWrittenTo next (Two a b) (One new) was is = ⊥
+  HasWrittenTo next (Two a b) (Two a' b') was is = HasWrittenBoth next a b a' b' was is
 
   abbrev pub IsUnappendedTo : Record → (old new : Store D) → (was is : Option Failure) → AppendFault → Type 0
   IsUnappendedTo next (One old) (One new) was is fault = IsUnappended next old new was is fault × (capacity_of new ≡ capacity_of old)
-  IsUnappendedTo next (One old) (Two first second) was is fault = ⊥
-  IsUnappendedTo next (Two first second) (One new) was is fault = ⊥
-  IsUnappendedTo next (Two first second) (Two first' second') was is fault = IsUnappendedBoth next first second first' second' was is fault
+  IsUnappendedTo next (One old) (Two a b) was is fault = ⊥
+  IsUnappendedTo next (Two a b) (One new) was is fault = ⊥
+  IsUnappendedTo next (Two a b) (Two a' b') was is fault = IsUnappendedBoth next a b a' b' was is fault

@@ -1,7 +1,8 @@
 -- The laws of a book's states.
-use Rattle.std.specs.Prelude.{◌≡◌, ◌⊎◌, ℕ, ◌<◌, List, [], ◌∷◌, IfSome, Ok}
+use Rattle.std.specs.Prelude.{◌≡◌, ◌⊎◌, ℕ, ◌<◌, List, [], ◌∷◌, Option, None, Some, IfSome, Ok}
 use mathlib.Core.List.{IsPrefix}
-use Rattle.outside_disks.specs.Disks.{Passes, WhereTold}
+use Rattle.fz_outside.specs.Faults.{last_count}
+use Rattle.outside_disks.specs.Disks.{Trace, Shown, IsImageOf, Passes, WhereTold}
 use Rattle.journal_records.specs.declared.records.Record.{Record}
 use Rattle.journal_records.specs.declared.records.Header.{Header}
 use Rattle.budget_journal.specs.declared.opening.OpenFault.{OpenFault}
@@ -12,7 +13,7 @@ use Rattle.budget_core.specs.declared.entry.Grant.{Grant}
 use Rattle.budget_core.specs.Entries.{Entry}
 use Rattle.budget_core.specs.Ledger.{money_verdict, records_after}
 use Rattle.budget_core.specs.Legal.{IsHistory}
-use Rattle.budget_ledger.specs.Account.{Storage, IsMoment, Went}
+use Rattle.budget_ledger.specs.Account.{Failure, Held, Copies, Storage, IsMoment, IsHeldCopy, IsInUse, AreCopies, HeldWent, Went}
 use Rattle.budget_ledger.specs.Opened.{IsBookFault}
 
 -- Each state follows itself.
@@ -27,6 +28,31 @@ FollowOn = (a b c : List Record) (s t u : Storage) → Went a b s t → Went b c
 abbrev pub LeavesMoments : Type 0
 LeavesMoments = (old new : List Record) (before after : Storage) → IfSome before.trace (IsAtRest before.header old) → Went old new before after
     → WhereTold (Passes (IsMoment before.header old new after.closed)) before.trace after.trace
+
+-- ---- two disks
+
+-- A disk in use whose count of failed calls stands still, below its last value, is in use still, and has all records: a stop leaves these there
+-- and nothing else, and each file that a stop may have left since stands for some first ones of them, with those from before.
+abbrev pub ASoundSideHasAll : Type 0
+ASoundSideHasAll = (common : Header) (records : List Record) (closed : Option Failure) (before after : Shown) (was is : Held) → was.closed ≡ None
+    → before.faults < last_count → after.faults ≡ before.faults → IfSome before.trace (IsAtRest was.header was.has)
+    → HeldWent before after was is → IsHeldCopy common records closed after is
+    → (is.closed ≡ None) × (is.has ≡ records) × IfSome after.trace (IsAtRest was.header records)
+    × WhereTold (Passes (IsMoment was.header was.has records None)) before.trace after.trace
+
+-- While a disk is in use, the book is open.
+abbrev pub IsOpenByOne : Type 0
+IsOpenByOne = (records : List Record) (storage : Storage) (copies : Copies) → AreCopies records storage copies
+    → IsInUse copies.first ⊎ IsInUse copies.second → storage.closed ≡ None
+
+-- What a stop leaves now on two disks of a book never differs at a slot that both hold.
+abbrev pub SidesNeverFork : Type 0
+SidesNeverFork = (common : Header) (records : List Record) (closed : Option Failure) (a b : Shown) (held other : Held) (t u : Trace) (c d : List ℕ)
+    (xs ys : List Record) → IsHeldCopy common records closed a held → IsHeldCopy common records closed b other
+    → a.trace ≡ Some t → b.trace ≡ Some u → IsImageOf t c → IsImageOf u d → Stands held.header xs c → Stands other.header ys d
+    → IsPrefix xs ys ⊎ IsPrefix ys xs
+
+-- ---- openings
 
 -- Bytes that stand for records each of which may follow, by the rules of their version, are refused for the disk or for want of
 -- memory alone.

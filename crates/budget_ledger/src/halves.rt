@@ -47,6 +47,7 @@ fn append_to_side<D: Disk>(side: &mut Side<D>, next: &Record) -> Result<(), Appe
     requires valid { IsValid next.now }
     ensures written { IfOk result (λ _. HasWrittenOn D.trace D.faults next.now side.old side.new) }
     ensures stopped { IfErr result (λ fault. IsUnappendedOn D.trace D.faults next.now side.old side.new fault) }
+    ensures room { capacity_of side.new.journal ≡ capacity_of side.old.journal }
 {
     write_down(&mut side.journal, &mut side.failure, next)?;
     side.has += 1;

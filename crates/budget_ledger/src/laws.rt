@@ -1,6 +1,7 @@
 //! How a book's states follow one another. Each function does nothing: its contract is the law.
 
 ghost use Rattle.budget_ledger.specs.Laws.{FollowsItself, FollowOn, LeavesMoments, OpensWhatStands, GrantsNeverShare};
+ghost use Rattle.budget_ledger.specs.Laws.{ASoundSideHasAll, IsOpenByOne, SidesNeverFork};
 ghost use Rattle.budget_ledger.specs.Machine.{OpensAsTheMachine, RefusesAsTheMachine, ReservesAsTheMachine, SettlesAsTheMachine};
 ghost use Rattle.budget_ledger.specs.Machine.{GrantsAsTheMachine, RefusesGrantsAsTheMachine};
 
@@ -17,6 +18,17 @@ pub fn states_follow_on()
 /// Since a book was at rest, each file that a stop may have left stands for records between then and now.
 pub fn since_rest_each_file_is_a_moment()
     ensures { LeavesMoments }
+{}
+
+/// A disk, of two, whose count of failed calls stands still has all records, and the book is open.
+pub fn a_sound_side_has_all()
+    ensures all { ASoundSideHasAll }
+    ensures open { IsOpenByOne }
+{}
+
+/// What a stop leaves on two disks of a book never differs at a slot that both hold.
+pub fn sides_never_fork()
+    ensures { SidesNeverFork }
 {}
 
 /// Bytes that stand for records each of which may follow are refused for the disk or for want of memory alone.

@@ -4,9 +4,9 @@ use mathlib.Core.Logic.{◌⊎◌, inl, inr}
 use Rattle.std.proofs.lemmas.Bool.{cases_lt}
 use Rattle.fz_outside.specs.Faults.{HasRisen}
 use Rattle.outside_disks.specs.Disks.{Shown}
-use Rattle.outside_disks.specs.Stored.{EachTwin, Stored, Twins}
+use Rattle.outside_disks.specs.Stored.{ATwinRose, EachTwin, HasCountRisen, Stored, Twins}
 use Rattle.budget_ledger.specs.Both.{IsLeft}
-use Rattle.owner_books.specs.Shelves.{AreSynced, BothGo, EachDisk, IsOnlySynced, IsStanding, IsUnwritten, NothingWritten, OneDisk, OneStands, Shelf, StandsStill}
+use Rattle.owner_books.specs.Shelves.{AreGone, AreLost, AreSynced, BothGo, EachDisk, IsOnlySynced, IsStanding, IsUnwritten, NothingWritten, OneDisk, OneStands, Shelf, StandsStill}
 
 pub left_same : (shown : Shown) → IsLeft shown shown
 left_same shown = record { synced = inl refl; counts = omega arith }
@@ -85,3 +85,15 @@ risen_from old mid late new first second third rose = λ low. grind (arith, firs
 -- what is before the next place, and not the last one, is before that
 pub before_last : (o n : ℕ) → o < n + 1 → (o ≡ n → ⊥) → o < n
 before_last o n less isnt = grind (arith, less, isnt)
+
+-- where a disk is lost its count rose, and where two are one's did
+gone_rose : (before after : Option Twins) → AreGone before after → ATwinRose before after
+gone_rose (Some before) (Some after) (inl (first, second)) = inl first
+gone_rose (Some before) (Some after) (inr (inl (first, empty))) = inl first
+gone_rose (Some before) (Some after) (inr (inr (empty, second))) = inr second
+gone_rose (Some before) None gone = absurd gone
+gone_rose None after gone = absurd gone
+
+pub lost_rose : (before after : Stored) → AreLost before after → HasCountRisen before after
+lost_rose before after (inl one) = inl one
+lost_rose before after (inr gone) = inr (gone_rose before.twins after.twins gone)

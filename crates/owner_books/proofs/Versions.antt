@@ -13,7 +13,8 @@ use Rattle.owner_house.proofs.Owners.{entry_said, in_catalog, owners_length}
 use Rattle.std.proofs.lemmas.Option.{slice_get_within}
 use Rattle.catalog_loading.specs.Loaded.{IsKeyedHouse, IsLoading, KeyedHouse, Loading, entry_at, entry_in, header_in, header_of, in_versions, keyed, new_header, owners_in}
 use Rattle.owner_books.specs.Shelves.{NoOtherRose, Shelf}
-use Rattle.owner_books.specs.Books.{ArePassesOn, IsBookStop, IsNewPass, IsOpenStop, TookDisk}
+use Rattle.budget_ledger.specs.Account.{Account}
+use Rattle.owner_books.specs.Books.{ArePassesOn, ArePutBack, IsBookStop, IsNewPass, IsOpenStop, TookDisk}
 use Rattle.catalog_loading.specs.declared.stops.Stop.{Stop}
 use Rattle.catalog_loading.specs.declared.stops.Stop.TheVariants.{Journal, Disk, NoMemory}
 use Rattle.owner_books.proofs.Passes.{one_opened}
@@ -113,15 +114,16 @@ module _ (loading : Loading) (key : List ℕ) (n : ℕ) (old mid : Shelf) (opene
 
 -- What stops the opening is said of the house, whatever the versions of its journals.
 as_loaded : (loading : Loading) (versions : List ℕ) (key : List ℕ) (old new : Shelf) (stop : Stop) → IsOpenStop (in_versions loading versions) key old new stop → IsOpenStop loading key old new stop
-as_loaded loading versions key old new (Journal line) (o, refusal, at, is) = (o, refusal, record { known = at.known; before = at.before; refused = at.refused }, is)
+as_loaded loading versions key old new (Journal line) (o, refusal, at, is) = (o, refusal, record { known = at.known; before = at.before; refused = at.refused; unwritten = at.unwritten }, is)
 as_loaded loading versions key old new (Disk line) is = is
 as_loaded loading versions key old new NoMemory is = is
 as_loaded loading versions key old new stop is = absurd is
 
-pub desk_stopped : (loading : Loading) (key : List ℕ) (n : ℕ) (old mid new : Shelf) (opened : KeyedHouse) (passes : List Pass) (stop : Stop) → AreDesks loading key n old mid opened passes → n < owners_in loading
-    → NoOtherRose n old new → IsBookStop opened.loading opened.key mid n stop → IsOpenStop loading key old new stop
-desk_stopped loading key n old mid new opened passes stop desks within others is =
+pub desk_stopped : (loading : Loading) (key : List ℕ) (n : ℕ) (old mid left new : Shelf) (opened : KeyedHouse) (passes : List Pass) (books : ℕ → Account) (stop : Stop)
+    → AreDesks loading key n old mid opened passes → ArePutBack n passes books left new → n < owners_in loading
+    → NoOtherRose n old new → IsBookStop opened.loading opened.key mid left n stop → IsOpenStop loading key old new stop
+desk_stopped loading key n old mid left new opened passes books stop desks back within others is =
     as_loaded loading desks.versions key old new stop
-    (book_stopped (in_versions loading desks.versions) key n old mid new stop within (desks.on.others n (omega arith))
-    (opened_before (in_versions loading desks.versions) key n old mid passes desks.on) others
-    (subst (λ (h : KeyedHouse). IsBookStop h.loading h.key mid n stop) desks.is is))
+    (book_stopped (in_versions loading desks.versions) key n old mid left new stop within (desks.on.others n (omega arith)) (back.others n (omega arith))
+    (opened_before (in_versions loading desks.versions) key n old mid left new passes books desks.on back) others
+    (subst (λ (h : KeyedHouse). IsBookStop h.loading h.key mid left n stop) desks.is is))

@@ -35,7 +35,7 @@ found = reserved 0 ∷ settling 0 Lost ∷ []
 abbrev book : List Record → Option Failure → Account
 book records closed = record {
   ledger = record { entry = record { budget = 20; capacity = 10; analysts = 1; keys = []; version = 2; limits = [] }; found = found; records = records };
-  storage = record { header = record { owner = 2; budget = 20; capacity = 10; digest = []; version = 2 }; trace = None; faults = 3; closed = closed };
+  storage = record { header = record { owner = 2; budget = 20; capacity = 10; digest = []; version = 2 }; trace = None; faults = 3; closed = closed; copies = None };
 }
 
 abbrev failed : Record → Failure

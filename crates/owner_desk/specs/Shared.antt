@@ -16,7 +16,7 @@ pub record Shared : Type 0 where
 abbrev no_account : Account
 no_account = record {
   ledger = record { entry = record { budget = 0; capacity = 0; analysts = 0; keys = []; version = 0; limits = [] }; found = []; records = [] };
-  storage = record { header = record { owner = 0; budget = 0; capacity = 0; digest = []; version = 0 }; trace = None; faults = 0; closed = None };
+  storage = record { header = record { owner = 0; budget = 0; capacity = 0; digest = []; version = 0 }; trace = None; faults = 0; closed = None; copies = None };
 }
 
 abbrev pub opened_in : Option Account → Account

@@ -100,7 +100,7 @@ abbrev no_header : Header
 no_header = record { owner = 0; budget = 0; capacity = 0; digest = []; version = 0 }
 
 abbrev no_storage : Storage
-no_storage = record { header = no_header; trace = None; faults = 0; closed = None }
+no_storage = record { header = no_header; trace = None; faults = 0; closed = None; copies = None }
 
 abbrev no_account : Account
 no_account = record { ledger = record { entry = no_entry; found = []; records = [] }; storage = no_storage }

@@ -6,7 +6,6 @@ use Rattle.budget_core.specs.Entries.{Entry}
 use Rattle.owner_house.specs.House.{entry_of}
 use Rattle.catalog_loading.specs.Loaded.{Loading, new_entry, new_header, owner_name_at}
 use Rattle.owner_books.specs.Books.{IsNewBook, IsUnopenedStop}
-use Rattle.owner_books.specs.Shelves.{bytes_on}
 use Rattle.owner_books.proofs.books.open_book.Goals as goal
 
 -- the owner's entry in the catalog, by its number
@@ -39,9 +38,10 @@ pub returns-clause-stop : goal.returns-clause-stop
 returns-clause-stop g c =
     let loading = c.args.opened.now.loading in
     let owner = c.args.owner in
-    let bytes = bytes_on (g.B.Bay.shelf c.args.bay.now) owner in
+    let old = g.B.Bay.shelf c.args.bay.now owner in
+    let new = g.B.Bay.shelf c.open_on.new.bay owner in
     let named : c.owner_name-name.result.now ≡ owner_name_at loading owner = c.owner_name-name.ensures ∙ ap (λ (catalog : Catalog). (owner_entry_at catalog owner).name) c.catalog-catalog.ensures.catalog in
     let found = entry_found loading c.catalog-catalog.result.now owner c.in_ok-entry.entry c.catalog-catalog.ensures.catalog c.in_ok-entry.ensures in
-    subst (λ (n : List ℕ). IfErr c.open_on.result (IsUnopenedStop n (new_entry loading owner) (new_header loading c.args.opened.now.key owner) bytes)) named
-    (subst (λ (h : Header). IfErr c.open_on.result (IsUnopenedStop c.owner_name-name.result.now (new_entry loading owner) h bytes)) c.requires.header
-    (subst (λ (e : Entry). IfErr c.open_on.result (IsUnopenedStop c.owner_name-name.result.now e c.args.header.now bytes)) found c.open_on.ensures.stop))
+    subst (λ (n : List ℕ). IfErr c.open_on.result (IsUnopenedStop n (new_entry loading owner) (new_header loading c.args.opened.now.key owner) old new)) named
+    (subst (λ (h : Header). IfErr c.open_on.result (IsUnopenedStop c.owner_name-name.result.now (new_entry loading owner) h old new)) c.requires.header
+    (subst (λ (e : Entry). IfErr c.open_on.result (IsUnopenedStop c.owner_name-name.result.now e c.args.header.now old new)) found c.open_on.ensures.stop))

@@ -16,4 +16,4 @@ returns-in-Err-clause-left g c =
     let version = c.in_ok-book.book.storage.header.version in
     book_back (entry_in loading o version) (header_in loading key o version) o old _ _ c.in-Err.book
     (subst (λ (b : Account). IsNewBook (entry_in loading o version) (header_in loading key o version) (old o) b) (sym c.in-Err.ensures.refused) c.in_ok-book.ensures.book) c.in_ok-book.ensures.taken
-    (changed_to _ _ _ _ _ _ _ _ refl c.into_disk.ensures.trace c.into_disk.ensures.faults c.put_back.ensures.home)
+    (changed_to _ _ _ _ _ _ refl c.into_disks.ensures.stored c.put_back.ensures.home)

@@ -1,13 +1,15 @@
 use Rattle.std.proofs.Common.{◌≡◌, ◌∙◌, ◌<◌, ◌+◌, List, refl, sym, ap, subst, arith}
 use Rattle.std.specs.Prelude.{Err}
 use Rattle.catalog_loading.specs.declared.stops.Stop.TheVariants.{Disk}
+use Rattle.outside_disks.specs.Stored.{HasCountRisen}
 use Rattle.owner_desk.specs.Passes.{Pass}
 use Rattle.session_core.specs.Bundles.{bundle_of}
 use Rattle.catalog_loading.specs.Loaded.{owners_in}
+use Rattle.owner_books.specs.Shelves.{AreLost}
 use Rattle.owner_books.proofs.Versions.{AreDesks, desk_stopped, desks_house, one_more}
 use Rattle.owner_books.proofs.Bundled.{known_last, locks_pushed, many_known, whole_pushed}
 use Rattle.owner_books.proofs.Disks.{risen_from}
-use Rattle.owner_books.proofs.Passes.{back_counted, no_other_opened, rose_by, rose_still, some_back}
+use Rattle.owner_books.proofs.Passes.{back_counted, no_other_opened, rose_by, some_back, went_still}
 use Rattle.owner_books.proofs.Stops.{err_same}
 use Rattle.owner_books.proofs.books.open_desks.Goals as goal
 
@@ -35,8 +37,10 @@ returns-in-Err-clause-stop g c =
     let old = g.B.Bay.shelf c.args.bay.now in
     let mid = g.B.Bay.shelf c.loop-owner.bay in
     let passes = (bundle_of c.loop-owner.passes.items).knows in
-    desk_stopped loading c.args.opened.now.key c.loop-owner.owner old mid (g.B.Bay.shelf c.put_back.new.bay) c.loop-owner.opened passes c.in-Err.stop desks within
-    (no_other_opened _ _ c.loop-owner.owner _ _ _ _ passes c.put_back.ensures.back.0 desks.on c.in-Err.ensures.left (back_counted c.loop-owner.passes.items _ _ _ _ desks.on.count c.put_back.ensures.back.1)) c.in-Err.ensures.stop
+    let back = back_counted c.loop-owner.passes.items _ _ _ _ desks.on.count c.put_back.ensures.back.1 in
+    desk_stopped loading c.args.opened.now.key c.loop-owner.owner old mid (g.B.Bay.shelf c.open_desk.new.bay) (g.B.Bay.shelf c.put_back.new.bay) c.loop-owner.opened passes
+    c.put_back.ensures.back.0 c.in-Err.stop desks back within
+    (no_other_opened _ _ c.loop-owner.owner _ _ _ _ passes c.put_back.ensures.back.0 desks.on c.in-Err.ensures.left back) c.in-Err.ensures.stop
 
 pub returns-in-Err-clause-cause : goal.returns-in-Err-clause-cause
 returns-in-Err-clause-cause g c = λ line is.
@@ -45,7 +49,16 @@ returns-in-Err-clause-cause g c = λ line is.
     let on = c.loop-owner.invariant.on.on in
     rose_by rose
     (risen_from _ _ _ _ c.loop-owner.invariant.faults c.in-Err.ensures.bay.1 (omega (arith, c.put_back.ensures.faults)))
-    (rose_still _ _ c.loop-owner.owner _ _ _ _ _ c.put_back.ensures.back.0 on (back_counted c.loop-owner.passes.items _ _ _ _ on.count c.put_back.ensures.back.1))
+    (went_still HasCountRisen _ _ c.loop-owner.owner _ _ _ _ _ c.put_back.ensures.back.0 on (back_counted c.loop-owner.passes.items _ _ _ _ on.count c.put_back.ensures.back.1))
+
+pub returns-in-Err-clause-lost : goal.returns-in-Err-clause-lost
+returns-in-Err-clause-lost g c = λ line is.
+    let same = err_same c.in-Err.stop (Disk line) _ refl is in
+    let rose = c.in-Err.ensures.lost line (ap Err same) in
+    let on = c.loop-owner.invariant.on.on in
+    rose_by rose
+    (risen_from _ _ _ _ c.loop-owner.invariant.faults c.in-Err.ensures.bay.1 (omega (arith, c.put_back.ensures.faults)))
+    (went_still AreLost _ _ c.loop-owner.owner _ _ _ _ _ c.put_back.ensures.back.0 on (back_counted c.loop-owner.passes.items _ _ _ _ on.count c.put_back.ensures.back.1))
 
 pub loop-owner-preserved : goal.loop-owner-preserved
 loop-owner-preserved g c =

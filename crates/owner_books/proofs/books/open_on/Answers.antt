@@ -1,16 +1,12 @@
-use Rattle.std.proofs.Common.{refl}
-use Rattle.budget_ledger.specs.Opened.{IsBookFault}
-use Rattle.owner_books.specs.Shelves.{bytes_on}
-use Rattle.owner_books.proofs.Stops.{fault_stopped, new_book, told_shown}
+use Rattle.std.proofs.Common.{◌∙◌, ap, refl, subst, sym}
+use mathlib.Core.Logic.{inl, inr}
+use Rattle.std.specs.Prelude.{Err}
+use Rattle.catalog_loading.specs.declared.stops.Stop.{Stop}
+use Rattle.catalog_loading.specs.declared.stops.Stop.TheVariants.{Disk}
+use Rattle.outside_disks.specs.Stored.{stored_of}
+use Rattle.owner_books.specs.Books.{IsBothFaultStop}
+use Rattle.owner_books.specs.Shelves.{IsOnlySynced}
+use Rattle.owner_books.proofs.Back.{changed_here, turned_back}
+use Rattle.owner_books.proofs.Disks.{lost_rose, unwritten_synced}
+use Rattle.owner_books.proofs.Stops.{err_same, faulted, shelf_stopped}
 use Rattle.owner_books.proofs.books.open_on.Goals as goal
-
-pub returns-in-Ok-open-clause-book : goal.returns-in-Ok-open-clause-book
-returns-in-Ok-open-clause-book g c =
-    new_book c.args.entry c.args.entry c.args.header.now c.args.header.now _ _ _ c.in-Ok-open.book refl refl c.in-Ok.ensures.given
-    c.in-Ok-open.ensures.found c.in-Ok-open.ensures.fresh c.in-Ok-open.ensures.book
-
-pub returns-in-Err-clause-stop : goal.returns-in-Err-clause-stop
-returns-in-Err-clause-stop g c =
-    fault_stopped c.args.name.now c.args.entry c.args.header.now (bytes_on (g.B.Bay.shelf c.args.bay.now) c.args.owner) c.in-Err.fault c.open_stop.result
-    (told_shown (λ bytes. IsBookFault c.args.entry c.args.header.now bytes c.in-Err.fault) (g.B.Bay.shelf c.args.bay.now c.args.owner) _ _ c.in-Ok.ensures.given
-    (λ t told. c.in-Err.ensures.refused t told)) c.open_stop.ensures

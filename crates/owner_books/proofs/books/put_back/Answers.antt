@@ -59,7 +59,7 @@ loop-pass-preserved g c =
     } in
     record {
       back = back_more _ _ (bundle_of c.pop.new.self.items).knows c.in-Some.pass.knows c.close.result _ _ _ (known_last _ _ _ c.in-Some.ensures.items) c.loop-pass.invariant.back
-          (changed_to _ _ _ _ _ _ _ _ here c.into_disk.ensures.trace c.into_disk.ensures.faults c.put_back.ensures.home) gave;
+          (changed_to _ _ _ _ _ _ here c.into_disks.ensures.stored c.put_back.ensures.home) gave;
       here = (locks_popped _ _ _ _ _ _ c.in-Some.ensures.items c.in-Some-pop.ensures.items c.loop-pass.invariant.here).0;
       whole = (whole_popped _ _ _ c.in-Some.ensures.items c.loop-pass.invariant.whole).0;
       owners = c.put_back.ensures.owners ∙ c.loop-pass.invariant.owners;
