@@ -35,7 +35,9 @@ use Rattle.owner_books.proofs.Back.{changed_elsewhere, changed_here}
 use Rattle.owner_books.proofs.Disks.{same_still}
 use Rattle.query_server.proofs.Home.{some_of}
 use Rattle.owner_books.proofs.Passes.{book_synced}
-use Rattle.query_server.proofs.Went.{new_opened, went_on}
+use Rattle.owner_books.proofs.Stops.{book_opened}
+use Rattle.owner_books.proofs.Twins.{went_later}
+use Rattle.query_server.proofs.Went.{went_on}
 
 -- A journal that isn't opened ends the grant, with nothing written.
 pub unopened_end : (one : KeyedOwner) (amount : ℕ) (old new : Shelf) (script : List ℕ) (stop : Stop) → OneDisk one.number IsOnlySynced old new → NoOtherRose one.number old new
@@ -84,17 +86,11 @@ module _ (one : KeyedOwner) (amount version : ℕ) (old mid new : Shelf) (opened
   same : book_verdict opened amount ≡ verdict_on one version found amount
   same = λ i. grant_verdict (is.of_entry i) (length (reservations_of found)) (is.fresh i) amount
 
-  was_opened : (records : List Record) → later.ledger.records ≡ records → later.ledger.entry ≡ entry_in one version
-      → IsOpened (entry_in one version) (header_in one version) (old one.number) (new one.number) found
-  was_opened records are its =
-      new_opened (entry_in one version) (header_in one version) (old one.number) (new one.number) records opened later is (changed_here one.number (Some (shown_by later)) mid new back)
-      (subst (λ (xs : List Record). Went xs records opened.storage later.storage) is.fresh
-      (subst (λ (xs : List Record). Went opened.ledger.records xs opened.storage later.storage) are went)) are its sound
-
-  -- nothing of the ledger but its records hangs on the verdict
-  opened_by : (verdict : Result Left GrantRefusal) → IsBookBy opened amount verdict later → IsOpened (entry_in one version) (header_in one version) (old one.number) (new one.number) found
-  opened_by (Ok left) gained = was_opened later.ledger.records refl (ap (λ (l : Ledger). l.entry) gained.ledger ∙ is.of_entry)
-  opened_by (Err refusal) unchanged = was_opened later.ledger.records refl (ap (λ (a : Account). a.ledger.entry) unchanged ∙ is.of_entry)
+  was_opened : IsOpened (entry_in one version) (header_in one version) (old one.number) (new one.number) found
+  was_opened =
+      subst (λ (now : Option Stored). IsOpened (entry_in one version) (header_in one version) (old one.number) now found) (sym (changed_here one.number (Some (shown_by later)) mid new back))
+      (book_opened (entry_in one version) (header_in one version) (old one.number) (shown_by later) opened is
+      (went_later opened.ledger.records later.ledger.records opened.storage later.storage went))
 
   through : (records : List Record) (closed : Option Failure) → later.ledger.records ≡ records → later.storage.closed ≡ closed → later.ledger.entry ≡ entry_in one version
       → OneDisk one.number (WentOn (entry_in one version) (header_in one version) found records closed) old new
@@ -119,7 +115,7 @@ module _ (one : KeyedOwner) (amount version : ℕ) (old mid new : Shelf) (opened
     version = version;
     found = found;
     failure = record { failed_at = later.storage.faults; pending = Grant (grant_behind opened.ledger.records amount) };
-    opened = was_opened later.ledger.records refl (ap (λ (l : Ledger). l.entry) closed.ledger ∙ is.of_entry);
+    opened = was_opened;
     allowed = subst (λ (v : Result Left GrantRefusal). IsOk v) same allowed;
     pending = ap (λ (xs : List Record). Grant (grant_behind xs amount)) is.fresh;
     disk = through found (Some (record { failed_at = later.storage.faults; pending = Grant (grant_behind opened.ledger.records amount) }))
@@ -130,7 +126,7 @@ module _ (one : KeyedOwner) (amount version : ℕ) (old mid new : Shelf) (opened
   granted_end script (Ok end) (status, text, by) = inl (inr (record {
     version = version;
     found = found;
-    opened = opened_by (book_verdict opened amount) by;
+    opened = was_opened;
     is_status = status ∙ ap verdict_status same;
     is_text = text ∙ ap (verdict_text (its_name one)) same;
     disk = subst (λ (v : Result Left GrantRefusal). OneDisk one.number (WentBy (entry_in one version) (header_in one version) found amount v) old new) same

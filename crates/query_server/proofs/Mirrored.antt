@@ -1,22 +1,18 @@
 -- an owner's two disks through a run
 use Rattle.std.proofs.Common.{◌≡◌, ℕ, List, Option, Some, None, refl, sym, ◌∙◌, ap, subst, arith}
-use Rattle.std.specs.Prelude.{IfSome}
 use mathlib.Core.Logic.{◌⊎◌, inl, inr}
 use Rattle.fz_outside.specs.Faults.{HasRisen}
-use Rattle.outside_disks.specs.Disks.{Shown, Trace, WhereTold, seen_of}
+use Rattle.outside_disks.specs.Disks.{Shown}
 use Rattle.outside_disks.specs.Stored.{ATwinRose, Twins}
 use Rattle.journal_records.specs.declared.records.Header.{Header}
 use Rattle.journal_records.specs.declared.records.Record.{Record}
-use Rattle.budget_journal.specs.Journals.{Found, Stands}
 use Rattle.budget_core.specs.Entries.{Entry}
-use Rattle.budget_ledger.specs.Account.{Account, AreCopies, Copies, Copy, CopyWent, CopyWentBy, HasShut, Held, HeldWent, IsCopy, IsInUse, Storage}
+use Rattle.budget_ledger.specs.Account.{Account, AreCopies, Copies, Copy, CopyWent, CopyWentBy, HasShut, Held, HeldWent, IsCopy, Storage}
 use Rattle.budget_ledger.specs.Both.{IsLeft, IsOpenedBoth, IsOpenedCopy, IsReading, Make, Reading, copy_read}
 use Rattle.budget_ledger.specs.Both.Reading.{Missing, Holding, Unfit}
 use Rattle.budget_ledger.specs.declared.failure.Failure.{Failure}
 use Rattle.budget_ledger.proofs.Wents.{held_then}
-use Rattle.owner_books.specs.Opened.{AreFoundOn, OfTwo}
-use Rattle.owner_books.specs.Shelves.{BothGo, OneStands}
-use Rattle.query_server.specs.Mirrors.{BothWentOn, TwinsWentOn, storage_on}
+use Rattle.query_server.specs.Mirrors.{BothWentOn, storage_on}
 
 -- ---- one of two
 
@@ -62,13 +58,6 @@ copy_risen header before (Missing empty) copy (none, gone, left) held failure is
 copy_risen header before (Holding version records) copy (read, found, went) held failure is closed =
     ((held_on (record { trace = read; faults = before.faults }) copy.shown (record { header = record header { version = version }; has = records; closed = None }) copy.held held went is).failed failure refl closed).0
 copy_risen header before (Unfit fault) copy wrong held failure is closed = absurd wrong
-
--- and where none failed, it stands still
-pub copy_still : (header : Header) (before : Shown) (reading : Reading) (copy : Copy) → IsOpenedCopy header before reading copy → IsInUse copy → copy.shown.faults ≡ before.faults
-copy_still header before (Missing empty) copy (none, gone, left) (held, is, closed) = let both : None ≡ Some held = sym none ∙ is in cc both
-copy_still header before (Holding version records) copy (read, found, went) (held, is, closed) =
-    (held_on (record { trace = read; faults = before.faults }) copy.shown (record { header = record header { version = version }; has = records; closed = None }) copy.held held went is).«open» closed
-copy_still header before (Unfit fault) copy wrong used = absurd wrong
 
 -- ---- both
 
@@ -124,43 +113,3 @@ pub both_rose : (header : Header) (found records : List Record) (closed : Option
 both_rose header found records closed before after failure shut went =
     subst (λ (t : Twins). ATwinRose (Some before) (Some t)) (sym went.shown)
     (one_rose header found records before (storage_on header closed went.copies) went.copies went.first went.second went.on_first went.on_second went.kept failure shut)
-
--- Where the book is open, the count of one stands still.
-pub both_still : (header : Header) (found records : List Record) (closed : Option Failure) (before after : Twins) → closed ≡ None → BothWentOn header found records closed before after → OneStands before after
-both_still header found records closed before after unclosed went = subst (OneStands before) (sym went.shown) (here (went.kept.in_use unclosed))
-  where
-    here : IsInUse went.copies.first ⊎ IsInUse went.copies.second → OneStands before (record { first = went.copies.first.shown; second = went.copies.second.shown })
-    here (inl used) = inl (copy_still header before.first went.first went.copies.first went.on_first used)
-    here (inr used) = inr (copy_still header before.second went.second went.copies.second went.on_second used)
-
-pub twins_still : (header : Header) (found records : List Record) (closed : Option Failure) (before after : Option Twins) → closed ≡ None → TwinsWentOn header found records closed before after → BothGo OneStands before after
-twins_still header found records closed None None unclosed went = tt
-twins_still header found records closed None (Some after) unclosed went = absurd went
-twins_still header found records closed (Some before) None unclosed went = absurd went
-twins_still header found records closed (Some before) (Some after) unclosed went = both_still header found records closed before after unclosed went
-
--- ---- what was found on them
-
-told_stands : (header : Header) (found : List Record) (before opened : Option Trace) → WhereTold (Found header found) before opened → IfSome before (λ t. Stands header found (seen_of t))
-told_stands header found None opened f = tt
-told_stands header found (Some t) None f = absurd f
-told_stands header found (Some t) (Some u) (is, rest) = subst (λ (w : Trace). Stands header found (seen_of w)) is rest.stands
-
-pub reading_so : (header : Header) (before : Shown) (reading : Reading) (copy : Copy) → IsOpenedCopy header before reading copy → IsReading header before copy.shown reading
-reading_so header before (Missing empty) copy (none, gone, left) = gone
-reading_so header before (Holding version records) copy (read, found, went) = told_stands (record header { version = version }) records before.trace read found
-reading_so header before (Unfit fault) copy wrong = absurd wrong
-
-pub found_on : (header : Header) (found records : List Record) (closed : Option Failure) (before after : Twins) → BothWentOn header found records closed before after → AreFoundOn header found before after
-found_on header found records closed before after went = record {
-  first = went.first;
-  second = went.second;
-  on_first = subst (λ (t : Twins). IsReading header before.first t.first went.first) (sym went.shown) (reading_so header before.first went.first went.copies.first went.on_first);
-  on_second = subst (λ (t : Twins). IsReading header before.second t.second went.second) (sym went.shown) (reading_so header before.second went.second went.copies.second went.on_second);
-  made = went.made;
-}
-
-pub found_on_twins : (header : Header) (found records : List Record) (closed : Option Failure) (before after : Option Twins) → TwinsWentOn header found records closed before after → OfTwo (AreFoundOn header found) before after
-found_on_twins header found records closed None after went = tt
-found_on_twins header found records closed (Some before) None went = absurd went
-found_on_twins header found records closed (Some before) (Some after) went = found_on header found records closed before after went

@@ -45,8 +45,9 @@ use Rattle.query_server.specs.declared.end.Status.TheVariants as code
 use Rattle.owner_books.proofs.Bundled.{many_known}
 use Rattle.owner_books.proofs.Passes.{all_back, fresh_none}
 use Rattle.query_server.proofs.Ends.{end_passed}
-use Rattle.owner_books.proofs.Stops.{err_same}
-use Rattle.query_server.proofs.Went.{new_opened, went_on}
+use Rattle.owner_books.proofs.Stops.{err_same, pass_opened}
+use Rattle.owner_books.proofs.Twins.{CountsStay, went_later}
+use Rattle.query_server.proofs.Went.{went_on}
 
 -- what was answered by workers, by the draws and the script as they are called elsewhere
 pub worked_as : (house : House) (given draws : ℕ → ℕ → ℕ → ℕ) (workers : ℕ) (script other text : List ℕ) (old new : List Pass) → given ≡ draws → script ≡ other
@@ -103,9 +104,12 @@ module _ (loading : Loading) (key : List ℕ) (lawful : IsLoading loading) where
       → ((o : ℕ) → o < owners_in loading → (pass_at after o).opened ≡ (pass_at passes o).opened) → ArePutBack (owners_in loading) after books mid new
       → (o : ℕ) → o < owners_in loading → IsOpened (entry_at loading o) (header_of loading key o) (old o) (new o) (found_by passes o)
   passes_opened old mid new passes after books on same back o within =
-      let w = book_went o (old o) (pass_at passes o) (pass_at after o) (books o) (on.each o within) (same o within) (back.gave o within) in
-      new_opened (entry_at loading o) (header_of loading key o) (old o) (new o) (books o).ledger.records (pass_at passes o).opened (books o) (on.each o within).book (back.each o within)
-      w.0 refl w.1 (back.gave o within).sound
+      let p = pass_at passes o in
+      let q = pass_at after o in
+      let counts = subst (λ (a : Account). CountsStay (shown_by a).twins (shown_by (books o)).twins) (same o within)
+      (went_later q.opened.ledger.records (books o).ledger.records q.opened.storage (books o).storage (back.gave o within).went) in
+      subst (λ (now : Option Stored). IsOpened (entry_at loading o) (header_of loading key o) (old o) now p.opened.ledger.found) (sym (back.each o within))
+      (pass_opened (entry_at loading o) (header_of loading key o) (old o) (shown_by (books o)) p (on.each o within) counts)
 
   -- the records and the closings of the owners' books
   abbrev pub records_of : (ℕ → Account) → Journals

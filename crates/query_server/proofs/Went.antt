@@ -1,13 +1,12 @@
 -- an owner's disk through a run, by its book
 use Rattle.std.proofs.Common.{◌≡◌, ℕ, ◌≤◌, List, [], Option, Some, None, refl, sym, ◌∙◌, ap, subst, append-nil, arith}
 use Rattle.fz_outside.specs.Faults.{HasRisen}
-use Rattle.std.specs.Prelude.{IfSome, option_map}
+use Rattle.std.specs.Prelude.{IfSome}
 use mathlib.Core.Logic.{◌⊎◌, inl, inr}
 use mathlib.Core.List.{IsPrefix}
-use Rattle.outside_disks.specs.Disks.{Trace, IsImageOf, Passes, WhereTold, noted, seen_of}
+use Rattle.outside_disks.specs.Disks.{Trace, IsImageOf, Passes, WhereTold, noted}
 use Rattle.outside_disks.specs.Stored.{ATwinRose, Stored, Twins, one_stored, two_stored}
 use Rattle.outside_disks.specs.Disks.Step.{Synced}
-use Rattle.outside_bays.specs.Bays.{Changes}
 use Rattle.journal_records.specs.declared.records.Header.{Header}
 use Rattle.journal_records.specs.declared.records.Record.{Record}
 use Rattle.budget_journal.specs.Journals.{Found, IsAtRest, Stands}
@@ -16,13 +15,10 @@ use Rattle.budget_core.specs.Legal.{MayFollow}
 use Rattle.budget_ledger.specs.Account.{Account, AreCopies, Copies, CopyWent, EachCopyWent, IsBook, IsKeptNow, IsMoment, HasPassed, Storage, Went, stored_with}
 use Rattle.budget_ledger.specs.Both.{IsOpenedBoth}
 use Rattle.budget_ledger.specs.declared.failure.Failure.{Failure}
-use Rattle.budget_ledger.proofs.Wents.{went_self}
 use Rattle.owner_books.specs.Books.{IsNewBook, IsOnBoth, shown_by}
-use Rattle.owner_books.specs.Opened.{AreFoundOn, IsOpened, OfTwo}
-use Rattle.owner_books.specs.Shelves.{BothGo, OneStands, Shelf, StandsStill, both_of}
 use Rattle.query_server.specs.Mirrors.{BothWentOn, TwinsWentOn}
 use Rattle.query_server.specs.Run.{WentOn}
-use Rattle.query_server.proofs.Mirrored.{both_rose, both_went, found_on_twins, twins_still}
+use Rattle.query_server.proofs.Mirrored.{both_rose, both_went}
 
 prefix_same : (records : List Record) → IsPrefix records records
 prefix_same records = ([], append-nil records)
@@ -128,44 +124,3 @@ pub went_on : (entry : Entry) (header : Header) (records : List Record) (shown :
     → WentOn entry header opened.ledger.found records later.storage.closed before (shown_by later)
 went_on entry header records shown before opened later at new w are its sound =
     went_new entry header records before opened later (subst (λ (s : Option Stored). IsNewBook entry header s opened) at new) w are its sound
-
--- disks that are put back, by the names that their owner and what they show have elsewhere
-pub changed_as : (k j : ℕ) (s t : Stored) (old new : Shelf) → k ≡ j → s ≡ t → Changes k (Some s) old new → Changes j (Some t) old new
-changed_as k j s t old new here shows changes =
-    subst (λ (n : ℕ). Changes n (Some t) old new) here (subst (λ (x : Stored). Changes k (Some x) old new) shows changes)
-
--- ---- what was found
-
-told_stands : (header : Header) (found : List Record) (before opened : Option Trace) → WhereTold (Found header found) before opened → IfSome (option_map seen_of before) (Stands header found)
-told_stands header found None opened f = tt
-told_stands header found (Some t) None f = absurd f
-told_stands header found (Some t) (Some u) (is, rest) = subst (λ (w : Trace). Stands header found (seen_of w)) is rest.stands
-
--- So the journal was opened with what was found, by what its disks show now.
-pub new_opened : (entry : Entry) (header : Header) (shown now : Option Stored) (records : List Record) (opened later : Account) → IsNewBook entry header shown opened → now ≡ Some (shown_by later)
-    → Went opened.ledger.found records opened.storage later.storage → later.ledger.records ≡ records → later.ledger.entry ≡ entry → IsBook later → IsOpened entry header shown now opened.ledger.found
-new_opened entry header None now records opened later new is w are its sound = record { stands = tt; history = new.history; twins = tt }
-new_opened entry header (Some before) now records opened later new is w are its sound =
-    let went = went_new entry header records before opened later new w are its sound in
-    record {
-      stands = told_stands header opened.ledger.found before.trace opened.storage.trace new.on.0;
-      history = new.history;
-      twins = subst (λ (s : Option Stored). OfTwo (AreFoundOn header opened.ledger.found) before.twins (both_of s)) (sym is)
-          (found_on_twins header opened.ledger.found records later.storage.closed before.twins (shown_by later).twins went.twins);
-    }
-
--- a book on which nothing was done
-pub book_opened_still : (entry : Entry) (header : Header) (shown now : Option Stored) (book : Account) → IsNewBook entry header shown book → now ≡ Some (shown_by book) → IsOpened entry header shown now book.ledger.found
-book_opened_still entry header shown now book new is =
-    new_opened entry header shown now book.ledger.records book book new is
-    (subst (λ (rs : List Record). Went rs book.ledger.records book.storage book.storage) new.fresh (went_self book.ledger.records book.storage)) refl new.of_entry new.sound
-
--- whose disks' counts stand still, or that of one of two
-pub book_still : (entry : Entry) (header : Header) (o : ℕ) (old new : Shelf) (book : Account) → IsNewBook entry header (old o) book → new o ≡ Some (shown_by book) → StandsStill o old new
-book_still entry header o old new book is at before after was shows =
-    let fresh = subst (λ (s : Option Stored). IsNewBook entry header s book) was is in
-    let went = went_new entry header book.ledger.records before book book fresh
-    (subst (λ (rs : List Record). Went rs book.ledger.records book.storage book.storage) is.fresh (went_self book.ledger.records book.storage)) refl is.of_entry is.sound in
-    let one : shown_by book ≡ after = let e : Some (shown_by book) ≡ Some after = sym at ∙ shows in cc e in
-    subst (λ (s : Stored). (s.faults ≡ before.faults) × BothGo OneStands before.twins s.twins) one
-    (went.steady is.unclosed, twins_still header book.ledger.found book.ledger.records book.storage.closed before.twins (shown_by book).twins is.unclosed went.twins)

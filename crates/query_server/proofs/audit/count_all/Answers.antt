@@ -37,8 +37,8 @@ returns-in_err-count_owner-clause-stop g c =
     let stop = c.in_err-count_owner.field-0.0 in
     stop_passed (IsOpenStop loading c.args.opened.now.key (g.B.Bay.shelf c.args.bay.now) (g.B.Bay.shelf c.count_owner.new.bay)) stop
     c.from_residual-in_err-count_owner.result c.from_residual-in_err-count_owner.ensures.1
-    (book_stopped loading c.args.opened.now.key c.loop-owner.owner (g.B.Bay.shelf c.args.bay.now) (g.B.Bay.shelf c.loop-owner.bay) (g.B.Bay.shelf c.count_owner.new.bay) stop
-    (omega (arith, c.loop-owner-test.true, c.len-owner-end.ensures, c.in_ok-headers.ensures.count)) (c.loop-owner.invariant.disks.others c.loop-owner.owner (omega arith))
+    (book_stopped loading c.args.opened.now.key c.loop-owner.owner (g.B.Bay.shelf c.args.bay.now) (g.B.Bay.shelf c.loop-owner.bay) (g.B.Bay.shelf c.count_owner.new.bay) (g.B.Bay.shelf c.count_owner.new.bay) stop
+    (omega (arith, c.loop-owner-test.true, c.len-owner-end.ensures, c.in_ok-headers.ensures.count)) (c.loop-owner.invariant.disks.others c.loop-owner.owner (omega arith)) refl
     (λ p less. ((counted.0 p).0, (counted.0 p).1, opened_as _ _ _ _ _ _ _ refl (sym (c.in_err-count_owner.ensures.left.elsewhere p (λ same. omega (arith, less, same)))) (counted.1 p less))) (still_elsewhere _ _ _ _ c.loop-owner.invariant.still c.in_err-count_owner.ensures.left) c.in_err-count_owner.ensures.stop)
 
 pub returns-in_err-count_owner-clause-disk : goal.returns-in_err-count_owner-clause-disk

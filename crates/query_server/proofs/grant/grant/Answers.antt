@@ -9,9 +9,9 @@ use Rattle.query_server.specs.Grant.{entry_in, header_in}
 use Rattle.query_server.specs.Granted.{IsGrantEnd}
 use Rattle.owner_books.specs.Shelves.{OneDisk, IsOnlySynced}
 use Rattle.query_server.specs.Work.{to_grant}
+use Rattle.owner_books.proofs.Back.{changed_to}
 use Rattle.query_server.proofs.Ends.{end_passed}
 use Rattle.query_server.proofs.Granting.{granted_end, granted_rose, one_risen, unopened_end}
-use Rattle.query_server.proofs.Went.{changed_as}
 use Rattle.query_server.proofs.grant.grant.Goals as goal
 
 pub returns-in_err-book-clause-end : goal.returns-in_err-book-clause-end
@@ -41,7 +41,7 @@ returns-clause-end g c = λ script.
     (subst (λ (e : Entry). IsNewBook (record e { version = version }) (header_in one version) (old c.number-owner.result) book) c.in_ok-entry.ensures
     (subst (λ (h : Header). IsNewBook (record c.in_ok-entry.entry { version = version }) (record h { version = version }) (old c.number-owner.result) book) c.in_ok-header.ensures.header c.in_ok-book.ensures.book)) in
     let took = subst (λ (o : ℕ). TookDisk o old mid) c.number-owner.ensures.number c.in_ok-book.ensures.taken in
-    let back = changed_as _ _ _ _ _ _ c.number-owner.ensures.number c.into_disks.ensures.stored c.put_back.ensures.home in
+    let back = changed_to _ _ _ _ _ _ c.number-owner.ensures.number c.into_disks.ensures.stored c.put_back.ensures.home in
     granted_end one c.args.amount version old mid new book later is took back c.grant_over-end.ensures.went c.grant_over-end.ensures.kept script c.grant_over-end.result
     (subst (λ (n : List ℕ). IsGrantEnd book n c.args.amount c.grant_over-end.result later) c.name-2.ensures c.grant_over-end.ensures.end)
 
@@ -58,7 +58,7 @@ returns-clause-disk g c = λ line is_disk.
     (subst (λ (e : Entry). IsNewBook (record e { version = version }) (header_in one version) (old c.number-owner.result) book) c.in_ok-entry.ensures
     (subst (λ (h : Header). IsNewBook (record c.in_ok-entry.entry { version = version }) (record h { version = version }) (old c.number-owner.result) book) c.in_ok-header.ensures.header c.in_ok-book.ensures.book)) in
     let took = subst (λ (o : ℕ). TookDisk o old mid) c.number-owner.ensures.number c.in_ok-book.ensures.taken in
-    let back = changed_as _ _ _ _ _ _ c.number-owner.ensures.number c.into_disks.ensures.stored c.put_back.ensures.home in
+    let back = changed_to _ _ _ _ _ _ c.number-owner.ensures.number c.into_disks.ensures.stored c.put_back.ensures.home in
     let lawful = c.number-owner.ensures.lawful in
     inr (granted_rose one c.args.amount version old mid new book later is took back c.grant_over-end.ensures.went c.grant_over-end.ensures.kept c.grant_over-end.result line
     (c.requires.home one.number (omega (arith, lawful.known, lawful.catalog.few_owners))).1 is_disk
