@@ -32,6 +32,7 @@ pub mod ExamplesOfDisks
 pub mod ExamplesOfService
 pub mod ExamplesOfGrants
 mod ExamplesOfRecords
+mod ExamplesOfMirrors
 pub mod Granting
 -- passed on to the crates above
 pub use Rattle.generated_run.proofs.AnswerPath
