@@ -41,24 +41,32 @@ module _ (common : Header) (r : Record) where
     second = Holding 3 [];
     made = (refl, inl (([], refl), refl, refl));
     copies = fell;
-    on_first = (None, tt, record {
-      header = refl;
-      begins = ([], refl);
-      moments = tt;
-      counts = omega arith;
-      shut = λ failure is. absurd (cc is);
-      «open» = λ is. absurd (cc is);
-      failed = λ failure none is. (λ low. omega arith, (let same : record { failed_at = 1; pending = r } ≡ failure = cc is in ap (λ (f : Failure). f.failed_at) (sym same)));
-    });
-    on_second = (None, tt, record {
-      header = refl;
-      begins = (r ∷ [], refl);
-      moments = tt;
-      counts = omega arith;
-      shut = λ failure is. absurd (cc is);
-      «open» = λ is. refl;
-      failed = λ failure none is. absurd (cc is);
-    });
+    on_first = (
+      None,
+      tt,
+      record {
+        header = refl;
+        begins = ([], refl);
+        moments = tt;
+        counts = omega arith;
+        shut = λ failure is. absurd (cc is);
+        «open» = λ is. absurd (cc is);
+        failed = λ failure none is. (λ low. omega arith, (let same : record { failed_at = 1; pending = r } ≡ failure = cc is in ap (λ (f : Failure). f.failed_at) (sym same)));
+      },
+    );
+    on_second = (
+      None,
+      tt,
+      record {
+        header = refl;
+        begins = (r ∷ [], refl);
+        moments = tt;
+        counts = omega arith;
+        shut = λ failure is. absurd (cc is);
+        «open» = λ is. refl;
+        failed = λ failure none is. absurd (cc is);
+      },
+    );
     kept = record {
       untold = refl;
       counted = refl;

@@ -150,9 +150,9 @@ module _ (one : KeyedOwner) (amount version : ℕ) (old mid new : Shelf) (opened
     was,
     changed_here one.number (Some (shown_by later)) mid new back,
     let fails = unwritten (allowed, (DiskFault, closed)) in
-    let now = fails.disk.here before was in
-    let shows : now.0 ≡ shown_by later = let e : Some now.0 ≡ Some (shown_by later) = sym now.1 ∙ changed_here one.number (Some (shown_by later)) mid new back in cc e in
-    subst (HasCountRisen before) shows (now.2.failed fails.failure refl).0,
+        let now = fails.disk.here before was in
+        let shows : now.0 ≡ shown_by later = let e : Some now.0 ≡ Some (shown_by later) = sym now.1 ∙ changed_here one.number (Some (shown_by later)) mid new back in cc e in
+        subst (HasCountRisen before) shows (now.2.failed fails.failure refl).0,
   )
 
   -- The line of the disk comes only where its count rose.

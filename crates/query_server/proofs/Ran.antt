@@ -214,16 +214,22 @@ module _ (loading : Loading) (key : List ℕ) (versions : List ℕ) (counted : l
       → ArePassesOn (entry_at house_found) (header_of house_found key) (owners_in loading) old mid passes → IsScriptEnd (house_of house_found.register) (draws_of key) workers script passes after result
       → ArePutBack (owners_in loading) after books mid new → IsEndOf (to_answer workers loading key) old new script result
   run_ends workers old mid new passes after books script (Ok (Done replies)) some on (short, h) back =
-      inl (inr (versions, found_by passes,
-      all_opened old mid new passes after books on (λ o within. (h.owners o (owner_found o) (there house_found key found_lawful o within)).opened) back,
-      inl (refl, short, answered_over house_found key found_lawful workers old mid new passes after books script replies.items some on h back)))
+      inl (inr (
+        versions,
+        found_by passes,
+        all_opened old mid new passes after books on (λ o within. (h.owners o (owner_found o) (there house_found key found_lawful o within)).opened) back,
+        inl (refl, short, answered_over house_found key found_lawful workers old mid new passes after books script replies.items some on h back),
+      ))
   run_ends workers old mid new passes after books script (Ok (ProgramRefused line)) some on wrong back = absurd wrong
   run_ends workers old mid new passes after books script (Ok (TooLarge line)) some on wrong back = absurd wrong
   run_ends workers old mid new passes after books script (Ok (JournalFull line)) some on wrong back = absurd wrong
   run_ends workers old mid new passes after books script (Ok ScriptTooLong) some on (long, none) back =
-      inl (inr (versions, found_by passes,
-      all_opened old mid new passes after books on (λ o within. (none o (owner_found o) (there house_found key found_lawful o within)).0) back,
-      inr (refl, long, refl, unserved_back house_found key found_lawful old mid new passes after books on none back)))
+      inl (inr (
+        versions,
+        found_by passes,
+        all_opened old mid new passes after books on (λ o within. (none o (owner_found o) (there house_found key found_lawful o within)).0) back,
+        inr (refl, long, refl, unserved_back house_found key found_lawful old mid new passes after books on none back),
+      ))
   run_ends workers old mid new passes after books script (Err stop) some on (inl is, none) back = inr (inl (ap Err is), unserved_back house_found key found_lawful old mid new passes after books on none back)
   run_ends workers old mid new passes after books script (Err stop) some on (inr is, none) back = inr (inr (inl (ap Err is)), unserved_back house_found key found_lawful old mid new passes after books on none back)
 

@@ -54,10 +54,10 @@ none_before R (Some t) told = absurd told
 
 module _ (entry : Entry) (header : Header) (records : List Record) (before : Stored) (opened later : Account) (new : IsNewBook entry header (Some before) opened) (w : Went opened.ledger.found records opened.storage later.storage)
     (are : later.ledger.records ≡ records) (its : later.ledger.entry ≡ entry) (sound : IsBook later) where
-  found : List Record
+  abbrev found : List Record
   found = opened.ledger.found
 
-  closed : Option Failure
+  abbrev closed : Option Failure
   closed = later.storage.closed
 
   same : later.storage.header ≡ header

@@ -112,7 +112,7 @@ IsGrantedEnd new status text = (status ≡ Done) × (text ≡ granted_text) × I
 
 due_is : (old new : Shelf) (status : Status) (text : List ℕ) → IsJournalMade old → IsGrantDue one 5000000 old new status text → IsGrantedEnd new status text
 due_is old new status text (bytes, told, alone, made) (inl u) =
-    absurd (never_refused (its_entry one) (its_header one) [] bytes u.refusal made refl (no_records (its_entry one)) 
+    absurd (never_refused (its_entry one) (its_header one) [] bytes u.refusal made refl (no_records (its_entry one))
     (both_given (λ (b : Option (List ℕ)) (t : Option Twins). IsUnopenedBy (its_entry one) (its_header one) b t (both_on new 0) u.refusal) (bytes_on old 0) (Some bytes) (both_on old 0) None told alone u.refused))
 due_is old new status text (bytes, told, alone, made) (inr a) =
     let there = none_there bytes a.version a.found (old 0) (new 0) told made a.opened in
