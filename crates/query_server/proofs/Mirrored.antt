@@ -96,11 +96,11 @@ module _ (header : Header) (found records : List Record) (before : Twins) (stora
   }
 
 -- of a book that was opened on both, and what it became
-pub both_went : (entry : Entry) (header : Header) (before : Twins) (opened later : Account) (then now : Copies) → IsOpenedBoth entry header before opened → opened.storage.header ≡ header → opened.storage.copies ≡ Some then
-    → CopyWent then.first now.first → CopyWent then.second now.second → later.storage.header ≡ header → AreCopies later.ledger.records later.storage now
+pub both_went : (entry : Entry) (header : Header) (before : Twins) (opened later : Account) (had now : Copies) → IsOpenedBoth entry header before opened → opened.storage.header ≡ header → opened.storage.copies ≡ Some had
+    → CopyWent had.first now.first → CopyWent had.second now.second → later.storage.header ≡ header → AreCopies later.ledger.records later.storage now
     → BothWentOn header opened.ledger.found later.ledger.records later.storage.closed before (record { first = now.first.shown; second = now.second.shown })
-both_went entry header before opened later then now on of_header are first second same kept =
-    let its : then ≡ on.copies = let e : Some then ≡ Some on.copies = sym are ∙ ap (λ (s : Storage). s.copies) on.storage in cc e in
+both_went entry header before opened later had now on of_header are first second same kept =
+    let its : had ≡ on.copies = let e : Some had ≡ Some on.copies = sym are ∙ ap (λ (s : Storage). s.copies) on.storage in cc e in
     let at_first = subst (λ (c : Copies). CopyWent c.first now.first) its first in
     let at_second = subst (λ (c : Copies). CopyWent c.second now.second) its second in
     both_on header opened.ledger.found later.ledger.records before later.storage now on.first on.second

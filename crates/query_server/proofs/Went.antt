@@ -82,12 +82,12 @@ module _ (entry : Entry) (header : Header) (records : List Record) (before : Sto
     twins = subst (λ (t : Option Twins). TwinsWentOn header found records closed t None) (sym one) tt;
   }
 
-  on_two : (was : Twins) (then now : Copies) → before.twins ≡ Some was → opened.storage.copies ≡ Some then → IsOpenedBoth entry header was opened → CopyWent then.first now.first → CopyWent then.second now.second
+  on_two : (was : Twins) (had now : Copies) → before.twins ≡ Some was → opened.storage.copies ≡ Some had → IsOpenedBoth entry header was opened → CopyWent had.first now.first → CopyWent had.second now.second
       → AreCopies later.ledger.records later.storage now → WentOn entry header found records closed before (two_stored (record { first = now.first.shown; second = now.second.shown }))
-  on_two was then now two have both first second kept =
+  on_two was had now two have both first second kept =
       let went : BothWentOn header found records closed was (record { first = now.first.shown; second = now.second.shown })
       = subst (λ (rs : List Record). BothWentOn header found rs closed was (record { first = now.first.shown; second = now.second.shown })) are
-      (both_went entry header was opened later then now both new.of_header have first second same kept) in
+      (both_went entry header was opened later had now both new.of_header have first second same kept) in
       let untold : before.trace ≡ None
       = none_before (Found header found) before.trace (subst (λ (t : Option Trace). WhereTold (Found header found) before.trace t) (ap (λ (s : Storage). s.trace) both.storage) new.on.0) in
       let none : 0 ≡ before.faults = sym (ap (λ (s : Storage). s.faults) both.storage) ∙ new.on.1 in
@@ -106,14 +106,14 @@ module _ (entry : Entry) (header : Header) (records : List Record) (before : Sto
         twins = subst (λ (t : Option Twins). TwinsWentOn header found records closed t (Some (record { first = now.first.shown; second = now.second.shown }))) (sym two) went;
       }
 
-  goes : (was : Option Twins) (then now : Option Copies) → before.twins ≡ was → opened.storage.copies ≡ then → IsOnBoth entry header opened was then → EachCopyWent then now → IfSome now (AreCopies later.ledger.records later.storage)
+  goes : (was : Option Twins) (had now : Option Copies) → before.twins ≡ was → opened.storage.copies ≡ had → IsOnBoth entry header opened was had → EachCopyWent had now → IfSome now (AreCopies later.ledger.records later.storage)
       → WentOn entry header found records closed before (stored_with later.storage.trace later.storage.faults now)
   goes None None None one have both went kept = on_one one
   goes None None (Some now) one have both went kept = absurd went
-  goes None (Some then) now one have both went kept = absurd both
+  goes None (Some had) now one have both went kept = absurd both
   goes (Some was) None now two have both went kept = let wrong : None ≡ Some both.copies = sym have ∙ ap (λ (s : Storage). s.copies) both.storage in cc wrong
-  goes (Some was) (Some then) None two have both went kept = absurd went
-  goes (Some was) (Some then) (Some now) two have both went kept = on_two was then now two have both went.0 went.1 kept
+  goes (Some was) (Some had) None two have both went kept = absurd went
+  goes (Some was) (Some had) (Some now) two have both went kept = on_two was had now two have both went.0 went.1 kept
 
   pub went_new : WentOn entry header found records closed before (shown_by later)
   went_new = goes before.twins opened.storage.copies later.storage.copies refl refl new.on_both w.copies sound.copies
