@@ -4,7 +4,7 @@ use Rattle.std.specs.List.{flat_map}
 use mathlib.Core.Logic.{◌⊎◌, inl, inr}
 use Rattle.fz_outside.specs.Faults.{HasRisen, last_count}
 use Rattle.outside_disks.specs.Disks.{IsImageOf, Trace, seen_of}
-use Rattle.outside_disks.specs.Stored.{HasCountRisen, Stored, Twins}
+use Rattle.outside_disks.specs.Stored.{Stored, Twins}
 use Rattle.journal_records.specs.declared.records.Header.{Header}
 use Rattle.journal_records.specs.declared.records.Record.{Record}
 use Rattle.budget_core.specs.Entries.{Entry}
@@ -22,7 +22,7 @@ use Rattle.service_workers.specs.declared.posting.Service.{Service}
 use Rattle.service_workers.specs.declared.posting.Service.TheVariants.{Served, DoorFault, NoMemory}
 use Rattle.catalog_loading.specs.Files.{ReadsToCome}
 use Rattle.catalog_loading.specs.Loaded.{Loading}
-use Rattle.owner_books.specs.Shelves.{Shelf}
+use Rattle.owner_books.specs.Shelves.{AreLost, Shelf}
 use Rattle.query_server.specs.Run.{IsScriptAnswered, WentOn}
 use Rattle.query_server.specs.Service.{IsServiceDone, service_status}
 use Rattle.query_server.specs.declared.end.Status.{Status}
@@ -83,7 +83,7 @@ module _ (entry : Entry) (header : Header) (r : Record) where
   unseen_failure : WentOn entry header [] [] (Some failure) (untold 2) (untold 2) → ⊥
   unseen_failure w = risen (w.failed failure refl).0
     where
-      risen : HasCountRisen (untold 2) (untold 2) → ⊥
+      risen : AreLost (untold 2) (untold 2) → ⊥
       risen (inl (alone, rose)) =
           let below : 2 < last_count = omega arith in
           let h : 2 < 2 = rose below in

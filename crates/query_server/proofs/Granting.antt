@@ -3,7 +3,7 @@ use Rattle.std.proofs.Common.{◌≡◌, ℕ, List, length, Option, Some, None, 
 use Rattle.std.specs.Prelude.{Result, Ok, Err, IsOk, IsSome, IfSome}
 use mathlib.Core.Logic.{inl, inr}
 use Rattle.outside_disks.specs.Disks.{WhereTold}
-use Rattle.outside_disks.specs.Stored.{HasCountRisen, Stored}
+use Rattle.outside_disks.specs.Stored.{Stored}
 use Rattle.outside_bays.specs.Bays.{Changes}
 use Rattle.fz_outside.specs.Faults.{HasRisen}
 use Rattle.journal_records.specs.declared.records.Header.{Header}
@@ -29,7 +29,7 @@ use Rattle.query_server.specs.Grant.{IsGrantUnwritten, WentBy, entry_in, header_
 use Rattle.query_server.specs.Granted.{IsBookBy, IsGrantEnd, IsUnappendedGrant, book_verdict}
 use Rattle.owner_books.specs.Opened.{IsOpened}
 use Rattle.query_server.specs.Run.{WentOn}
-use Rattle.owner_books.specs.Shelves.{NoOtherRose, OneDisk, IsOnlySynced, Shelf, SomeRose}
+use Rattle.owner_books.specs.Shelves.{AreLost, NoOtherRose, OneDisk, IsOnlySynced, Shelf, SomeRose}
 use Rattle.query_server.specs.Work.{to_grant}
 use Rattle.owner_books.proofs.Back.{changed_elsewhere, changed_here}
 use Rattle.owner_books.proofs.Disks.{same_still}
@@ -37,6 +37,7 @@ use Rattle.query_server.proofs.Home.{some_of}
 use Rattle.owner_books.proofs.Passes.{book_synced}
 use Rattle.owner_books.proofs.Stops.{book_opened}
 use Rattle.owner_books.proofs.Twins.{went_later}
+use Rattle.query_server.proofs.Mirrored.{lost_rose}
 use Rattle.query_server.proofs.Went.{went_on}
 
 -- A journal that isn't opened ends the grant, with nothing written.
@@ -152,7 +153,7 @@ module _ (one : KeyedOwner) (amount version : ℕ) (old mid new : Shelf) (opened
     let fails = unwritten (allowed, (DiskFault, closed)) in
         let now = fails.disk.here before was in
         let shows : now.0 ≡ shown_by later = let e : Some now.0 ≡ Some (shown_by later) = sym now.1 ∙ changed_here one.number (Some (shown_by later)) mid new back in cc e in
-        subst (HasCountRisen before) shows (now.2.failed fails.failure refl).0,
+        lost_rose before (shown_by later) (subst (AreLost before) shows (now.2.failed fails.failure refl).0),
   )
 
   -- The line of the disk comes only where its count rose.

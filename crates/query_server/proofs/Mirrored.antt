@@ -1,17 +1,18 @@
 -- an owner's two disks through a run
-use Rattle.std.proofs.Common.{◌≡◌, ℕ, List, Option, Some, None, refl, sym, ◌∙◌, ap, subst, arith}
+use Rattle.std.proofs.Common.{◌≡◌, ℕ, List, [], true, false, Option, Some, None, refl, sym, ◌∙◌, ap, subst, arith}
 use mathlib.Core.Logic.{◌⊎◌, inl, inr}
 use Rattle.fz_outside.specs.Faults.{HasRisen}
 use Rattle.outside_disks.specs.Disks.{Shown}
-use Rattle.outside_disks.specs.Stored.{ATwinRose, Twins}
+use Rattle.outside_disks.specs.Stored.{ATwinRose, HasCountRisen, Stored, Twins}
 use Rattle.journal_records.specs.declared.records.Header.{Header}
 use Rattle.journal_records.specs.declared.records.Record.{Record}
 use Rattle.budget_core.specs.Entries.{Entry}
-use Rattle.budget_ledger.specs.Account.{Account, AreCopies, Copies, Copy, CopyWent, CopyWentBy, HasShut, Held, HeldWent, IsCopy, Storage}
-use Rattle.budget_ledger.specs.Both.{IsLeft, IsOpenedBoth, IsOpenedCopy, IsReading, Make, Reading, copy_read}
+use Rattle.budget_ledger.specs.Account.{Account, AreCopies, Copies, Copy, CopyWent, CopyWentBy, HasShut, Held, HeldWent, IsCopy, IsInUse, Storage}
+use Rattle.budget_ledger.specs.Both.{HaveFailed, HoldsBytes, IsLeft, IsOpenedBoth, IsOpenedCopy, IsReading, Make, Reading, copy_read}
 use Rattle.budget_ledger.specs.Both.Reading.{Missing, Holding, Unfit}
 use Rattle.budget_ledger.specs.declared.failure.Failure.{Failure}
 use Rattle.budget_ledger.proofs.Wents.{held_then}
+use Rattle.owner_books.specs.Shelves.{AreGone, AreLost}
 use Rattle.query_server.specs.Mirrors.{BothWentOn, storage_on}
 
 -- ---- one of two
@@ -59,6 +60,22 @@ copy_risen header before (Holding version records) copy (read, found, went) held
     ((held_on (record { trace = read; faults = before.faults }) copy.shown (record { header = record header { version = version }; has = records; closed = None }) copy.held held went is).failed failure refl closed).0
 copy_risen header before (Unfit fault) copy wrong held failure is closed = absurd wrong
 
+-- where it isn't in use, its count rose or it was empty
+copy_out : (header : Header) (before : Shown) (reading : Reading) (copy : Copy) → IsOpenedCopy header before reading copy → (IsInUse copy → ⊥) → HasRisen before.faults copy.shown.faults ⊎ HoldsBytes (λ bytes. bytes ≡ []) before
+copy_out header before (Missing true) copy (none, gone, left) out = inr gone
+copy_out header before (Missing false) copy (none, gone, left) out = inl gone
+copy_out header before (Holding version records) copy opened out = held_out copy.held refl opened.2
+  where
+    held_out : (some : Option Held) → copy.held ≡ some → CopyWentBy (record { trace = opened.0; faults = before.faults }) copy.shown (copy_read header (record { trace = opened.0; faults = before.faults }) version records).held some
+        → HasRisen before.faults copy.shown.faults ⊎ HoldsBytes (λ bytes. bytes ≡ []) before
+    held_out None is went = absurd went
+    held_out (Some held) is went = here held.closed refl
+      where
+        here : (closed : Option Failure) → held.closed ≡ closed → HasRisen before.faults copy.shown.faults ⊎ HoldsBytes (λ bytes. bytes ≡ []) before
+        here None unclosed = absurd (out (held, is, unclosed))
+        here (Some failure) shut = inl (copy_risen header before (Holding version records) copy opened held failure is shut)
+copy_out header before (Unfit fault) copy wrong out = absurd wrong
+
 -- ---- both
 
 module _ (header : Header) (found records : List Record) (before : Twins) (storage : Storage) (copies : Copies) (first second : Reading) (on_first : IsOpenedCopy header before.first first copies.first) (on_second : IsOpenedCopy header before.second second copies.second)
@@ -66,13 +83,24 @@ module _ (header : Header) (found records : List Record) (before : Twins) (stora
   abbrev now : Twins
   now = record { first = copies.first.shown; second = copies.second.shown }
 
-  -- Where the book was closed, the count of one rose.
-  pub one_rose : (failure : Failure) → storage.closed ≡ Some failure → ATwinRose (Some before) (Some now)
-  one_rose failure shut = here (kept.shut failure shut)
+  -- Where the book was closed none is left.
+  pub none_left : (failure : Failure) → storage.closed ≡ Some failure → HaveFailed before now
+  none_left failure shut = here (kept.shut failure shut)
     where
-      here : HasShut records failure copies.first ⊎ HasShut records failure copies.second → ATwinRose (Some before) (Some now)
-      here (inl (held, is, closed, all)) = inl (copy_risen header before.first first copies.first on_first held failure is closed)
-      here (inr (held, is, closed, all)) = inr (copy_risen header before.second second copies.second on_second held failure is closed)
+      out : (IsInUse copies.first → ⊥) × (IsInUse copies.second → ⊥)
+      out = kept.out failure shut
+
+      with_first : HasRisen before.first.faults now.first.faults → HasRisen before.second.faults now.second.faults ⊎ HoldsBytes (λ bytes. bytes ≡ []) before.second → HaveFailed before now
+      with_first rose (inl also) = inl (rose, also)
+      with_first rose (inr empty) = inr (inl (rose, empty))
+
+      with_second : HasRisen before.first.faults now.first.faults ⊎ HoldsBytes (λ bytes. bytes ≡ []) before.first → HasRisen before.second.faults now.second.faults → HaveFailed before now
+      with_second (inl also) rose = inl (also, rose)
+      with_second (inr empty) rose = inr (inr (empty, rose))
+
+      here : HasShut records failure copies.first ⊎ HasShut records failure copies.second → HaveFailed before now
+      here (inl (held, is, closed, all)) = with_first (copy_risen header before.first first copies.first on_first held failure is closed) (copy_out header before.second second copies.second on_second out.1)
+      here (inr (held, is, closed, all)) = with_second (copy_out header before.first first copies.first on_first out.0) (copy_risen header before.second second copies.second on_second held failure is closed)
 
   -- So it is told of the two.
   pub both_on : Make first second header.version found → storage.header ≡ header → BothWentOn header found records storage.closed before now
@@ -108,8 +136,23 @@ both_went entry header before opened later had now on of_header are first second
     (copy_on header before.second on.second on.copies.second now.second on.on_second at_second)
     kept (subst (λ (v : ℕ). Make on.first on.second v opened.ledger.found) (ap (λ (h : Header). h.version) of_header) on.made) same
 
-pub both_rose : (header : Header) (found records : List Record) (closed : Option Failure) (before after : Twins) (failure : Failure) → closed ≡ Some failure → BothWentOn header found records closed before after
-    → ATwinRose (Some before) (Some after)
-both_rose header found records closed before after failure shut went =
-    subst (λ (t : Twins). ATwinRose (Some before) (Some t)) (sym went.shown)
-    (one_rose header found records before (storage_on header closed went.copies) went.copies went.first went.second went.on_first went.on_second went.kept failure shut)
+pub both_lost : (header : Header) (found records : List Record) (closed : Option Failure) (before after : Twins) (failure : Failure) → closed ≡ Some failure → BothWentOn header found records closed before after
+    → HaveFailed before after
+both_lost header found records closed before after failure shut went =
+    subst (HaveFailed before) (sym went.shown)
+    (none_left header found records before (storage_on header closed went.copies) went.copies went.first went.second went.on_first went.on_second went.kept failure shut)
+
+-- Where disks are lost a count rose.
+both_rose : (before after : Twins) → HaveFailed before after → ATwinRose (Some before) (Some after)
+both_rose before after (inl (first, second)) = inl first
+both_rose before after (inr (inl (first, empty))) = inl first
+both_rose before after (inr (inr (empty, second))) = inr second
+
+gone_rose : (before after : Option Twins) → AreGone before after → ATwinRose before after
+gone_rose None after gone = absurd gone
+gone_rose (Some before) None gone = absurd gone
+gone_rose (Some before) (Some after) gone = both_rose before after gone
+
+pub lost_rose : (before after : Stored) → AreLost before after → HasCountRisen before after
+lost_rose before after (inl one) = inl one
+lost_rose before after (inr gone) = inr (gone_rose before.twins after.twins gone)

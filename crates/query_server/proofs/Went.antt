@@ -5,7 +5,7 @@ use Rattle.std.specs.Prelude.{IfSome}
 use mathlib.Core.Logic.{◌⊎◌, inl, inr}
 use mathlib.Core.List.{IsPrefix}
 use Rattle.outside_disks.specs.Disks.{Trace, IsImageOf, Passes, WhereTold, noted}
-use Rattle.outside_disks.specs.Stored.{ATwinRose, Stored, Twins, one_stored, two_stored}
+use Rattle.outside_disks.specs.Stored.{Stored, Twins, one_stored, two_stored}
 use Rattle.outside_disks.specs.Disks.Step.{Synced}
 use Rattle.journal_records.specs.declared.records.Header.{Header}
 use Rattle.journal_records.specs.declared.records.Record.{Record}
@@ -16,9 +16,10 @@ use Rattle.budget_ledger.specs.Account.{Account, AreCopies, Copies, CopyWent, Ea
 use Rattle.budget_ledger.specs.Both.{IsOpenedBoth}
 use Rattle.budget_ledger.specs.declared.failure.Failure.{Failure}
 use Rattle.owner_books.specs.Books.{IsNewBook, IsOnBoth, shown_by}
+use Rattle.owner_books.specs.Shelves.{AreGone}
 use Rattle.query_server.specs.Mirrors.{BothWentOn, TwinsWentOn}
 use Rattle.query_server.specs.Run.{WentOn}
-use Rattle.query_server.proofs.Mirrored.{both_rose, both_went}
+use Rattle.query_server.proofs.Mirrored.{both_lost, both_went}
 
 prefix_same : (records : List Record) → IsPrefix records records
 prefix_same records = ([], append-nil records)
@@ -98,8 +99,8 @@ module _ (entry : Entry) (header : Header) (records : List Record) (before : Sto
         counts = omega (arith, none);
         steady = λ shut. none;
         failed = λ failure shut. (
-          inr (subst (λ (t : Option Twins). ATwinRose t (Some (record { first = now.first.shown; second = now.second.shown }))) (sym two)
-              (both_rose header found records closed was (record { first = now.first.shown; second = now.second.shown }) failure shut went)),
+          inr (subst (λ (t : Option Twins). AreGone t (Some (record { first = now.first.shown; second = now.second.shown }))) (sym two)
+              (both_lost header found records closed was (record { first = now.first.shown; second = now.second.shown }) failure shut went)),
           λ alone. let wrong : None ≡ Some was = sym alone ∙ two in cc wrong,
         );
         follows = follows;

@@ -4,7 +4,7 @@ use mathlib.Core.List.{IsPrefix}
 use Rattle.std.specs.List.{flat_map}
 use Rattle.word_streams.specs.Draws.{draws_of}
 use Rattle.outside_disks.specs.Disks.{Passes, WhereTold, noted}
-use Rattle.outside_disks.specs.Stored.{HasCountRisen, Stored}
+use Rattle.outside_disks.specs.Stored.{Stored}
 use Rattle.outside_disks.specs.Disks.Step.{Synced}
 use Rattle.journal_records.specs.declared.records.Header.{Header}
 use Rattle.journal_records.specs.declared.records.Record.{Record}
@@ -24,7 +24,7 @@ use Rattle.catalog_loading.specs.Loaded.{Loading, header_of, in_versions, with_h
 use Rattle.query_server.specs.Work.{Work, to_answer}
 use Rattle.query_server.specs.Duty.{Duty, Kind}
 use Rattle.query_server.specs.Mirrors.{TwinsWentOn}
-use Rattle.owner_books.specs.Shelves.{Shelf, EachDisk, IsOnlySynced}
+use Rattle.owner_books.specs.Shelves.{Shelf, AreLost, EachDisk, IsOnlySynced}
 use Rattle.owner_books.specs.Opened.{AreOpened, IsDiskNamed}
 use Rattle.query_server.specs.Duty.{IsRefusalDue}
 use Rattle.query_server.specs.Status.{too_long_text}
@@ -45,14 +45,15 @@ run_kind catalog key workers = record { steps = run_steps catalog key workers; s
 -- An owner's disk through a run. Each file that a stop may have left since its journal was opened, which synced the disk, stands
 -- for the first of these records, among them those found; where an append failed, it may have that one's record too. What a stop
 -- leaves now stands for all of them. The disk's count of faults rose where an append failed, of a record that may follow them, and
--- else it stands still. Two disks say this each for itself, and an append failed where it failed on all that were in use.
+-- else it stands still. Two disks say this each for itself: an append failed where it failed on
+-- all that were in use, so that both counts rose, or that of one whose other is empty.
 pub record WentOn (entry : Entry) (header : Header) (found records : List Record) (closed : Option Failure) (before after : Stored) : Type 0 where
   pub begins : IsPrefix found records
   pub moments : WhereTold (Passes (IsMoment header found records closed)) (noted Synced before.trace) after.trace
   pub kept : IfSome after.trace (IsKeptNow header records closed)
   pub counts : before.faults ≤ after.faults
   pub steady : closed ≡ None → after.faults ≡ before.faults
-  pub failed : (failure : Failure) → closed ≡ Some failure → HasCountRisen before after × (before.twins ≡ None → failure.failed_at ≡ after.faults)
+  pub failed : (failure : Failure) → closed ≡ Some failure → AreLost before after × (before.twins ≡ None → failure.failed_at ≡ after.faults)
   pub follows : (failure : Failure) → closed ≡ Some failure → MayFollow entry records failure.pending
   pub twins : TwinsWentOn header found records closed before.twins after.twins
 

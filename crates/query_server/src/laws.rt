@@ -99,8 +99,8 @@ pub fn gaps_are_of_datasets()
     ensures { GapsAreOfDatasets }
 {}
 
-/// A query is refused for its owner's disk only where the count of faults of that disk rose in the run, of two disks that of one; and of a line that is told
-/// 52 it is its own record that may stand in the journal.
+/// A query is refused for its owner's disk only where the count of faults of that disk rose in the run, or of two disks both, or that of one whose
+/// other is empty; and of a line that is told 52 it is its own record that may stand in the journal.
 pub fn disk_refusals_have_causes()
     ensures { DiskRefusalsHaveCauses }
 {}
