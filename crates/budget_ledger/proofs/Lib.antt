@@ -1,5 +1,7 @@
+pub mod BothJoins
 pub mod BothOpens
 mod Examples
+mod ExamplesOfBoth
 mod ExamplesOfCopies
 pub mod Forks
 pub mod Grants
