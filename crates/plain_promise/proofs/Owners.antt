@@ -3,7 +3,8 @@ use Rattle.std.proofs.Common.{◌≡◌, ℕ, ◌<◌, Bool, List, slice_get, So
 use Rattle.std.specs.Prelude.{IfSome, Option, option_and_then, option_map}
 use Rattle.std.proofs.lemmas.Option.{slice_get_within}
 use Rattle.word_streams.specs.Draws.{draws_of}
-use Rattle.outside_disks.specs.Disks.{Shown, seen_of}
+use Rattle.outside_disks.specs.Disks.{seen_of}
+use Rattle.outside_disks.specs.Stored.{Stored}
 use Rattle.budget_journal.specs.Journals.{Stands}
 use Rattle.owner_house.specs.House.{IsOwnerIn, house_of}
 use Rattle.owner_house.specs.Owner.{Owner}
@@ -24,11 +25,11 @@ use Rattle.served_sessions.proofs.Services.{disk as service_disk, speaker as ser
 use Rattle.plain_promise.specs.Calls.{IsCall, file_on, script_call, service_call}
 
 -- the journal that is opened is what the disk holds
-opens : (loading : Loading) (key : List ℕ) (shelf : Shelf) (versions : List ℕ) (found : Journals) (o : ℕ) (before : Shown) → AreOpened loading key shelf versions found → o < owners_in loading → shelf o ≡ Some before
+opens : (loading : Loading) (key : List ℕ) (old new : Shelf) (versions : List ℕ) (found : Journals) (o : ℕ) (before : Stored) → AreOpened loading key old new versions found → o < owners_in loading → old o ≡ Some before
     → IfSome (file_on before) (Stands (header_of (in_versions loading versions) key o) (found o))
-opens loading key shelf versions found o before opened within was =
+opens loading key old new versions found o before opened within was =
     let its = (opened.each o within).stands in
-    subst (λ (shown : Option Shown). IfSome (option_map seen_of (option_and_then (λ (s : Shown). s.trace) shown)) (Stands (header_of (in_versions loading versions) key o) (found o))) was its
+    subst (λ (shown : Option Stored). IfSome (option_map seen_of (option_and_then (λ (s : Stored). s.trace) shown)) (Stands (header_of (in_versions loading versions) key o) (found o))) was its
 
 module _ (words : List (List ℕ)) (reads : ReadsToCome) (old new : Shelf) (script written : List ℕ) (a : IsAnsweredScript words reads old new script written) (o : ℕ) (owner : Owner)
     (here : slice_get (house_in a.loading a.versions).owners o ≡ Some owner) where
@@ -38,7 +39,7 @@ module _ (words : List (List ℕ)) (reads : ReadsToCome) (old new : Shelf) (scri
   inside : IsOwnerIn (house_in a.loading a.versions) owner
   inside = register_owners (in_versions a.loading a.versions).register lawful.register o owner here
 
-  pub script_is_call : (before after : Shown) (sent : ℕ → Bool) → old o ≡ Some before → new o ≡ Some after
+  pub script_is_call : (before after : Stored) (sent : ℕ → Bool) → old o ≡ Some before → new o ≡ Some after
       → IsCall (draws_of a.key) o owner (header_of (in_versions a.loading a.versions) a.key o) (script_call words reads old new script written a o before after sent)
   script_is_call before after sent was is =
       let loading : Loading = in_versions a.loading a.versions in
@@ -48,7 +49,7 @@ module _ (words : List (List ℕ)) (reads : ReadsToCome) (old new : Shelf) (scri
         speakers = speaker loading a.key a.workers old new a.found script written lawful a.answered o owner before after here was is;
         gathered = a.answered.gathered.owners o owner here;
         shut = a.answered.shut o owner here;
-        opens = opens a.loading a.key old a.versions a.found o before a.opened (in_catalog loading.register lawful.register o (slice_get_within (house_of loading.register).owners o owner here)) was;
+        opens = opens a.loading a.key old new a.versions a.found o before a.opened (in_catalog loading.register lawful.register o (slice_get_within (house_of loading.register).owners o owner here)) was;
         went = disk loading a.key a.workers old new a.found script written lawful a.answered o owner before after here was is;
       }
 
@@ -60,7 +61,7 @@ module _ (words : List (List ℕ)) (reads : ReadsToCome) (old new : Shelf) (door
   service_inside : IsOwnerIn (house_in s.loading s.at.versions) owner
   service_inside = register_owners (in_versions s.loading s.at.versions).register service_lawful.register o owner here
 
-  pub service_is_call : (before after : Shown) (sent : ℕ → Bool) → old o ≡ Some before → new o ≡ Some after
+  pub service_is_call : (before after : Stored) (sent : ℕ → Bool) → old o ≡ Some before → new o ≡ Some after
       → IsCall (draws_of s.key) o owner (header_of (in_versions s.loading s.at.versions) s.key o) (service_call words reads old new doors behind status sink sunk s o before after sent)
   service_is_call before after sent was is =
       let loading : Loading = in_versions s.loading s.at.versions in
@@ -71,6 +72,6 @@ module _ (words : List (List ℕ)) (reads : ReadsToCome) (old new : Shelf) (door
         speakers = service_speaker loading s.key s.workers old new s.at.found service_lawful were o owner here;
         gathered = s.at.over.gathered o owner here;
         shut = s.at.over.shut o owner here;
-        opens = opens s.loading s.key old s.at.versions s.at.found o before s.at.opened (in_catalog loading.register service_lawful.register o (slice_get_within (house_of loading.register).owners o owner here)) was;
+        opens = opens s.loading s.key old new s.at.versions s.at.found o before s.at.opened (in_catalog loading.register service_lawful.register o (slice_get_within (house_of loading.register).owners o owner here)) was;
         went = service_disk loading s.key s.workers old new s.at.found service_lawful were o owner here before after was is;
       }

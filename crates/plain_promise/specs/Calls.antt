@@ -1,6 +1,7 @@
 -- Calls of `run_server` over one owner's journal, one after another.
 use Rattle.std.specs.Prelude.{◌≡◌, ◌⊎◌, ℕ, zero, suc, true, false, Bool, List, [], ◌∷◌, slice_get, Option, Some, IfSome, option_map}
-use Rattle.outside_disks.specs.Disks.{IsImageOf, Shown, Trace, WasImageOf, after as stepped, moment, seen_of}
+use Rattle.outside_disks.specs.Disks.{IsImageOf, Trace, WasImageOf, after as stepped, moment, seen_of}
+use Rattle.outside_disks.specs.Stored.{Stored}
 use Rattle.outside_disks.specs.Disks.Step.{Synced}
 use Rattle.journal_records.specs.declared.records.Header.{Header}
 use Rattle.journal_records.specs.declared.records.Record.{Record}
@@ -36,12 +37,12 @@ pub record Call : Type 0 where
   pub found : List Record
   pub records : List Record
   pub closed : Option Failure
-  pub before : Shown
-  pub after : Shown
+  pub before : Stored
+  pub after : Stored
   pub sent : ℕ → Bool
 
 -- the file on a disk, where it is told
-abbrev pub file_on : Shown → Option (List ℕ)
+abbrev pub file_on : Stored → Option (List ℕ)
 file_on shown = option_map seen_of shown.trace
 
 -- The owner is one of the call's house, of which other owners may be others than another call's. The call opens the journal that the disk
@@ -89,7 +90,7 @@ pub record WasTold (o : ℕ) (owner : Owner) (calls : List Call) (i place : ℕ)
 
 -- what an answered script was to the owner of this number, where these replies had been sent
 abbrev pub script_call : (words : List (List ℕ)) (reads : ReadsToCome) (old new : Shelf) (script written : List ℕ)
-    → IsAnsweredScript words reads old new script written → (o : ℕ) → (before after : Shown) → (sent : ℕ → Bool) → Call
+    → IsAnsweredScript words reads old new script written → (o : ℕ) → (before after : Stored) → (sent : ℕ → Bool) → Call
 script_call words reads old new script written a o before after sent = record {
   house = house_in a.loading a.versions;
   workers = a.workers;
@@ -105,7 +106,7 @@ script_call words reads old new script written a o before after sent = record {
 
 -- and a service
 abbrev pub service_call : (words : List (List ℕ)) (reads : ReadsToCome) (old new : Shelf) (doors behind : List Door) (status : Status) (sink sunk : ℕ)
-    → IsServiceDone words reads old new doors behind status sink sunk → (o : ℕ) → (before after : Shown) → (sent : ℕ → Bool) → Call
+    → IsServiceDone words reads old new doors behind status sink sunk → (o : ℕ) → (before after : Stored) → (sent : ℕ → Bool) → Call
 service_call words reads old new doors behind status sink sunk s o before after sent = record {
   house = house_in s.loading s.at.versions;
   workers = s.workers;

@@ -1,5 +1,5 @@
 -- The lines of owners and their records, one after another.
-use Rattle.std.proofs.Common.{◌≡◌, ◌<◌, ◌≤◌, ◌+◌, ◌∙◌, ◌++◌, ℕ, zero, suc, Bool, List, [], ◌∷◌, length, get_or, take, cond, Option, Some, Result, Ok, Err, refl, sym, ap, ap₂, subst, append_assoc, append-nil, arith}
+use Rattle.std.proofs.Common.{◌≡◌, ◌<◌, ◌≤◌, ◌+◌, ◌∙◌, ◌++◌, ℕ, zero, suc, Bool, List, [], ◌∷◌, length, get_or, take, cond, Option, Some, None, Result, Ok, Err, refl, sym, ap, ap₂, subst, append_assoc, append-nil, arith}
 use Rattle.std.specs.Prelude.{◌⊎◌, if◌then◌else◌, nat_eq, IfErr, IfOk, IsErrAnd, IsSome}
 use Rattle.std.specs.Result.{is_ok}
 use Rattle.std.specs.List.{enumerate_from, flat_map}
@@ -9,13 +9,14 @@ use Rattle.std.proofs.lemmas.List.{length-take-le, take_more}
 use Rattle.std.proofs.lemmas.Grind.{flat_map-append}
 use Rattle.fz_outside.specs.Faults.{HasRisen}
 use Rattle.outside_disks.specs.Disks.{Shown}
+use Rattle.outside_disks.specs.Stored.{ATwinRose, HasCountRisen, Stored, Twins}
 use Rattle.outside_bays.proofs.Shelves.{not-equal}
 use Rattle.journal_records.specs.declared.records.Header.{Header}
 use Rattle.journal_records.specs.declared.records.Record.{Record}
 use Rattle.budget_core.specs.Entries.{Entry}
 use Rattle.owner_catalog.specs.Entries.{OwnerEntry}
 use Rattle.generated_run.specs.SessionCore.Transcript.{Journals}
-use Rattle.owner_books.specs.Shelves.{Shelf, EachDisk, IsOnlySynced, NoOtherRose, SomeRose, StandsStill, bytes_on}
+use Rattle.owner_books.specs.Shelves.{Shelf, AreSynced, BothGo, EachDisk, IsOnlySynced, IsTwinSynced, NoOtherRose, SomeRose, StandsStill}
 use Rattle.owner_books.specs.Opened.{AreOpened, IsOpened}
 use Rattle.query_server.specs.Audit.{counted_line, counted_text}
 use Rattle.owner_catalog.specs.Limits.{owner_limit}
@@ -141,17 +142,22 @@ first_at f zero o d less = absurd (omega (arith, less))
 first_at f (suc n) zero d less = refl
 first_at f (suc n) (suc o) d less = let same : o + 1 ≡ suc o = omega arith in first_at (λ k. f (k + 1)) n o d (omega (arith, less)) ∙ ap f same
 
+-- what is known of the first owners' journals stays so
+pub counted_on : (entries : ℕ → ℕ → Entry) (Known Later : ℕ → ℕ × List Record → Type 0) (owners : List OwnerEntry) (n : ℕ) (lines : List ℕ)
+    → ((o : ℕ) → o < n → (journal : ℕ × List Record) → Known o journal → Later o journal) → AreCounted entries Known owners n lines → AreCounted entries Later owners n lines
+counted_on entries Known Later owners n lines stays (told, known, text) = (told, λ o less. stays o less (told o) (known o less), text)
+
 -- all owners' journals were opened, each in its version, and these are their lines
-pub all_counted : (loading : Loading) (key : List ℕ) (shelf : Shelf) (n : ℕ) (lines : List ℕ) → n ≡ owners_in loading → owners_in loading ≤ owner_limit
-    → AreCounted (entry_in loading) (λ o journal. IsOpened (entry_in loading o journal.0) (header_in loading key o journal.0) (bytes_on shelf o) journal.1) loading.register.catalog.owners n lines
-    → (versions : List ℕ) × (found : Journals) × AreOpened loading key shelf versions found × (lines ≡ counted_text (in_versions loading versions) found)
-all_counted loading key shelf n lines all few (told, known, text) = (
+pub all_counted : (loading : Loading) (key : List ℕ) (old new : Shelf) (n : ℕ) (lines : List ℕ) → n ≡ owners_in loading → owners_in loading ≤ owner_limit
+    → AreCounted (entry_in loading) (λ o journal. IsOpened (entry_in loading o journal.0) (header_in loading key o journal.0) (old o) (new o) journal.1) loading.register.catalog.owners n lines
+    → (versions : List ℕ) × (found : Journals) × AreOpened loading key old new versions found × (lines ≡ counted_text (in_versions loading versions) found)
+all_counted loading key old new n lines all few (told, known, text) = (
   versions,
   found,
   record {
     counted = first_length of_journals owner_limit;
     each = λ o within.
-        subst (λ (v : ℕ). IsOpened (entry_in loading o v) (header_in loading key o v) (bytes_on shelf o) (found o)) (sym (version o (omega (arith, within, few)))) (known o (omega (arith, within, all)));
+        subst (λ (v : ℕ). IsOpened (entry_in loading o v) (header_in loading key o v) (old o) (new o) (found o)) (sym (version o (omega (arith, within, few)))) (known o (omega (arith, within, all)));
   },
   text ∙ ap (λ (k : ℕ). lines_from (entry_in loading) 0 (take k owners) told) all ∙ ap (λ (xs : List OwnerEntry). lines_from (entry_in loading) 0 xs told) (take-length owners)
       ∙ by_version 0 owners (λ p less. version p (omega (arith, less, few))),
@@ -186,7 +192,7 @@ one_left o old mid new before left = record {
   others = λ p past. left.elsewhere p (λ same. omega (arith, past, same)) ∙ before.others p (omega (arith, past));
 }
   where
-    here : (p : ℕ) (shown : Shown) → p < o + 1 → old p ≡ Some shown → (p ≡ o) ⊎ (p ≡ o → ⊥) → (after : Shown) × (new p ≡ Some after) × IsOnlySynced shown after
+    here : (p : ℕ) (shown : Stored) → p < o + 1 → old p ≡ Some shown → (p ≡ o) ⊎ (p ≡ o → ⊥) → (after : Stored) × (new p ≡ Some after) × IsOnlySynced shown after
     here p shown less at (inl same) =
         let after = left.here shown (before.others o (omega arith) ∙ ap old (sym same) ∙ at) in
         (after.0, ap new same ∙ after.1, after.2)
@@ -205,6 +211,31 @@ one_still o old mid new before same last left p = here (cases_eq p o)
     here (inl is) = subst (λ (q : ℕ). StandsStill q old new) (sym is) (λ earlier later was shows. last earlier later (same ∙ was) shows)
     here (inr isnt) = still_elsewhere o old mid new before left p isnt
 
+-- a count that stands at its last value may rise always
+none_before : (before : Option Twins) → BothGo AreSynced before None → before ≡ None
+none_before None went = refl
+none_before (Some t) went = absurd went
+
+synced_counts : (other before after : Shown) → IsTwinSynced other before after → before.faults ≤ after.faults
+synced_counts other before after (inl left) = left.counts
+synced_counts other before after (inr levelled) = levelled.counts
+
+twin_rose : (before after : Option Twins) → BothGo AreSynced before after → ATwinRose after after → ATwinRose before after
+twin_rose None None went rose = rose
+twin_rose None (Some u) went rose = absurd went
+twin_rose (Some t) None went rose = rose
+twin_rose (Some t) (Some u) went (inl rose) =
+    inl (risen_from t.first.faults u.first.faults u.first.faults u.first.faults (synced_counts t.second t.first u.first went.0) (omega arith) (omega arith) rose)
+twin_rose (Some t) (Some u) went (inr rose) =
+    inr (risen_from t.second.faults u.second.faults u.second.faults u.second.faults (synced_counts t.first t.second u.second went.1) (omega arith) (omega arith) rose)
+
+still_rose : (before after : Stored) → IsOnlySynced before after → HasCountRisen after after → HasCountRisen before after
+still_rose before after synced (inl (one, rose)) = inl (
+  none_before before.twins (subst (λ (t : Option Twins). BothGo AreSynced before.twins t) one synced.twins),
+  risen_from before.faults after.faults after.faults after.faults synced.counts (omega arith) (omega arith) rose,
+)
+still_rose before after synced (inr rose) = inr (twin_rose before.twins after.twins synced.twins rose)
+
 pub rose_since : (o : ℕ) (old mid new : Shelf) (a b c : ℕ) → a ≤ b → b ≤ c → ((p : ℕ) → p < o → IsSome (old p)) → EachDisk o (λ _. IsOnlySynced) old mid → LeftDisk o mid new
     → HasRisen b c ⊎ SomeRose mid new → HasRisen a c ⊎ SomeRose old new
 rose_since o old mid new a b c first second home before left (inl rose) = inl (risen_from a b c c first second (omega arith) rose)
@@ -216,10 +247,10 @@ rose_since o old mid new a b c first second home before left (inr (p, was, is, a
         let step = before.owned p begun.0 less begun.1 in
         let same : step.0 ≡ was = let e : Some step.0 ≡ Some was = sym step.1 ∙ at in cc e in
         let still : is ≡ was = let e : Some is ≡ Some was = sym now ∙ left.elsewhere p (λ q. omega (arith, less, q)) ∙ at in cc e in
-        let low : begun.0.faults ≤ was.faults = subst (λ (s : Shown). begun.0.faults ≤ s.faults) same step.2.counts in
-        let high : was.faults ≤ is.faults = subst (λ (s : Shown). was.faults ≤ s.faults) (sym still) (omega arith) in
-        (p, begun.0, is, begun.1, now, risen_from begun.0.faults was.faults is.faults is.faults low high (omega arith) rose)
+        let synced : IsOnlySynced begun.0 was = subst (IsOnlySynced begun.0) same step.2 in
+        (p, begun.0, is, begun.1, now, subst (HasCountRisen begun.0) (sym still) (still_rose begun.0 was synced (subst (HasCountRisen was) still rose)))
     here (inr past) = (p, was, is, sym (before.others p past) ∙ at, now, rose)
 
-pub opened_as : (entry : Entry) (header : Header) (mid old : Shelf) (o : ℕ) (found : List Record) → mid o ≡ old o → IsOpened entry header (bytes_on mid o) found → IsOpened entry header (bytes_on old o) found
-opened_as entry header mid old o found at opened = subst (λ (shown : Option Shown). IsOpened entry header (bytes_on (λ _. shown) o) found) at opened
+pub opened_as : (entry : Entry) (header : Header) (before old now new : Option Stored) (found : List Record) → before ≡ old → now ≡ new → IsOpened entry header before now found → IsOpened entry header old new found
+opened_as entry header before old now new found at is opened =
+    subst (λ (s : Option Stored). IsOpened entry header s new found) at (subst (λ (s : Option Stored). IsOpened entry header before s found) is opened)

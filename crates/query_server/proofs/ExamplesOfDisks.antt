@@ -3,7 +3,8 @@ use Rattle.std.proofs.Common.{◌≡◌, ℕ, zero, suc, ◌<◌, ◌≤◌, Lis
 use Rattle.std.specs.Prelude.{codes, pos, slice_index, IfSome}
 use Rattle.std.specs.Fmt.{digits}
 use mathlib.Core.Logic.{inl, inr}
-use Rattle.outside_disks.specs.Disks.{Shown, Step, Trace, overlaid, seen}
+use Rattle.outside_disks.specs.Disks.{Step, Trace, overlaid, seen}
+use Rattle.outside_disks.specs.Stored.{Stored, Twins}
 use Rattle.outside_disks.specs.Disks.Step.{Wrote, Synced}
 use Rattle.partition_charge.specs.declared.view.View.TheVariants.{Whole}
 use Rattle.partition_charge.specs.Cost.{cost_of_charges, partition_cost}
@@ -22,16 +23,17 @@ use Rattle.owner_house.specs.Owner.{Owner}
 use Rattle.owner_catalog.specs.Catalog.{Catalog, OwnerEntry}
 use Rattle.owner_catalog.specs.Digest.{digest_of}
 use Rattle.generated_run.specs.SessionCore.Transcript.{Journals}
-use Rattle.catalog_loading.specs.Loaded.{Loading, entry_at, header_in, header_of, in_versions, new_header, owner_name_at}
-use Rattle.owner_books.specs.Shelves.{Shelf, bytes_on, TellBytes, AreAtHome, EachDisk, IsOnlySynced, NoOtherRose}
-use Rattle.owner_books.specs.Opened.{AreOpenedBefore, IsUnopened, IsRefusedAt}
+use Rattle.catalog_loading.specs.Loaded.{Loading, entry_at, header_in, header_of, in_versions, new_entry, new_header, owner_name_at, version_at}
+use Rattle.owner_books.specs.Shelves.{Shelf, bytes_on, BothGo, TellBytes, AreAtHome, EachDisk, IsOnlySynced, IsStanding, NoOtherRose}
+use Rattle.owner_books.specs.Opened.{AreOpenedBefore, IsOneUnopened, IsRefusedAt}
 use Rattle.query_server.specs.Duty.{IsRefusalDue}
-use Rattle.owner_books.specs.Making.{AreMadeBefore, IsMade, IsMakingNamed, MayBeMadeInPart, MayHaveFailed}
+use Rattle.budget_ledger.specs.Both.{IsUntouched}
+use Rattle.owner_books.specs.Making.{AreMadeBefore, AreUntouched, IsMade, IsMakingNamed, IsNotMade, IsThere, MayBeMadeInPart, MayHaveFailed}
 use Rattle.query_server.specs.Init.{IsExistingDue, made_line}
 use Rattle.query_server.specs.Audit.{counted_line, counted_text}
 use Rattle.query_server.specs.Due.{IsDiskLine, IsStopLine}
 use Rattle.query_server.specs.Work.{usage, refused, to_answer, to_make, to_count, to_check, to_compare}
-use Rattle.query_server.specs.Valid.{AreEmpty, HoldJournals, IsValidFor, MayEndWell}
+use Rattle.query_server.specs.Valid.{AreEmpty, HoldJournals, HoldsRecords, IsValidFor, MayEndWell}
 use Rattle.query_server.specs.Found.{KeepsFound}
 use Rattle.owner_books.specs.Refusals.{journal_text, disk_text}
 use Rattle.query_server.specs.declared.end.Status.{Status}
@@ -39,6 +41,7 @@ use Rattle.query_server.specs.declared.end.Status.TheVariants.{Done, ProgramRefu
 use Rattle.owner_books.specs.declared.refusals.JournalRefusal.{JournalRefusal}
 use Rattle.owner_books.specs.declared.refusals.JournalRefusal.TheVariants.{Uninitialised, Changed, Damaged, Exists}
 use Rattle.outside_disks.proofs.Images.{seen-image}
+use Rattle.owner_books.proofs.Disks.{synced_same, unwritten_same}
 use Rattle.owner_books.proofs.Made.{no_other_made}
 
 -- ---- lines
@@ -134,13 +137,13 @@ spent_by_version = refl
 -- ---- what the disks show
 
 -- a disk that tells these bytes
-abbrev telling : List ℕ → Option Shown
-telling bytes = Some (record { trace = Some (record { start = bytes; steps = [] }); faults = 0 })
+abbrev telling : List ℕ → Option Stored
+telling bytes = Some (record { trace = Some (record { start = bytes; steps = [] }); faults = 0; twins = None })
 
 -- the first owner's disk holds these bytes, the second one's tells nothing, and no other disk is at home
 abbrev shelf_with : List ℕ → Shelf
 shelf_with bytes zero = telling bytes
-shelf_with bytes (suc zero) = Some (record { trace = None; faults = 0 })
+shelf_with bytes (suc zero) = Some (record { trace = None; faults = 0; twins = None })
 shelf_with bytes (suc (suc o)) = None
 
 told : (bytes : List ℕ) → bytes_on (shelf_with bytes) 0 ≡ Some bytes
@@ -153,11 +156,11 @@ absent : (bytes : List ℕ) → bytes_on (shelf_with bytes) 2 ≡ None
 absent bytes = refl
 
 one_tells : (bytes : List ℕ) → TellBytes 1 (shelf_with bytes)
-one_tells bytes zero lt = refl
+one_tells bytes zero lt = inl refl
 one_tells bytes (suc o) lt = absurd (omega (arith, lt))
 
 both_do_not : (bytes : List ℕ) → TellBytes 2 (shelf_with bytes) → ⊥
-both_do_not bytes tell = let wrong : false ≡ true = tell 1 (omega arith) in true≢false (sym wrong)
+both_do_not bytes tell = elim (tell 1 (omega arith)) [ inl wrong ↦ true≢false (sym wrong) | inr none ↦ none ]
 
 -- a disk at home for each of 64 owners, or for one less
 all_at_home : AreAtHome 64 (λ o. telling [])
@@ -171,17 +174,17 @@ none_at_home home = true≢false (sym (home 0 (omega arith)).1)
 
 -- ---- what becomes of them
 
-abbrev shown : List ℕ → Shown
-shown bytes = record { trace = Some (record { start = bytes; steps = [] }); faults = 0 }
+abbrev shown : List ℕ → Stored
+shown bytes = record { trace = Some (record { start = bytes; steps = [] }); faults = 0; twins = None }
 
-as_it_was : (before : Shown) → IsOnlySynced before before
-as_it_was before = record { synced = inl refl; counts = omega arith }
+as_it_was : (before : Stored) → IsOnlySynced before before
+as_it_was before = synced_same before
 
-synced : (bytes : List ℕ) → IsOnlySynced (shown bytes) (record { trace = Some (record { start = bytes; steps = Synced ∷ [] }); faults = 0 })
-synced bytes = record { synced = inr refl; counts = omega arith }
+synced : (bytes : List ℕ) → IsOnlySynced (shown bytes) (record { trace = Some (record { start = bytes; steps = Synced ∷ [] }); faults = 0; twins = None })
+synced bytes = record { synced = inr refl; counts = omega arith; twins = tt }
 
 sync_failed : (bytes : List ℕ) → IsOnlySynced (shown bytes) (record (shown bytes) { faults = 1 })
-sync_failed bytes = record { synced = inl refl; counts = omega arith }
+sync_failed bytes = record { synced = inl refl; counts = omega arith; twins = tt }
 
 abbrev steps_in : Option Trace → List Step
 steps_in None = []
@@ -193,7 +196,7 @@ not_unchanged more is = cc
 not_a_sync : (more : List ℕ) → Wrote 0 more ∷ [] ≡ Synced ∷ [] → ⊥
 not_a_sync more is = cc
 
-written : (bytes more : List ℕ) → IsOnlySynced (shown bytes) (record { trace = Some (record { start = bytes; steps = Wrote 0 more ∷ [] }); faults = 0 }) → ⊥
+written : (bytes more : List ℕ) → IsOnlySynced (shown bytes) (record { trace = Some (record { start = bytes; steps = Wrote 0 more ∷ [] }); faults = 0; twins = None }) → ⊥
 written bytes more goes = elim goes.synced [ inl is ↦ not_unchanged more (ap steps_in is) | inr is ↦ not_a_sync more (ap steps_in is) ]
 
 as_they_were : (owners : ℕ) (shelf : Shelf) → EachDisk owners (λ o. IsOnlySynced) shelf shelf
@@ -210,45 +213,50 @@ another_is_gone became = let gone : None ≡ telling [] = became.others 0 (omega
 
 -- A disk that was never written is not made: its length is told, and no other. So is one whose header's gate is closed.
 module _ (entry : Entry) (header : Header) where
-  empty_disk : IsUnopened entry header (Some []) (Uninitialised 0)
+  empty_disk : IsOneUnopened entry header (Some []) (Uninitialised 0)
   empty_disk = (refl, inl (omega arith))
 
-  other_length : IsUnopened entry header (Some []) (Uninitialised 1) → ⊥
+  other_length : IsOneUnopened entry header (Some []) (Uninitialised 1) → ⊥
   other_length is = omega (arith, is.0)
 
-  closed_header : IsUnopened entry header (Some (replicate 128 0)) (Uninitialised 128)
+  closed_header : IsOneUnopened entry header (Some (replicate 128 0)) (Uninitialised 128)
   closed_header = (refl, inr (λ is. omega (arith, is)))
 
-  open_header : IsUnopened entry header (Some (165 ∷ replicate 127 0)) (Uninitialised 128) → ⊥
+  open_header : IsOneUnopened entry header (Some (165 ∷ replicate 127 0)) (Uninitialised 128) → ⊥
   open_header (is, inl short) = let few : 128 < 128 = short in omega (arith, few)
   open_header (is, inr closed) = closed refl
 
   -- nothing is said of a header that isn't there, and of a disk that is there already when journals are opened
-  no_header : IsUnopened entry header (Some []) Changed → ⊥
+  no_header : IsOneUnopened entry header (Some []) Changed → ⊥
   no_header (kept, found, is) = let long : 128 ≤ 0 = is.0 in omega (arith, long)
 
-  is_there : (bytes : Option (List ℕ)) → IsUnopened entry header bytes (Exists 1) → ⊥
+  is_there : (bytes : Option (List ℕ)) → IsOneUnopened entry header bytes (Exists 1) → ⊥
   is_there bytes is = is
 
   -- of a disk that tells nothing anything may be said
-  untold_disk : IsUnopened entry header None (Damaged 7)
+  untold_disk : IsOneUnopened entry header None (Damaged 7)
   untold_disk = tt
 
 abbrev key : List ℕ
 key = codes "key"
 
 -- The first owner's journal is refused, and not the second's, as the first's isn't opened; there is no third.
-first_refused : IsRefusedAt loading key (shelf_with []) 0 (Uninitialised 0)
-first_refused = record { known = omega arith; before = λ p lt. absurd (omega (arith, lt)); refused = (refl, inl (omega arith)) }
+first_refused : IsRefusedAt loading key (shelf_with []) (shelf_with []) 0 (Uninitialised 0)
+first_refused = record {
+  known = omega arith;
+  before = λ p lt. absurd (omega (arith, lt));
+  refused = (refl, inl (omega arith));
+  unwritten = λ before is. (before, is, unwritten_same before);
+}
 
-second_refused : IsRefusedAt loading key (shelf_with []) 1 (Damaged 7) → ⊥
-second_refused at =
+second_refused : (new : Shelf) → IsRefusedAt loading key (shelf_with []) new 1 (Damaged 7) → ⊥
+second_refused new at =
     let opened = at.before 0 (omega arith) in
     let long : 128 ≤ 0 = journal-long (header_in loading key 0 opened.0) opened.1 [] opened.2.stands in
     omega (arith, long)
 
-third_refused : (refusal : JournalRefusal) → IsRefusedAt loading key (shelf_with []) 2 refusal → ⊥
-third_refused refusal at = let known : 2 < 2 = at.known in omega (arith, known)
+third_refused : (new : Shelf) (refusal : JournalRefusal) → IsRefusedAt loading key (shelf_with []) new 2 refusal → ⊥
+third_refused new refusal at = let known : 2 < 2 = at.known in omega (arith, known)
 
 first_line_due : IsRefusalDue loading key (shelf_with []) (shelf_with []) JournalRefused (codes "journal census uninitialised 0\n")
 unfolding digits
@@ -266,6 +274,17 @@ refused_and_done text due = let wrong = due.is_status in cc wrong
 
 -- ---- which are made
 
+untouched : (twins : Option Twins) → BothGo AreUntouched twins twins
+untouched None = tt
+untouched (Some twins) = (record { same = refl; later = omega arith }, first twins.second.trace)
+  where
+    first : (told : Option Trace) → IfSome told (λ t. IsUntouched twins.first twins.first)
+    first None = tt
+    first (Some t) = record { same = refl; later = omega arith }
+
+not_made : (before : Stored) → IsNotMade before before
+not_made before = record { synced = inl refl; counts = omega arith; twins = untouched before.twins }
+
 -- One byte on the first owner's disk is enough: its journal isn't made, nor is the second's.
 one_byte : IsExistingDue loading key (shelf_with (7 ∷ [])) (shelf_with (7 ∷ [])) JournalRefused (codes "journal census exists 1\n")
 unfolding digits
@@ -274,52 +293,57 @@ one_byte = record {
   n = 1;
   known = omega arith;
   some = omega arith;
-  long = refl;
+  long = (refl, tt);
   is_status = refl;
   is_text = refl;
-  disks = record { made = λ p before lt. absurd (omega (arith, lt)); here = λ before is. (before, is, as_it_was before); behind = λ p lt. refl };
+  disks = record { made = λ p before lt. absurd (omega (arith, lt)); here = λ before is. (before, is, not_made before); behind = λ p lt. refl };
 }
 
 no_byte : (new : Shelf) (status : Status) (text : List ℕ) (due : IsExistingDue loading key (shelf_with []) new status text) → due.o ≡ 0 → ⊥
 no_byte new status text due is =
-    let long : 0 ≡ due.n = subst (λ o. IfSome (bytes_on (shelf_with []) o) (λ bytes. length bytes ≡ due.n)) is due.long in
+    let long : 0 ≡ due.n = (subst (λ o. IsThere due.n (shelf_with [] o)) is due.long).0 in
     omega (arith, long, due.some)
 
 -- a journal is made on an empty disk, and where no count rose
-made_over_a_byte : (header : Header) (after : Shown) → IsMade header (shown (7 ∷ [])) after → ⊥
+made_over_a_byte : (header : Header) (after : Stored) → IsMade header (shown (7 ∷ [])) after → ⊥
 made_over_a_byte header after is = let none : 7 ∷ [] ≡ [] = (is.made (record { start = 7 ∷ []; steps = [] }) refl).0 in cc none
 
-made_with_a_fault : (header : Header) (trace : Option Trace) → IsMade header (shown []) (record { trace = trace; faults = 1 }) → ⊥
+made_with_a_fault : (header : Header) (trace : Option Trace) → IsMade header (shown []) (record { trace = trace; faults = 1; twins = None }) → ⊥
 made_with_a_fault header trace is = omega (arith, is.counts)
 
 -- ---- the disk at which an `init` ended: where its count rose it may hold anything, and else nothing was written
 
-abbrev wrote : (bytes more : List ℕ) (faults : ℕ) → Shown
-wrote bytes more faults = record { trace = Some (record { start = bytes; steps = Wrote 0 more ∷ [] }); faults = faults }
+abbrev wrote : (bytes more : List ℕ) (faults : ℕ) → Stored
+wrote bytes more faults = record { trace = Some (record { start = bytes; steps = Wrote 0 more ∷ [] }); faults = faults; twins = None }
 
 failed_disk_may_be_written : (bytes more : List ℕ) → MayHaveFailed (shown bytes) (wrote bytes more 1)
-failed_disk_may_be_written bytes more = (omega arith, inr (λ below. omega arith))
+failed_disk_may_be_written bytes more = (omega arith, inr (inl (refl, λ below. omega arith)), tt)
 
-synced_disk : (bytes : List ℕ) → MayHaveFailed (shown bytes) (record { trace = Some (record { start = bytes; steps = Synced ∷ [] }); faults = 0 })
-synced_disk bytes = (omega arith, inl (synced bytes))
+synced_disk : (bytes : List ℕ) → MayHaveFailed (shown bytes) (record { trace = Some (record { start = bytes; steps = Synced ∷ [] }); faults = 0; twins = None })
+synced_disk bytes = (omega arith, inl (record { synced = inr refl; counts = omega arith; twins = tt }), tt)
 
 written_without_a_fault : (bytes more : List ℕ) → MayHaveFailed (shown bytes) (wrote bytes more 0) → ⊥
-written_without_a_fault bytes more (count, inl only) = written bytes more only
-written_without_a_fault bytes more (count, inr risen) = let no : 0 < 0 = risen (lit< tt) in omega (arith, no)
+written_without_a_fault bytes more (count, inl only, two) = written bytes more (record { synced = only.synced; counts = only.counts; twins = tt })
+written_without_a_fault bytes more (count, inr (inl (one, risen)), two) = let no : 0 < 0 = risen (lit< tt) in omega (arith, no)
+written_without_a_fault bytes more (count, inr (inr risen), two) = risen
 
 -- ---- what an `init` leaves that was ended: all is as it was, or a disk may have failed that is an owner's
 
+-- a disk that has failed so often
+abbrev failed_times : ℕ → Stored
+failed_times n = record { trace = None; faults = n; twins = None }
+
 -- two owners' disks and a third, which have failed so often
 abbrev counted : (first second third : ℕ) → Shelf
-counted first second third zero = Some (record { trace = None; faults = first })
-counted first second third (suc zero) = Some (record { trace = None; faults = second })
-counted first second third (suc (suc zero)) = Some (record { trace = None; faults = third })
+counted first second third zero = Some (record { trace = None; faults = first; twins = None })
+counted first second third (suc zero) = Some (record { trace = None; faults = second; twins = None })
+counted first second third (suc (suc zero)) = Some (record { trace = None; faults = third; twins = None })
 counted first second third (suc (suc (suc o))) = None
 
 nothing_made : MayBeMadeInPart loading key (counted 0 0 0) (counted 0 0 0)
 nothing_made = inl (λ o. refl)
 
-abbrev failures_shown : Option Shown → ℕ
+abbrev failures_shown : Option Stored → ℕ
 failures_shown None = 0
 failures_shown (Some disk) = disk.faults
 
@@ -335,34 +359,40 @@ nobodys_disk (inr (o, within, done)) = one_rose (done.behind 2 within)
 second_disk : IsDiskLine (to_count loading key) (counted 0 0 0) (counted 0 1 0) (codes "disk b\n")
 second_disk = (1, omega arith, refl, opened, others)
   where
-    opened : AreOpenedBefore loading key (counted 0 0 0) 1
-    opened zero less = (3, [], record { stands = tt; history = record { follows = λ k next is. absurd (cc is) } })
+    opened : AreOpenedBefore loading key (counted 0 0 0) (counted 0 1 0) 1
+    opened zero less = (3, [], record { stands = tt; history = record { follows = λ k next is. absurd (cc is) }; twins = tt })
     opened (suc p) less = absurd (omega (arith, less))
 
     others : NoOtherRose 1 (counted 0 0 0) (counted 0 1 0)
-    others zero isnt before after was is = cc
+    others zero isnt before after was is = standing before after was is
     others (suc zero) isnt before after was is = absurd (isnt refl)
-    others (suc (suc zero)) isnt before after was is = cc
-    others (suc (suc (suc o))) isnt before after was is = cc
+    others (suc (suc zero)) isnt before after was is = standing before after was is
+    others (suc (suc (suc o))) isnt before after was is = absurd (cc was)
+
+    standing : (before after : Stored) → Some (failed_times 0) ≡ Some before → Some (failed_times 0) ≡ Some after → IsStanding before after
+    standing before after was is =
+        let one : failed_times 0 ≡ before = cc was in
+        let other : failed_times 0 ≡ after = cc is in
+        subst (λ (b : Stored). IsStanding b after) one (subst (IsStanding (failed_times 0)) other (refl, tt))
 
 -- it was the first one's disk
 first_disk : (o : ℕ) → o < 2 → codes "disk b\n" ≡ disk_text (owner_name_at loading o) → NoOtherRose o (counted 0 0 0) (counted 1 0 0) → ⊥
 first_disk zero lt is others = let wrong : 10 ≡ 101 = ap (λ text. slice_index text 6) is in omega (arith, wrong)
-first_disk (suc zero) lt is others = let wrong : 1 ≡ 0 = others 0 (λ same. omega (arith, same)) (record { trace = None; faults = 0 }) (record { trace = None; faults = 1 }) refl refl in omega (arith, wrong)
+first_disk (suc zero) lt is others = let wrong : 1 ≡ 0 = (others 0 (λ same. omega (arith, same)) (record { trace = None; faults = 0; twins = None }) (record { trace = None; faults = 1; twins = None }) refl refl).0 in omega (arith, wrong)
 first_disk (suc (suc o)) lt is others = omega (arith, lt)
 
 another_owners_disk : IsDiskLine (to_count loading key) (counted 0 0 0) (counted 1 0 0) (codes "disk b\n") → ⊥
 another_owners_disk (o, lt, is, opened, others) = first_disk o lt is others
 
 -- the first one's journal was not made, so the second one's disk isn't opened
-unmade_before : (o : ℕ) → o < 2 → codes "disk b\n" ≡ disk_text (owner_name_at loading o) → AreOpenedBefore loading key (shelf_with []) o → ⊥
-unmade_before zero lt is opened = let wrong : 10 ≡ 101 = ap (λ text. slice_index text 6) is in omega (arith, wrong)
-unmade_before (suc zero) lt is opened = let first = opened 0 (omega arith) in
+unmade_before : (new : Shelf) (o : ℕ) → o < 2 → codes "disk b\n" ≡ disk_text (owner_name_at loading o) → AreOpenedBefore loading key (shelf_with []) new o → ⊥
+unmade_before new zero lt is opened = let wrong : 10 ≡ 101 = ap (λ text. slice_index text 6) is in omega (arith, wrong)
+unmade_before new (suc zero) lt is opened = let first = opened 0 (omega arith) in
     let long : 128 ≤ 0 = journal-long (header_in loading key 0 first.0) first.1 [] first.2.stands in omega (arith, long)
-unmade_before (suc (suc o)) lt is opened = omega (arith, lt)
+unmade_before new (suc (suc o)) lt is opened = omega (arith, lt)
 
 behind_an_unmade_journal : (new : Shelf) → IsDiskLine (to_answer 1 loading key) (shelf_with []) new (codes "disk b\n") → ⊥
-behind_an_unmade_journal new (o, lt, is, opened, others) = unmade_before o lt is opened
+behind_an_unmade_journal new (o, lt, is, opened, others) = unmade_before new o lt is opened
 
 other_at : (o : ℕ) → o < 2 → codes "disk c\n" ≡ disk_text (owner_name_at loading o) → ⊥
 other_at zero lt is = let wrong : 10 ≡ 101 = ap (λ text. slice_index text 6) is in omega (arith, wrong)
@@ -377,23 +407,20 @@ no_disk_opened old new text line = line
 
 -- ---- so is an `init`'s: the journals of the owners before it are made
 
-abbrev failed_times : ℕ → Shown
-failed_times n = record { trace = None; faults = n }
-
 second_made : AreMadeBefore loading key 1 MayHaveFailed (counted 0 0 0) (counted 0 1 0)
 second_made = record { made = made; here = here; behind = behind }
   where
-    made : (p : ℕ) (before : Shown) → p < 1 → counted 0 0 0 p ≡ Some before → (after : Shown) × (counted 0 1 0 p ≡ Some after) × IsMade (new_header loading key p) before after
+    made : (p : ℕ) (before : Stored) → p < 1 → counted 0 0 0 p ≡ Some before → (after : Stored) × (counted 0 1 0 p ≡ Some after) × IsMade (new_header loading key p) before after
     made zero before less is =
         let one : failed_times 0 ≡ before = cc is in
-        subst (λ (b : Shown). (after : Shown) × (counted 0 1 0 0 ≡ Some after) × IsMade (header_of loading key 0) b after) one
-        (failed_times 0, refl, record { made = λ t told. absurd (cc told); counts = refl })
+        subst (λ (b : Stored). (after : Stored) × (counted 0 1 0 0 ≡ Some after) × IsMade (header_of loading key 0) b after) one
+        (failed_times 0, refl, record { made = λ t told. absurd (cc told); counts = refl; twins = tt })
     made (suc p) before less is = absurd (omega (arith, less))
 
-    here : (before : Shown) → counted 0 0 0 1 ≡ Some before → (after : Shown) × (counted 0 1 0 1 ≡ Some after) × MayHaveFailed before after
+    here : (before : Stored) → counted 0 0 0 1 ≡ Some before → (after : Stored) × (counted 0 1 0 1 ≡ Some after) × MayHaveFailed before after
     here before is =
         let one : failed_times 0 ≡ before = cc is in
-        subst (λ (b : Shown). (after : Shown) × (counted 0 1 0 1 ≡ Some after) × MayHaveFailed b after) one (failed_times 1, refl, (omega arith, inr (λ below. omega arith)))
+        subst (λ (b : Stored). (after : Stored) × (counted 0 1 0 1 ≡ Some after) × MayHaveFailed b after) one (failed_times 1, refl, (omega arith, inr (inl (refl, λ below. omega arith)), tt))
 
     behind : (p : ℕ) → 1 < p → counted 0 1 0 p ≡ counted 0 0 0 p
     behind zero less = absurd (omega (arith, less))
@@ -422,7 +449,7 @@ both_failed zero lt is made = let wrong : 10 ≡ 101 = ap (λ text. slice_index 
 both_failed (suc zero) lt is made =
     let first = made.made 0 (failed_times 0) (omega arith) refl in
     let one : failed_times 1 ≡ first.0 = cc first.1 in
-    let wrong : 1 ≡ 0 = ap (λ (s : Shown). s.faults) one ∙ first.2.counts in
+    let wrong : 1 ≡ 0 = ap (λ (s : Stored). s.faults) one ∙ first.2.counts in
     omega (arith, wrong)
 both_failed (suc (suc o)) lt is made = omega (arith, lt)
 
@@ -458,8 +485,10 @@ valid_making : IsValidFor (to_make loading key) (λ o. telling [])
 valid_making o lt = refl
 
 no_journals : HoldJournals loading key (λ o. telling []) → ⊥
-no_journals (told, (versions, found, opened)) =
-    let long : 128 ≤ 0 = journal-long (header_of (in_versions loading versions) key 0) (found 0) [] (opened.each 0 (omega arith)).stands in omega (arith, long)
+no_journals told =
+    let h : HoldsRecords (new_entry loading 0) (new_header loading key 0) [] = told 0 (omega arith) in
+    let long : 128 ≤ 0 = journal-long (header_in loading key 0 h.version) h.found [] h.stands in
+    omega (arith, long)
 
 not_valid_run : IsValidFor (to_answer 1 loading key) (λ o. telling []) → ⊥
 not_valid_run = no_journals
@@ -470,7 +499,7 @@ not_valid_audit = no_journals
 -- journals of no records are valid, and those that aren't told are not
 module _ (bytes : ℕ → List ℕ) (made : (o : ℕ) → Stands (header_of loading key o) [] (bytes o)) where
   valid_run : IsValidFor (to_answer 1 loading key) (λ o. telling (bytes o))
-  valid_run = (λ o lt. refl, (replicate 64 3, λ o. [], record { counted = refl; each = λ o lt. record { stands = made o; history = record { follows = λ k r at. absurd (cc (at)) } } }))
+  valid_run o lt = record { version = version_at loading o; found = []; stands = made o; history = record { follows = λ k r at. absurd (cc (at)) } }
 
   not_valid_making : IsValidFor (to_make loading key) (λ o. telling (bytes o)) → ⊥
   not_valid_making is =
@@ -479,8 +508,8 @@ module _ (bytes : ℕ → List ℕ) (made : (o : ℕ) → Stands (header_of load
       let short : length (bytes 0) ≡ 0 = ap length none in
       omega (arith, long, short)
 
-not_valid_untold : IsValidFor (to_answer 1 loading key) (λ o. Some (record { trace = None; faults = 0 })) → ⊥
-not_valid_untold (told, journals) = let wrong : false ≡ true = told 0 (omega arith) in true≢false (sym wrong)
+not_valid_untold : IsValidFor (to_answer 1 loading key) (λ o. Some (record { trace = None; faults = 0; twins = None })) → ⊥
+not_valid_untold told = told 0 (omega arith)
 
 -- a program asks nothing of the disks; faulty words and a refused name are never valid
 module _ (tables : Signature) (X Y : Dataset) (program : List ℕ) (shelf : Shelf) where
@@ -521,7 +550,7 @@ module _ (tables : Signature) (X Y : Dataset) (program : List ℕ) (shelf : Shel
 
 -- A disk to which a byte was written doesn't keep what was found: a stop may leave a file that none could have left before.
 written_isnt_kept : (owner : Owner) (draws : ℕ → ℕ → ℕ) (header : Header) (found : List Record)
-    → KeepsFound owner draws header found (shown []) (record { trace = Some (record { start = []; steps = Wrote 0 (7 ∷ []) ∷ [] }); faults = 0 }) → ⊥
+    → KeepsFound owner draws header found (shown []) (record { trace = Some (record { start = []; steps = Wrote 0 (7 ∷ []) ∷ [] }); faults = 0; twins = None }) → ⊥
 unfolding overlaid
 written_isnt_kept owner draws header found keeps =
     let same : seen [] (Wrote 0 (7 ∷ []) ∷ []) ≡ [] = keeps.images.each _ (inl (seen-image [] (Wrote 0 (7 ∷ []) ∷ []))) in

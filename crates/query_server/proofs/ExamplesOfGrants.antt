@@ -3,7 +3,8 @@ use Rattle.std.proofs.Common.{◌≡◌, ℕ, List, [], ◌∷◌, ◌++◌, len
 use Rattle.std.specs.Prelude.{Ok, Err, codes, ⊤}
 use Rattle.std.specs.Fmt.{digits}
 use mathlib.Core.Logic.{inl, inr}
-use Rattle.outside_disks.specs.Disks.{Shown, Step, WasImageOf}
+use Rattle.outside_disks.specs.Disks.{Step, WasImageOf}
+use Rattle.outside_disks.specs.Stored.{Stored}
 use Rattle.outside_disks.specs.Disks.Step.{Synced}
 use Rattle.outside_disks.proofs.Images.{passes-none}
 use Rattle.partition_charge.specs.Cost.{cost_of_charges, partition_cost}
@@ -124,18 +125,19 @@ module _ (one : KeyedOwner) (amount : ℕ) (old new : Shelf) where
   elsewhere o other changed status is = changed (is.disk.elsewhere o other)
 
 -- A disk with these bytes, which was synced as its journal was opened; then these were written, and synced.
-abbrev opened : (bytes : List ℕ) → Shown
-opened bytes = record { trace = Some (record { start = bytes; steps = Synced ∷ [] }); faults = 0 }
+abbrev opened : (bytes : List ℕ) → Stored
+opened bytes = record { trace = Some (record { start = bytes; steps = Synced ∷ [] }); faults = 0; twins = None }
 
 module _ (header : Header) (found : List Record) (next : Record) (bytes : List ℕ) (stands : Stands header found bytes) where
-  abbrev at_home : Shown
-  at_home = record { trace = Some (record { start = bytes; steps = [] }); faults = 0 }
+  abbrev at_home : Stored
+  at_home = record { trace = Some (record { start = bytes; steps = [] }); faults = 0; twins = None }
 
   -- Nothing was written: that may be left where the append failed, and not where it was done.
   may_be_left : MayHaveGained header found next ⊥ at_home (opened bytes)
   may_be_left = record {
     images = passes-none (IsBeforeOrAfter header found next) (record { start = bytes; steps = Synced ∷ [] }) (λ c is. inl (subst (Stands header found) (sym is) stands));
     appended = λ none. absurd none;
+    twins = inl tt;
   }
 
   not_appended : MayHaveGained header found next ⊤ at_home (opened bytes) → ⊥
@@ -146,7 +148,7 @@ module _ (header : Header) (found : List Record) (next : Record) (bytes : List �
   -- A file that stands for other records is never left.
   other_records : (others : List Record) (torn : List ℕ) (more : List Step) → (others ≡ found → ⊥) → (others ≡ found ++ next ∷ [] → ⊥) → Stands header others torn
       → WasImageOf 1 (record { start = bytes; steps = more ++ Synced ∷ [] }) torn
-      → MayHaveGained header found next ⊥ at_home (record { trace = Some (record { start = bytes; steps = more ++ Synced ∷ [] }); faults = 1 }) → ⊥
+      → MayHaveGained header found next ⊥ at_home (record { trace = Some (record { start = bytes; steps = more ++ Synced ∷ [] }); faults = 1; twins = None }) → ⊥
   other_records others torn more less also stood was is = either (is.images.each torn was)
     where
       either : IsBeforeOrAfter header found next torn → ⊥

@@ -3,7 +3,8 @@ use Rattle.std.proofs.Common.{◌≡◌, ℕ, ◌<◌, ◌≤◌, List, [], ◌�
 use Rattle.std.specs.List.{flat_map}
 use mathlib.Core.Logic.{◌⊎◌, inl, inr}
 use Rattle.fz_outside.specs.Faults.{HasRisen, last_count}
-use Rattle.outside_disks.specs.Disks.{IsImageOf, Shown, Trace, seen_of}
+use Rattle.outside_disks.specs.Disks.{IsImageOf, Trace, seen_of}
+use Rattle.outside_disks.specs.Stored.{Stored, Twins}
 use Rattle.journal_records.specs.declared.records.Header.{Header}
 use Rattle.journal_records.specs.declared.records.Record.{Record}
 use Rattle.budget_core.specs.Entries.{Entry}
@@ -21,7 +22,7 @@ use Rattle.service_workers.specs.declared.posting.Service.{Service}
 use Rattle.service_workers.specs.declared.posting.Service.TheVariants.{Served, DoorFault, NoMemory}
 use Rattle.catalog_loading.specs.Files.{ReadsToCome}
 use Rattle.catalog_loading.specs.Loaded.{Loading}
-use Rattle.owner_books.specs.Shelves.{Shelf}
+use Rattle.owner_books.specs.Shelves.{AreLost, Shelf}
 use Rattle.query_server.specs.Run.{IsScriptAnswered, WentOn}
 use Rattle.query_server.specs.Service.{IsServiceDone, service_status}
 use Rattle.query_server.specs.declared.end.Status.{Status}
@@ -30,8 +31,8 @@ use Rattle.query_server.specs.declared.end.Status.TheVariants as code
 -- ---- an owner's disk through a run
 
 -- a disk that tells nothing but its count of faults
-abbrev untold : (faults : ℕ) → Shown
-untold faults = record { trace = None; faults = faults }
+abbrev untold : (faults : ℕ) → Stored
+untold faults = record { trace = None; faults = faults; twins = None }
 
 module _ (entry : Entry) (header : Header) (r : Record) where
   -- a record was added, and nothing failed
@@ -44,6 +45,7 @@ module _ (entry : Entry) (header : Header) (r : Record) where
     steady = λ none. refl;
     failed = λ failure is. absurd (cc (is));
     follows = λ failure is. absurd (cc (is));
+    twins = tt;
   }
 
   -- a record that was found is lost
@@ -73,23 +75,31 @@ module _ (entry : Entry) (header : Header) (r : Record) where
     steady = λ none. absurd (cc (none));
     failed = λ other is.
         let same : failure ≡ other = cc (is) in
-        (λ low. (let more : 2 < 3 = omega arith in more), subst (λ (f : Failure). f.failed_at ≡ 3) same refl);
+        (inl (refl, λ low. (let more : 2 < 3 = omega arith in more)), λ alone. subst (λ (f : Failure). f.failed_at ≡ 3) same refl);
     follows = λ other is. let same : failure ≡ other = cc (is) in subst (λ (f : Failure). MayFollow entry [] f.pending) same may;
+    twins = tt;
   }
 
   unseen_failure : WentOn entry header [] [] (Some failure) (untold 2) (untold 2) → ⊥
-  unseen_failure w =
-      let rose : HasRisen 2 2 = (w.failed failure refl).0 in
-      let below : 2 < last_count = omega arith in
-      let h : 2 < 2 = rose below in
-      omega (arith, h)
+  unseen_failure w = risen (w.failed failure refl).0
+    where
+      risen : AreLost (untold 2) (untold 2) → ⊥
+      risen (inl (alone, rose)) =
+          let below : 2 < last_count = omega arith in
+          let h : 2 < 2 = rose below in
+          omega (arith, h)
+      risen (inr rose) = rose
+
+  -- One disk stays one.
+  second_disk : (faults : ℕ) (twins : Twins) → WentOn entry header [] [] None (untold faults) (record { trace = None; faults = faults; twins = Some twins }) → ⊥
+  second_disk faults twins w = w.twins
 
   -- A disk that tells an empty file has kept no journal; and one of which a stop may leave a file without the record has not kept that.
-  no_journal : WentOn entry header [] [] None (untold 2) (record { trace = Some (record { start = []; steps = [] }); faults = 2 }) → ⊥
+  no_journal : WentOn entry header [] [] None (untold 2) (record { trace = Some (record { start = []; steps = [] }); faults = 2; twins = None }) → ⊥
   no_journal w = let long : 128 ≤ 0 = journal-long header [] [] w.kept.stands in omega (arith, long)
 
-  unsynced : (before : Shown) (t : Trace) (faults : ℕ) (file : List ℕ) → IsImageOf t file → Stands header [] file
-      → WentOn entry header [] (r ∷ []) None before (record { trace = Some t; faults = faults }) → ⊥
+  unsynced : (before : Stored) (t : Trace) (faults : ℕ) (file : List ℕ) → IsImageOf t file → Stands header [] file
+      → WentOn entry header [] (r ∷ []) None before (record { trace = Some t; faults = faults; twins = None }) → ⊥
   unsynced before t faults file image none w =
       let same : file ≡ seen_of t = w.kept.stable file image in
       let both : r ∷ [] ≡ [] = stands-one header (r ∷ []) [] (seen_of t) w.kept.stands (subst (Stands header []) same none) in

@@ -3,7 +3,8 @@ use Rattle.std.proofs.Common.{◌≡◌, ◌∙◌, ℕ, ◌≤◌, List, Option
 use Rattle.std.specs.Prelude.{Result, Ok, Err, IsOk, IfSome, option_and_then, option_map}
 use mathlib.Core.Logic.{◌⊎◌, inl, inr}
 use Rattle.word_streams.specs.Draws.{draws_of}
-use Rattle.outside_disks.specs.Disks.{IsImageOf, Passes, Shown, Trace, WhereTold, after, noted, seen_of}
+use Rattle.outside_disks.specs.Disks.{IsImageOf, Passes, Trace, WhereTold, after, noted, seen_of}
+use Rattle.outside_disks.specs.Stored.{Stored}
 use Rattle.outside_disks.specs.Disks.Step.{Synced}
 use Rattle.outside_disks.proofs.Images.{passes-none, passes-step, seen-image}
 use Rattle.outside_disks.proofs.Told.{told-is, told-none}
@@ -70,7 +71,7 @@ module _ (header : Header) (found : List Record) where
 
 -- ---- the records
 
-keeps_found : (owner : Owner) (draws : ℕ → ℕ → ℕ) (header : Header) (found : List Record) (before now : Shown) → HasData owner → IsHistory owner.entry found
+keeps_found : (owner : Owner) (draws : ℕ → ℕ → ℕ) (header : Header) (found : List Record) (before now : Stored) → HasData owner → IsHistory owner.entry found
     → IfSome (option_map seen_of before.trace) (Stands header found) → IsOnlySynced before now → KeepsFound owner draws header found before now
 keeps_found owner draws header found before now of history stands synced =
     let within : cost_of owner.entry found ≤ budget_of owner.entry found = history_within owner.entry found history in
@@ -78,14 +79,15 @@ keeps_found owner draws header found before now of history stands synced =
       stands = still_stands header found before.trace now.trace synced.synced stands;
       images = synced_images before.trace now.trace synced.synced;
       since = since_synced header found before.trace now.trace synced.synced stands;
+      twins = synced.twins;
       owed = lawful_owed owner draws found found within (lawful_found owner draws found (record { history = history; within = within }));
       backed = λ programs explained.
           well_backed owner draws found programs found of within (well_found owner draws found programs (record { history = history; within = within; explained = explained }));
     }
 
 -- what a disk tells that shows this
-told_at : (b : Shelf) (o : ℕ) (before : Shown) (P : List ℕ → Type 0) → b o ≡ Some before → IfSome (bytes_on b o) P → IfSome (option_map seen_of before.trace) P
-told_at b o before P at = subst (λ (s : Option Shown). IfSome (option_map seen_of (option_and_then (λ (shown : Shown). shown.trace) s)) P) at
+told_at : (b : Shelf) (o : ℕ) (before : Stored) (P : List ℕ → Type 0) → b o ≡ Some before → IfSome (bytes_on b o) P → IfSome (option_map seen_of before.trace) P
+told_at b o before P at = subst (λ (s : Option Stored). IfSome (option_map seen_of (option_and_then (λ (shown : Stored). shown.trace) s)) P) at
 
 pub nothing_lost : (loading : Loading) (key : List ℕ) (b a : Shelf) → IsLoading loading → NothingWritten b a → AreKept loading key b a
 nothing_lost loading key b a lawful disks = λ versions counted o owner found before there at opened.
@@ -130,7 +132,7 @@ audits_keep words reads old new script status text loading key is written = all_
 
 -- ---- a grant
 
-one_disk : (o : ℕ) (G H : Shown → Shown → Type 0) (b a : Shelf) → ((before now : Shown) → b o ≡ Some before → G before now → H before now) → OneDisk o G b a → OneDisk o H b a
+one_disk : (o : ℕ) (G H : Stored → Stored → Type 0) (b a : Shelf) → ((before now : Stored) → b o ≡ Some before → G before now → H before now) → OneDisk o G b a → OneDisk o H b a
 one_disk o G H b a goes disk = record {
   here = λ before at. let went = disk.here before at in (went.0, went.1, goes before went.0 at went.2);
   elsewhere = disk.elsewhere;
@@ -182,7 +184,7 @@ module _ (one : KeyedOwner) (amount : ℕ) (valid : IsAmount amount) (b a : Shel
   kept_so : (whole ≡ code.Done → ⊥) → OneDisk one.number IsOnlySynced b a → IsLeft
   kept_so isnt disk = inr (not_done whole status by isnt, one_kept one b a disk)
 
-  made_so : (version : ℕ) (found : List Record) → IsOpened (entry_in one version) (header_in one version) (bytes_on b one.number) found → IsOk (verdict_on one version found amount)
+  made_so : (version : ℕ) (found : List Record) → IsOpened (entry_in one version) (header_in one version) (b one.number) (a one.number) found → IsOk (verdict_on one version found amount)
       → IfFinished whole (whole ≡ code.Done) → OneDisk one.number (MayHaveGained (header_in one version) found (Grant (grant_behind found amount)) (status ≡ code.Done)) b a → IsLeft
   made_so version found opened allowed ends disk = inl (record {
     version = version;

@@ -2,7 +2,8 @@
 use Rattle.std.proofs.Common.{◌≡◌, ℕ, List, [], ◌∷◌, ◌++◌, Option, Some, None, refl, sym, ◌∙◌, ap, subst}
 use mathlib.Core.Logic.{◌⊎◌, inl, inr}
 use mathlib.Core.List.{IsPrefix, append-nil, append_assoc, append_cancel_left}
-use Rattle.outside_disks.specs.Disks.{Shown, Trace, Passes, WhereTold, noted}
+use Rattle.outside_disks.specs.Disks.{Trace, Passes, WhereTold, noted}
+use Rattle.outside_disks.specs.Stored.{Stored}
 use Rattle.outside_disks.specs.Disks.Step.{Synced}
 use Rattle.outside_disks.proofs.Images.{passes-weaker}
 use Rattle.journal_records.specs.declared.records.Header.{Header}
@@ -44,7 +45,7 @@ told_weaker P Q weaker None (Some u) p = p
 told_weaker P Q weaker (Some t) None p = p
 told_weaker P Q weaker (Some t) (Some u) p = passes-weaker P Q t u weaker p
 
-module _ (entry : Entry) (header : Header) (found : List Record) (next : Record) (Appended : Type 0) (before after : Shown) where
+module _ (entry : Entry) (header : Header) (found : List Record) (next : Record) (Appended : Type 0) (before after : Stored) where
   stands_so : (left : List Record) (bytes : List ℕ) → Stands header left bytes → (left ≡ found) ⊎ (left ≡ found ++ next ∷ []) → IsBeforeOrAfter header found next bytes
   stands_so left bytes stands (inl none) = inl (subst (λ (w : List Record). Stands header w bytes) none stands)
   stands_so left bytes stands (inr one) = inr (subst (λ (w : List Record). Stands header w bytes) one stands)
@@ -63,10 +64,12 @@ module _ (entry : Entry) (header : Header) (found : List Record) (next : Record)
   gained went = record {
     images = told_weaker (IsMoment header found (found ++ next ∷ []) None) (IsBeforeOrAfter header found next) was_appended (noted Synced before.trace) after.trace went.moments;
     appended = λ is. went.kept;
+    twins = inl went.twins;
   }
 
   pub may_have_gained : (failure : Failure) → failure.pending ≡ next → (Appended → ⊥) → WentOn entry header found found (Some failure) before after → MayHaveGained header found next Appended before after
   may_have_gained failure which isnt went = record {
     images = told_weaker (IsMoment header found found (Some failure)) (IsBeforeOrAfter header found next) (has_failed failure which) (noted Synced before.trace) after.trace went.moments;
     appended = λ is. absurd (isnt is);
+    twins = inr (isnt, failure, which, went.twins);
   }

@@ -2,7 +2,8 @@
 use Rattle.std.proofs.Common.{◌≡◌, ℕ, List, length, Option, Some, None, Vec, Global, refl, sym, ◌∙◌, ap, subst}
 use Rattle.std.specs.Prelude.{Result, Ok, Err, IsOk, IsSome, IfSome}
 use mathlib.Core.Logic.{inl, inr}
-use Rattle.outside_disks.specs.Disks.{Shown, WhereTold}
+use Rattle.outside_disks.specs.Disks.{WhereTold}
+use Rattle.outside_disks.specs.Stored.{Stored}
 use Rattle.outside_bays.specs.Bays.{Changes}
 use Rattle.fz_outside.specs.Faults.{HasRisen}
 use Rattle.journal_records.specs.declared.records.Header.{Header}
@@ -28,19 +29,21 @@ use Rattle.query_server.specs.Grant.{IsGrantUnwritten, WentBy, entry_in, header_
 use Rattle.query_server.specs.Granted.{IsBookBy, IsGrantEnd, IsUnappendedGrant, book_verdict}
 use Rattle.owner_books.specs.Opened.{IsOpened}
 use Rattle.query_server.specs.Run.{WentOn}
-use Rattle.owner_books.specs.Shelves.{NoOtherRose, OneDisk, IsOnlySynced, Shelf, SomeRose, bytes_on}
+use Rattle.owner_books.specs.Shelves.{AreLost, NoOtherRose, OneDisk, IsOnlySynced, Shelf, SomeRose}
 use Rattle.query_server.specs.Work.{to_grant}
 use Rattle.owner_books.proofs.Back.{changed_elsewhere, changed_here}
 use Rattle.owner_books.proofs.Disks.{same_still}
 use Rattle.query_server.proofs.Home.{some_of}
 use Rattle.owner_books.proofs.Passes.{book_synced}
 use Rattle.owner_books.proofs.Stops.{book_opened}
+use Rattle.owner_books.proofs.Twins.{went_later}
+use Rattle.query_server.proofs.Mirrored.{lost_rose}
 use Rattle.query_server.proofs.Went.{went_on}
 
 -- A journal that isn't opened ends the grant, with nothing written.
 pub unopened_end : (one : KeyedOwner) (amount : ℕ) (old new : Shelf) (script : List ℕ) (stop : Stop) → OneDisk one.number IsOnlySynced old new → NoOtherRose one.number old new
-    → IsUnopenedStop (its_name one) (its_entry one) (its_header one) (bytes_on old one.number) stop → IsEndOf (to_grant amount one) old new script (Err stop)
-unopened_end one amount old new script (Journal line) disk others (refusal, unopened, is) =
+    → IsUnopenedStop (its_name one) (its_entry one) (its_header one) (old one.number) (new one.number) stop → IsEndOf (to_grant amount one) old new script (Err stop)
+unopened_end one amount old new script (Journal line) disk others (refusal, unopened, unwritten, is) =
     inl (inl (record { refusal = refusal; refused = unopened; is_status = refl; is_text = is; disk = disk }))
 unopened_end one amount old new script (Disk line) disk others is = inr (inr (inr (line, refl, (is, others))), inl disk)
 unopened_end one amount old new script NoMemory disk others is = inr (inr (inl refl), inl disk)
@@ -49,21 +52,17 @@ unopened_end one amount old new script (Refused name) disk others is = absurd is
 unopened_end one amount old new script Fault disk others is = absurd is
 
 -- where the disk of one owner alone went on, no other's count rose
-pub one_risen : (o : ℕ) (Goes : Shown → Shown → Type 0) (old new : Shelf) → OneDisk o Goes old new → NoOtherRose o old new
+pub one_risen : (o : ℕ) (Goes : Stored → Stored → Type 0) (old new : Shelf) → OneDisk o Goes old new → NoOtherRose o old new
 one_risen o Goes old new went p isnt = same_still p old new (went.elsewhere p isnt)
 
 -- What a book that was opened on an owner's disk went through, and how its disk was put back.
 module _ (entry : Entry) (header : Header) (o : ℕ) (old mid new : Shelf) (opened later : Account) (is : IsNewBook entry header (old o) opened) (took : TookDisk o old mid)
     (back : Changes o (Some (shown_by later)) mid new) (went : Went opened.ledger.records later.ledger.records opened.storage later.storage) (sound : IsBook later) where
-  back_here : (Goes : Shown → Shown → Type 0) → ((before : Shown) → old o ≡ Some before → Goes before (shown_by later)) → OneDisk o Goes old new
+  back_here : (Goes : Stored → Stored → Type 0) → ((before : Stored) → old o ≡ Some before → Goes before (shown_by later)) → OneDisk o Goes old new
   back_here Goes goes = record {
     here = λ before was. (shown_by later, changed_here o (Some (shown_by later)) mid new back, goes before was);
     elsewhere = λ p isnt. changed_elsewhere o p (Some (shown_by later)) mid new isnt back ∙ took.1 p isnt;
   }
-
-  on_disk : (before : Shown) → old o ≡ Some before → WhereTold (Found header opened.ledger.found) before.trace opened.storage.trace × (opened.storage.faults ≡ before.faults)
-  on_disk before was =
-      subst (λ (s : Option Shown). IfSome s (λ b. WhereTold (Found header opened.ledger.found) b.trace opened.storage.trace × (opened.storage.faults ≡ b.faults))) was is.on
 
   -- nothing was done to it
   pub untouched : later ≡ opened → OneDisk o IsOnlySynced old new
@@ -73,14 +72,10 @@ module _ (entry : Entry) (header : Header) (o : ℕ) (old mid new : Shelf) (open
   pub went_through : (records : List Record) (closed : Option Failure) → later.ledger.records ≡ records → later.storage.closed ≡ closed → later.ledger.entry ≡ entry
       → OneDisk o (WentOn entry header opened.ledger.found records closed) old new
   went_through records closed are shut its = back_here (WentOn entry header opened.ledger.found records closed) (λ before was.
-      let on = on_disk before was in
       let through : Went opened.ledger.found records opened.storage later.storage
       = subst (λ (xs : List Record). Went xs records opened.storage later.storage) is.fresh (subst (λ (xs : List Record). Went opened.ledger.records xs opened.storage later.storage) are went) in
       subst (λ (c : Option Failure). WentOn entry header opened.ledger.found records c before (shown_by later)) shut
-      (went_on entry header opened.ledger.found records opened.storage later.storage before is.of_header is.unclosed on.1 on.0 through
-      (subst (λ (xs : List Record). IfSome later.storage.trace (IsKeptNow later.storage.header xs later.storage.closed)) are sound.kept)
-      (λ failure shut. subst (λ (e : Entry). MayFollow e records failure.pending) its
-      (subst (λ (xs : List Record). MayFollow later.ledger.entry xs failure.pending) are (sound.follows failure shut)))))
+      (went_on entry header records (old o) before opened later was is through are its sound))
 
 -- The same of a grant over a book that was just opened in this version.
 module _ (one : KeyedOwner) (amount version : ℕ) (old mid new : Shelf) (opened later : Account) (is : IsNewBook (entry_in one version) (header_in one version) (old one.number) opened)
@@ -92,8 +87,11 @@ module _ (one : KeyedOwner) (amount version : ℕ) (old mid new : Shelf) (opened
   same : book_verdict opened amount ≡ verdict_on one version found amount
   same = λ i. grant_verdict (is.of_entry i) (length (reservations_of found)) (is.fresh i) amount
 
-  was_opened : IsOpened (entry_in one version) (header_in one version) (bytes_on old one.number) found
-  was_opened = book_opened (entry_in one version) (header_in one version) (old one.number) opened is
+  was_opened : IsOpened (entry_in one version) (header_in one version) (old one.number) (new one.number) found
+  was_opened =
+      subst (λ (now : Option Stored). IsOpened (entry_in one version) (header_in one version) (old one.number) now found) (sym (changed_here one.number (Some (shown_by later)) mid new back))
+      (book_opened (entry_in one version) (header_in one version) (old one.number) (shown_by later) opened is
+      (went_later opened.ledger.records later.ledger.records opened.storage later.storage went))
 
   through : (records : List Record) (closed : Option Failure) → later.ledger.records ≡ records → later.storage.closed ≡ closed → later.ledger.entry ≡ entry_in one version
       → OneDisk one.number (WentOn (entry_in one version) (header_in one version) found records closed) old new
@@ -144,7 +142,7 @@ module _ (one : KeyedOwner) (amount version : ℕ) (old mid new : Shelf) (opened
   granted_end script (Err (Journal line)) wrong = absurd wrong
   granted_end script (Err Fault) wrong = absurd wrong
 
-  rose_here : (before : Shown) → old one.number ≡ Some before → IsUnappendedGrant opened amount later → SomeRose old new
+  rose_here : (before : Stored) → old one.number ≡ Some before → IsUnappendedGrant opened amount later → SomeRose old new
   rose_here before was (allowed, (Closed failed_at, (failure, shut, at, unchanged))) = not_closed failure shut
   rose_here before was (allowed, (DiskFault, closed)) = (
     one.number,
@@ -152,9 +150,10 @@ module _ (one : KeyedOwner) (amount version : ℕ) (old mid new : Shelf) (opened
     shown_by later,
     was,
     changed_here one.number (Some (shown_by later)) mid new back,
-    subst (λ (n : ℕ). HasRisen n later.storage.faults)
-        (on_disk (entry_in one version) (header_in one version) one.number old mid new opened later is took back went sound before was).1
-        (went.failed (record { failed_at = later.storage.faults; pending = Grant (grant_behind opened.ledger.records amount) }) is.unclosed closed.closed).0,
+    let fails = unwritten (allowed, (DiskFault, closed)) in
+        let now = fails.disk.here before was in
+        let shows : now.0 ≡ shown_by later = let e : Some now.0 ≡ Some (shown_by later) = sym now.1 ∙ changed_here one.number (Some (shown_by later)) mid new back in cc e in
+        lost_rose before (shown_by later) (subst (AreLost before) shows (now.2.failed fails.failure refl).0),
   )
 
   -- The line of the disk comes only where its count rose.

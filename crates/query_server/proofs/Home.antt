@@ -3,7 +3,7 @@ use Rattle.std.proofs.Common.{◌≡◌, ℕ, ◌<◌, ◌≤◌, List, Option, 
 use Rattle.std.specs.Prelude.{IsSome}
 use mathlib.Core.Logic.{◌⊎◌, inl, inr}
 use Rattle.std.proofs.lemmas.Bool.{cases_lt, cases_order}
-use Rattle.outside_disks.specs.Disks.{Shown}
+use Rattle.outside_disks.specs.Stored.{Stored}
 use Rattle.outside_bays.specs.Bays.{Same}
 use Rattle.command_words.specs.Command.{Command, command_of}
 use Rattle.catalog_loading.specs.Files.{ReadsToCome}
@@ -27,21 +27,21 @@ same_back : (b a : Shelf) → Same b a → AreBack b a
 same_back b a same = λ o home. subst IsSome (sym (same o)) home
 
 -- a disk that went on is at home again
-went_back : (b a : Shelf) (o : ℕ) (Goes : Shown → Shown → Type 0) → ((before : Shown) → b o ≡ Some before → (after : Shown) × (a o ≡ Some after) × Goes before after)
+went_back : (b a : Shelf) (o : ℕ) (Goes : Stored → Stored → Type 0) → ((before : Stored) → b o ≡ Some before → (after : Stored) × (a o ≡ Some after) × Goes before after)
     → IsSome (b o) → IsSome (a o)
 went_back b a o Goes went home =
     let before = some_of (b o) home in
     let after = went before.0 before.1 in
     subst IsSome (sym after.1) refl
 
-became_back : (n : ℕ) (Goes : (o : ℕ) → Shown → Shown → Type 0) (b a : Shelf) → EachDisk n Goes b a → AreBack b a
+became_back : (n : ℕ) (Goes : (o : ℕ) → Stored → Stored → Type 0) (b a : Shelf) → EachDisk n Goes b a → AreBack b a
 became_back n Goes b a became o home = here (cases_lt o n)
   where
     here : (o < n) ⊎ (n ≤ o) → IsSome (a o)
     here (inl less) = went_back b a o (Goes o) (λ before at. became.owned o before less at) home
     here (inr past) = subst IsSome (sym (became.others o past)) home
 
-one_back : (k : ℕ) (Goes : Shown → Shown → Type 0) (b a : Shelf) → OneDisk k Goes b a → AreBack b a
+one_back : (k : ℕ) (Goes : Stored → Stored → Type 0) (b a : Shelf) → OneDisk k Goes b a → AreBack b a
 one_back k Goes b a went o home = here (cases_order o k)
   where
     elsewhere : (o ≡ k → ⊥) → IsSome (a o)
@@ -52,7 +52,7 @@ one_back k Goes b a went o home = here (cases_order o k)
     here (inr (inl less)) = elsewhere (λ same. omega (arith, less, same))
     here (inr (inr past)) = elsewhere (λ same. omega (arith, past, same))
 
-made_back : (loading : Loading) (key : List ℕ) (k : ℕ) (Goes : Shown → Shown → Type 0) (b a : Shelf) → AreMadeBefore loading key k Goes b a → AreBack b a
+made_back : (loading : Loading) (key : List ℕ) (k : ℕ) (Goes : Stored → Stored → Type 0) (b a : Shelf) → AreMadeBefore loading key k Goes b a → AreBack b a
 made_back loading key k Goes b a made o home = here (cases_order o k)
   where
     here : (o ≡ k) ⊎ ((o < k) ⊎ (k < o)) → IsSome (a o)

@@ -1,5 +1,7 @@
 pub mod Prefixes
+pub mod Mirrored
 pub mod Went
+pub mod Enough
 pub mod Judged
 pub mod WholeViews
 pub mod Bounded
@@ -30,6 +32,7 @@ pub mod ExamplesOfDisks
 pub mod ExamplesOfService
 pub mod ExamplesOfGrants
 mod ExamplesOfRecords
+mod ExamplesOfMirrors
 pub mod Granting
 -- passed on to the crates above
 pub use Rattle.generated_run.proofs.AnswerPath

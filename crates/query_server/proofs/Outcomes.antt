@@ -240,12 +240,12 @@ disks_of command work other is = absurd (grind (arith, is))
 
 -- a script that is answered
 answered_by : (words : List (List ℕ)) (reads : ReadsToCome) (b a : Shelf) (script text : List ℕ) (workers : ℕ) (loading : Loading) (key : List ℕ) → work_of words reads ≡ to_answer workers loading key
-    → (versions : List ℕ) (found : Journals) → AreOpened loading key b versions found → length script ≤ script_limit → IsScriptAnswered (in_versions loading versions) key workers b a found script text
+    → (versions : List ℕ) (found : Journals) → AreOpened loading key b a versions found → length script ≤ script_limit → IsScriptAnswered (in_versions loading versions) key workers b a found script text
     → IsAnsweredScript words reads b a script text
 answered_by words reads b a script text workers loading key work versions found opened short answered =
     let house = house_by words reads workers loading key work in
     let owners = register_owners (in_versions loading versions).register (lawful_in loading versions house.lawful.lawful opened.counted).register in
-    let histories = histories loading key b versions found house.lawful.lawful opened in
+    let histories = histories loading key b a versions found house.lawful.lawful opened in
     record {
       workers = workers;
       loading = loading;

@@ -29,9 +29,9 @@ history_within entry = history-induction entry (λ records. cost_of entry record
     step xs (Granted grant) history may within = omega (arith, within, cost_of-append-Grant entry xs grant, budget_of-append entry xs (Granted grant))
 
 -- What the owners' journals are opened with may be found.
-pub histories : (loading : Loading) (key : List ℕ) (shelf : Shelf) (versions : List ℕ) (found : Journals) → IsLoading loading → AreOpened loading key shelf versions found
+pub histories : (loading : Loading) (key : List ℕ) (old new : Shelf) (versions : List ℕ) (found : Journals) → IsLoading loading → AreOpened loading key old new versions found
     → AreHistories (house_in loading versions) found
-histories loading key shelf versions found lawful opened = λ o owner at.
+histories loading key old new versions found lawful opened = λ o owner at.
     let register = (in_versions loading versions).register in
     let known = in_catalog register (lawful_in loading versions lawful opened.counted).register o (slice_get_within (house_in loading versions).owners o owner at) in
     let history = (opened.each o known).history in

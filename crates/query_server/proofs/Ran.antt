@@ -6,7 +6,8 @@ use mathlib.Core.Logic.{inl, inr}
 use Rattle.fz_outside.specs.declared.FileFault.{FileFault}
 use Rattle.fz_outside.specs.declared.FileFault.TheVariants.{Failed, NoMemory as NoneToRead}
 use Rattle.word_streams.specs.Draws.{draws_of}
-use Rattle.outside_disks.specs.Disks.{Shown, WhereTold}
+use Rattle.outside_disks.specs.Disks.{WhereTold}
+use Rattle.outside_disks.specs.Stored.{Stored}
 use Rattle.journal_records.specs.declared.records.Record.{Record}
 use Rattle.budget_journal.specs.Journals.{Found}
 use Rattle.budget_core.specs.Entries.{Entry}
@@ -16,6 +17,7 @@ use Rattle.budget_ledger.specs.Account.{Account, Went}
 use Rattle.budget_ledger.specs.declared.failure.Failure.{Failure}
 use Rattle.owner_desk.specs.Passes.{Pass}
 use Rattle.owner_house.specs.House.{House, Register, house_of, owner_at}
+use Rattle.owner_house.specs.Owner.{Owner}
 use Rattle.owner_desk.specs.Shared.{Shared}
 use Rattle.generated_run.specs.SessionCore.Blocks.{crew_of, script_blocks}
 use Rattle.generated_run.specs.SessionCore.Bundles.{Bundle, bundle_of}
@@ -29,7 +31,7 @@ use Rattle.catalog_loading.specs.Given.{stop_at_fault}
 use Rattle.catalog_loading.specs.Loaded.{IsLoading, KeyedHouse, Loading, header_of, entry_at, in_versions, keyed, owners_in}
 use Rattle.query_server.specs.Work.{Work, to_answer}
 use Rattle.query_server.specs.Due.{IsDiskLine, IsDue, MayStop}
-use Rattle.owner_books.specs.Shelves.{Shelf, EachDisk, IsOnlySynced, bytes_on}
+use Rattle.owner_books.specs.Shelves.{Shelf, EachDisk, IsOnlySynced}
 use Rattle.owner_books.specs.Opened.{AreOpened, IsDiskNamed, IsOpened}
 use Rattle.query_server.specs.Duty.{IsRefusalDue}
 use Rattle.owner_catalog.specs.Limits.{owner_limit}
@@ -44,6 +46,7 @@ use Rattle.owner_books.proofs.Bundled.{many_known}
 use Rattle.owner_books.proofs.Passes.{all_back, fresh_none}
 use Rattle.query_server.proofs.Ends.{end_passed}
 use Rattle.owner_books.proofs.Stops.{err_same, pass_opened}
+use Rattle.owner_books.proofs.Twins.{CountsStay, went_later}
 use Rattle.query_server.proofs.Went.{went_on}
 
 -- what was answered by workers, by the draws and the script as they are called elsewhere
@@ -88,9 +91,25 @@ module _ (loading : Loading) (key : List ℕ) (lawful : IsLoading loading) where
   pub opened_fresh : (old mid : Shelf) (passes : List Pass) → ArePassesOn (entry_at loading) (header_of loading key) (owners_in loading) old mid passes → AreFresh (house_of loading.register) passes
   opened_fresh old mid passes on = λ o owner at. (on.each o (in_catalog loading.register lawful.register o (slice_get_within house.owners o owner at))).fresh
 
-  pub passes_opened : (old mid : Shelf) (passes : List Pass) → ArePassesOn (entry_at loading) (header_of loading key) (owners_in loading) old mid passes
-      → (o : ℕ) → o < owners_in loading → IsOpened (entry_at loading o) (header_of loading key o) (bytes_on old o) (found_by passes o)
-  passes_opened old mid passes on = λ o within. pass_opened (entry_at loading o) (header_of loading key o) (old o) (pass_at passes o) (on.each o within)
+  -- what a book became that was opened for a pass
+  book_went : (o : ℕ) (shown : Option Stored) (p q : Pass) (book : Account) → IsNewPass (entry_at loading o) (header_of loading key o) shown p → q.opened ≡ p.opened → GaveBook q book
+      → Went p.opened.ledger.found book.ledger.records p.opened.storage book.storage × (book.ledger.entry ≡ entry_at loading o)
+  book_went o shown p q book new same gave = (
+    subst (λ (rs : List Record). Went rs book.ledger.records p.opened.storage book.storage) new.book.fresh
+        (subst (λ (a : Account). Went a.ledger.records book.ledger.records a.storage book.storage) same gave.went),
+    ap (λ (l : Ledger). l.entry) gave.ledger ∙ ap (λ (a : Account). a.ledger.entry) same ∙ new.book.of_entry,
+  )
+
+  pub passes_opened : (old mid new : Shelf) (passes after : List Pass) (books : ℕ → Account) → ArePassesOn (entry_at loading) (header_of loading key) (owners_in loading) old mid passes
+      → ((o : ℕ) → o < owners_in loading → (pass_at after o).opened ≡ (pass_at passes o).opened) → ArePutBack (owners_in loading) after books mid new
+      → (o : ℕ) → o < owners_in loading → IsOpened (entry_at loading o) (header_of loading key o) (old o) (new o) (found_by passes o)
+  passes_opened old mid new passes after books on same back o within =
+      let p = pass_at passes o in
+      let q = pass_at after o in
+      let counts = subst (λ (a : Account). CountsStay (shown_by a).twins (shown_by (books o)).twins) (same o within)
+      (went_later q.opened.ledger.records (books o).ledger.records q.opened.storage (books o).storage (back.gave o within).went) in
+      subst (λ (now : Option Stored). IsOpened (entry_at loading o) (header_of loading key o) (old o) now p.opened.ledger.found) (sym (back.each o within))
+      (pass_opened (entry_at loading o) (header_of loading key o) (old o) (shown_by (books o)) p (on.each o within) counts)
 
   -- the records and the closings of the owners' books
   abbrev pub records_of : (ℕ → Account) → Journals
@@ -110,16 +129,11 @@ module _ (loading : Loading) (key : List ℕ) (lawful : IsLoading loading) where
   books_closed mid new after books back = λ o owner at. (back.gave o (in_catalog loading.register lawful.register o (slice_get_within house.owners o owner at))).closed
 
   -- an owner's disk, by its pass before the script and the book that the pass after it gave
-  pub owner_went : (o : ℕ) (old : Shelf) (before : Shown) (p q : Pass) (book : Account) → old o ≡ Some before → IsNewPass (entry_at loading o) (header_of loading key o) (old o) p → q.opened ≡ p.opened → GaveBook q book
+  pub owner_went : (o : ℕ) (old : Shelf) (before : Stored) (p q : Pass) (book : Account) → old o ≡ Some before → IsNewPass (entry_at loading o) (header_of loading key o) (old o) p → q.opened ≡ p.opened → GaveBook q book
       → WentOn (entry_at loading o) (header_of loading key o) p.opened.ledger.found book.ledger.records book.storage.closed before (shown_by book)
   owner_went o old before p q book at new same gave =
-      let found = p.opened.ledger.found in
-      let on = subst (λ (s : Option Shown). IfSome s (λ b. WhereTold (Found (header_of loading key o) found) b.trace p.opened.storage.trace × (p.opened.storage.faults ≡ b.faults))) at new.book.on in
-      let went = subst (λ (a : Account). Went a.ledger.records book.ledger.records a.storage book.storage) same gave.went in
-      let entry : book.ledger.entry ≡ entry_at loading o = ap (λ (l : Ledger). l.entry) gave.ledger ∙ ap (λ (a : Account). a.ledger.entry) same ∙ new.book.of_entry in
-      went_on (entry_at loading o) (header_of loading key o) found book.ledger.records p.opened.storage book.storage before new.book.of_header new.book.unclosed on.1 on.0
-      (subst (λ (rs : List Record). Went rs book.ledger.records p.opened.storage book.storage) new.book.fresh went) gave.sound.kept
-      (subst (λ (e : Entry). (failure : Failure) → book.storage.closed ≡ Some failure → MayFollow e book.ledger.records failure.pending) entry gave.sound.follows)
+      let w = book_went o (old o) p q book new same gave in
+      went_on (entry_at loading o) (header_of loading key o) book.ledger.records (old o) before p.opened book at new.book w.0 refl w.1 gave.sound
 
   pub answered_over : (workers : ℕ) (old mid new : Shelf) (passes after : List Pass) (books : ℕ → Account) (script text : List ℕ) → 0 < workers
       → ArePassesOn (entry_at loading) (header_of loading key) (owners_in loading) old mid passes → HasWorked (house_of loading.register) (draws_of key) workers script text passes after
@@ -187,20 +201,35 @@ module _ (loading : Loading) (key : List ℕ) (versions : List ℕ) (counted : l
   abbrev house_found : Loading
   house_found = in_versions loading versions
 
-  pub all_opened : (old mid : Shelf) (passes : List Pass) → ArePassesOn (entry_at house_found) (header_of house_found key) (owners_in loading) old mid passes → AreOpened loading key old versions (found_by passes)
-  all_opened old mid passes on = record { counted = counted; each = passes_opened house_found key found_lawful old mid passes on }
+  pub all_opened : (old mid new : Shelf) (passes after : List Pass) (books : ℕ → Account) → ArePassesOn (entry_at house_found) (header_of house_found key) (owners_in loading) old mid passes
+      → ((o : ℕ) → o < owners_in loading → (pass_at after o).opened ≡ (pass_at passes o).opened) → ArePutBack (owners_in loading) after books mid new
+      → AreOpened loading key old new versions (found_by passes)
+  all_opened old mid new passes after books on same back = record { counted = counted; each = passes_opened house_found key found_lawful old mid new passes after books on same back }
+
+  abbrev owner_found : ℕ → Owner
+  owner_found o = owner_at (house_of house_found.register) o
 
   -- How the script that was to be answered ends, once the disks are put back.
   pub run_ends : (workers : ℕ) (old mid new : Shelf) (passes after : List Pass) (books : ℕ → Account) (script : List ℕ) (result : Ended) → 0 < workers
       → ArePassesOn (entry_at house_found) (header_of house_found key) (owners_in loading) old mid passes → IsScriptEnd (house_of house_found.register) (draws_of key) workers script passes after result
       → ArePutBack (owners_in loading) after books mid new → IsEndOf (to_answer workers loading key) old new script result
   run_ends workers old mid new passes after books script (Ok (Done replies)) some on (short, h) back =
-      inl (inr (versions, found_by passes, all_opened old mid passes on, inl (refl, short, answered_over house_found key found_lawful workers old mid new passes after books script replies.items some on h back)))
+      inl (inr (
+        versions,
+        found_by passes,
+        all_opened old mid new passes after books on (λ o within. (h.owners o (owner_found o) (there house_found key found_lawful o within)).opened) back,
+        inl (refl, short, answered_over house_found key found_lawful workers old mid new passes after books script replies.items some on h back),
+      ))
   run_ends workers old mid new passes after books script (Ok (ProgramRefused line)) some on wrong back = absurd wrong
   run_ends workers old mid new passes after books script (Ok (TooLarge line)) some on wrong back = absurd wrong
   run_ends workers old mid new passes after books script (Ok (JournalFull line)) some on wrong back = absurd wrong
   run_ends workers old mid new passes after books script (Ok ScriptTooLong) some on (long, none) back =
-      inl (inr (versions, found_by passes, all_opened old mid passes on, inr (refl, long, refl, unserved_back house_found key found_lawful old mid new passes after books on none back)))
+      inl (inr (
+        versions,
+        found_by passes,
+        all_opened old mid new passes after books on (λ o within. (none o (owner_found o) (there house_found key found_lawful o within)).0) back,
+        inr (refl, long, refl, unserved_back house_found key found_lawful old mid new passes after books on none back),
+      ))
   run_ends workers old mid new passes after books script (Err stop) some on (inl is, none) back = inr (inl (ap Err is), unserved_back house_found key found_lawful old mid new passes after books on none back)
   run_ends workers old mid new passes after books script (Err stop) some on (inr is, none) back = inr (inr (inl (ap Err is)), unserved_back house_found key found_lawful old mid new passes after books on none back)
 

@@ -124,7 +124,8 @@ module _ (loading : Loading) (key : List ℕ) (versions : List ℕ) (counted : l
       record {
         versions = versions;
         found = found_by passes;
-        opened = all_opened loading key versions counted lawful old mid passes on;
+        opened = all_opened loading key versions counted lawful old mid new passes after books on
+            (λ o within. (s.held.owners o (owner_at house o) (there house_found key lawful o within)).0.opened) back;
         first = passes;
         last = after;
         service = s;

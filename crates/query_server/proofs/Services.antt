@@ -74,7 +74,7 @@ module _ (loading : Loading) (key : List ℕ) (lawful : IsLoading loading) (work
 
   owed_to : IsOwed owner (at.found o) (at.over.records o)
   owed_to =
-      let may = subst (λ (found : List Record). MayBeFound owner found) (sym (at.over.begun o)) (histories loading key b at.versions at.found lawful at.opened o owner here) in
+      let may = subst (λ (found : List Record). MayBeFound owner found) (sym (at.over.begun o)) (histories loading key b a at.versions at.found lawful at.opened o owner here) in
       subst (λ (found : List Record). IsOwed owner found (at.over.records o)) (at.over.begun o)
       (together_owed house_found (draws_of key) workers at.service.sittings at.service.lasts at.first at.last at.over.records at.over.closed at.over.fresh at.service.held at.over.closes o owner here
       found_owners may)

@@ -19,6 +19,7 @@ use Rattle.owner_books.proofs.Versions.{lawful_in}
 use Rattle.query_server.specs.Laws.{OneWorkerWritesTheTranscript, OwnersMakeTheHeadline}
 use Rattle.query_server.specs.Promise.{IsAnsweredScript}
 use Rattle.query_server.proofs.Home.{some_of}
+use Rattle.query_server.proofs.Mirrored.{lost_rose}
 
 module _ (words : List (List ℕ)) (reads : ReadsToCome) (old new : Shelf) (script written : List ℕ) (a : IsAnsweredScript words reads old new script written) (home : (o : ℕ) → o < owners_in a.loading → IsSome (old o)) (steady : SomeRose old new → ⊥) where
   -- where no disk failed no book was shut
@@ -27,7 +28,7 @@ module _ (words : List (List ℕ)) (reads : ReadsToCome) (old new : Shelf) (scri
   none_shut o within (Some failure) is =
       let before = some_of (old o) (home o within) in
       let after = a.answered.disks.owned o before.0 within before.1 in
-      absurd (steady (o, before.0, after.0, before.1, after.1, (after.2.failed failure is).0))
+      absurd (steady (o, before.0, after.0, before.1, after.1, lost_rose before.0 after.0 (after.2.failed failure is).0))
 
 pub written_whole : OneWorkerWritesTheTranscript
 written_whole words reads old new script written a one home steady had replies last run nothing =

@@ -41,7 +41,7 @@ counted_text loading found = flat_map (λ numbered. counted_line (entry_at loadi
 abbrev pub IsCountDue : Loading → (key : List ℕ) → (old new : Shelf) → (status : Status) → (text : List ℕ) → Type 0
 IsCountDue loading key old new status text =
     IsRefusalDue loading key old new status text
-    ⊎ ((versions : List ℕ) × (found : Journals) × AreOpened loading key old versions found × (status ≡ Done)
+    ⊎ ((versions : List ℕ) × (found : Journals) × AreOpened loading key old new versions found × (status ≡ Done)
     × (text ≡ counted_text (in_versions loading versions) found)
     × EachDisk (owners_in loading) (λ _. IsOnlySynced) old new)
 

@@ -55,7 +55,7 @@ line_duty its line = record {
 pub record IsRefusalDue (loading : Loading) (key : List ℕ) (old new : Shelf) (status : Status) (text : List ℕ) : Type 0 where
   pub o : ℕ
   pub refusal : JournalRefusal
-  pub at : IsRefusedAt loading key old o refusal
+  pub at : IsRefusedAt loading key old new o refusal
   pub is_status : status ≡ JournalRefused
   pub is_text : text ≡ journal_text (owner_name_at loading o) refusal
   pub disks : EachDisk (owners_in loading) (λ _. IsOnlySynced) old new

@@ -1,6 +1,6 @@
 -- `grant`: the budget of one owner is raised.
 use Rattle.std.specs.Prelude.{◌≡◌, ◌⊎◌, true, false, ℕ, List, length, Result, Ok, Err, IsOk, Some, None, ◌++◌, codes, decimal}
-use Rattle.outside_disks.specs.Disks.{Shown}
+use Rattle.outside_disks.specs.Stored.{Stored}
 use Rattle.journal_records.specs.declared.records.Header.{Header}
 use Rattle.journal_records.specs.declared.records.Record.{Record}
 use Rattle.journal_records.specs.declared.records.Record.TheVariants.{Grant}
@@ -15,7 +15,7 @@ use Rattle.catalog_loading.specs.Steps.{FileStep}
 use Rattle.catalog_loading.specs.Loaded.{KeyedOwner, its_entry, its_header, its_name, with_owner}
 use Rattle.query_server.specs.Work.{Work, to_grant}
 use Rattle.query_server.specs.Duty.{Duty, Kind}
-use Rattle.owner_books.specs.Shelves.{Shelf, NoOtherRose, OneDisk, IsOnlySynced, bytes_on}
+use Rattle.owner_books.specs.Shelves.{Shelf, NoOtherRose, OneDisk, IsOnlySynced}
 use Rattle.owner_books.specs.Opened.{IsOpened, IsUnopened}
 use Rattle.query_server.specs.Run.{WentOn}
 use Rattle.owner_books.specs.Refusals.{disk_text, journal_text}
@@ -57,7 +57,7 @@ verdict_text owner (Err (TooLarge budget amount)) = codes "too large " ++ decima
 verdict_text owner (Err (Full used unsettled capacity)) = codes "full " ++ decimal used ++ codes " " ++ decimal capacity ++ codes "\n"
 
 -- The owner's disk by the verdict: the grant stands behind what was found, or nothing was written.
-abbrev pub WentBy : Entry → Header → (found : List Record) → (amount : ℕ) → Result Left GrantRefusal → (before after : Shown) → Type 0
+abbrev pub WentBy : Entry → Header → (found : List Record) → (amount : ℕ) → Result Left GrantRefusal → (before after : Stored) → Type 0
 WentBy entry header found amount (Ok left) before after = WentOn entry header found (with_grant found amount) None before after
 WentBy entry header found amount (Err refusal) before after = IsOnlySynced before after
 
@@ -65,7 +65,7 @@ WentBy entry header found amount (Err refusal) before after = IsOnlySynced befor
 pub record IsGrantAnswered (one : KeyedOwner) (amount : ℕ) (old new : Shelf) (status : Status) (text : List ℕ) : Type 0 where
   pub version : ℕ
   pub found : List Record
-  pub opened : IsOpened (entry_in one version) (header_in one version) (bytes_on old one.number) found
+  pub opened : IsOpened (entry_in one version) (header_in one version) (old one.number) (new one.number) found
   pub is_status : status ≡ verdict_status (verdict_on one version found amount)
   pub is_text : text ≡ verdict_text (its_name one) (verdict_on one version found amount)
   pub disk : OneDisk one.number (WentBy (entry_in one version) (header_in one version) found amount (verdict_on one version found amount)) old new
@@ -73,7 +73,7 @@ pub record IsGrantAnswered (one : KeyedOwner) (amount : ℕ) (old new : Shelf) (
 -- The owner's journal is refused. Nothing is written.
 pub record IsGrantUnopened (one : KeyedOwner) (old new : Shelf) (status : Status) (text : List ℕ) : Type 0 where
   pub refusal : JournalRefusal
-  pub refused : IsUnopened (its_entry one) (its_header one) (bytes_on old one.number) refusal
+  pub refused : IsUnopened (its_entry one) (its_header one) (old one.number) (new one.number) refusal
   pub is_status : status ≡ code.JournalRefused
   pub is_text : text ≡ journal_text (its_name one) refusal
   pub disk : OneDisk one.number IsOnlySynced old new
@@ -87,7 +87,7 @@ pub record IsGrantUnwritten (one : KeyedOwner) (amount : ℕ) (old new : Shelf) 
   pub version : ℕ
   pub found : List Record
   pub failure : Failure
-  pub opened : IsOpened (entry_in one version) (header_in one version) (bytes_on old one.number) found
+  pub opened : IsOpened (entry_in one version) (header_in one version) (old one.number) (new one.number) found
   pub allowed : IsOk (verdict_on one version found amount)
   pub pending : failure.pending ≡ Grant (grant_behind found amount)
   pub disk : OneDisk one.number (WentOn (entry_in one version) (header_in one version) found found (Some failure)) old new

@@ -1,13 +1,13 @@
 -- `init`: the owners' journals are made.
-use Rattle.std.specs.Prelude.{◌≡◌, ◌⊎◌, true, false, ℕ, ◌<◌, ◌≤◌, List, ◌++◌, length, None, IfSome, codes, decimal}
+use Rattle.std.specs.Prelude.{◌≡◌, ◌⊎◌, true, false, ℕ, ◌<◌, ◌≤◌, List, ◌++◌, None, codes, decimal}
 use Rattle.std.specs.List.{flat_map}
 use Rattle.owner_catalog.specs.Entries.{OwnerEntry}
 use Rattle.catalog_loading.specs.Steps.{FileStep}
 use Rattle.catalog_loading.specs.Loaded.{Loading, new_header, with_house, owner_name_at, owners_in}
 use Rattle.query_server.specs.Work.{Work, to_make}
 use Rattle.query_server.specs.Duty.{Duty, Kind}
-use Rattle.owner_books.specs.Making.{AreMadeBefore, IsMade, IsMakingNamed, MayBeMadeInPart}
-use Rattle.owner_books.specs.Shelves.{Shelf, EachDisk, IsOnlySynced, bytes_on}
+use Rattle.owner_books.specs.Making.{AreMadeBefore, IsMade, IsMakingNamed, IsNotMade, IsThere, MayBeMadeInPart}
+use Rattle.owner_books.specs.Shelves.{Shelf, EachDisk}
 use Rattle.owner_books.specs.Refusals.{journal_text}
 use Rattle.query_server.specs.declared.end.Status.{Status}
 use Rattle.query_server.specs.declared.end.Status.TheVariants.{Done, JournalRefused}
@@ -24,16 +24,16 @@ init_kind catalog key = record { steps = init_steps catalog key; source = false;
 abbrev pub made_line : OwnerEntry → List ℕ
 made_line owner = codes "owner " ++ owner.name ++ codes " budget " ++ decimal owner.budget ++ codes " capacity " ++ decimal owner.capacity ++ codes "\n"
 
--- A journal isn't made where the disk isn't empty: its length is said. Those of the owners before it are made.
+-- A journal isn't made where the disk isn't empty, or one of two: its length is said. Those of the owners before it are made.
 pub record IsExistingDue (loading : Loading) (key : List ℕ) (old new : Shelf) (status : Status) (text : List ℕ) : Type 0 where
   pub o : ℕ
   pub n : ℕ
   pub known : o < owners_in loading
   pub some : 1 ≤ n
-  pub long : IfSome (bytes_on old o) (λ bytes. length bytes ≡ n)
+  pub long : IsThere n (old o)
   pub is_status : status ≡ JournalRefused
   pub is_text : text ≡ journal_text (owner_name_at loading o) (Exists n)
-  pub disks : AreMadeBefore loading key o IsOnlySynced old new
+  pub disks : AreMadeBefore loading key o IsNotMade old new
 
 -- What is due to `init`: a line for each owner, whose journal is made; or the line of the first whose disk isn't empty.
 abbrev pub IsMakingDue : Loading → (key : List ℕ) → (old new : Shelf) → (status : Status) → (text : List ℕ) → Type 0

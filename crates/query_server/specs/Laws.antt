@@ -5,7 +5,7 @@ use Rattle.word_streams.specs.Draws.{draws_of}
 use Rattle.fz_outside.specs.Faults.{HasRisen}
 use Rattle.fz_ast.specs.Signature.{Signature, IsSignature}
 use Rattle.metric_values.specs.Tables.{Dataset, IsDataset}
-use Rattle.outside_disks.specs.Disks.{Shown}
+use Rattle.outside_disks.specs.Stored.{Stored}
 use Rattle.wire_lines.specs.Reply.{Replied, refused as refused_reply, reply_text}
 use Rattle.wire_lines.specs.Refusal.{by_disk}
 use Rattle.wire_lines.specs.declared.refusal.DiskRefusal.{DiskRefusal}
@@ -33,7 +33,7 @@ use Rattle.catalog_loading.specs.Files.{Contents, ReadsToCome, always}
 use Rattle.catalog_loading.specs.Loaded.{IsKeyedOwner, IsLoading, KeyedOwner, Loading, owners_in}
 use Rattle.query_server.specs.Work.{Work, refused, to_answer, to_check, to_compare, to_count, to_grant, to_make, to_serve}
 use Rattle.owner_books.specs.Opened.{house_in}
-use Rattle.owner_books.specs.Shelves.{EachDisk, IsOnlySynced, Shelf, SomeRose}
+use Rattle.owner_books.specs.Shelves.{AreLost, EachDisk, IsOnlySynced, Shelf, SomeRose}
 use Rattle.owner_books.specs.Bays.{DisksFailed}
 use Rattle.query_server.specs.Outside.{NoCallFailed, Outside, Stays}
 use Rattle.query_server.specs.Run.{IsScriptAnswered}
@@ -214,14 +214,14 @@ OwnersMakeTheHeadline = (words : List (List ℕ)) (reads : ReadsToCome) (old new
     → Headline (house_in a.loading a.versions) (draws_of a.key) a.found earlier script a.workers a.answered.crew a.answered.exchanges
     a.answered.records
 
--- A query is refused for its owner's disk (42 or 52) only where the count of faults of that disk rose in the run. Of a line that is told
--- 52 it is its own record that may stand in the journal behind the others.
+-- A query is refused for its owner's disk (42 or 52) only where the count of faults of that disk rose in the run; of two disks where both
+-- counts did, or that of one whose other is empty. Of a line that is told 52 it is its own record that may stand in the journal behind the others.
 abbrev pub DiskRefusalsHaveCauses : Type 0
 DiskRefusalsHaveCauses = (loading : Loading) (key : List ℕ) (workers : ℕ) (old new : Shelf) (found : Journals) (script text : List ℕ) →
     (answered : IsScriptAnswered loading key workers old new found script text) → IsLoading loading →
     (k o : ℕ) (x : Exchange) (owner : Owner) (query : Query) (refusal : DiskRefusal) → o < owners_in loading →
     slice_get answered.exchanges k ≡ Some x → meant_at (house_of loading.register) x.turn ≡ wants o owner (asks query) →
     x.reply ≡ refused_reply (by_disk refusal) →
-    ((before : Shown) → old o ≡ Some before → (after : Shown) × (new o ≡ Some after) × HasRisen before.faults after.faults)
+    ((before : Stored) → old o ≡ Some before → (after : Stored) × (new o ≡ Some after) × AreLost before after)
     × (refusal ≡ DiskFault → (failure : Failure) × (answered.closed o ≡ Some failure)
     × IsPendingOf owner (draws_of key o) query x.told failure.pending)

@@ -2,12 +2,14 @@ pub mod Status
 pub mod Work
 pub mod Outside
 pub mod Duty
+pub mod Mirrors
 pub mod Run
 pub mod Init
 pub mod Audit
 pub mod Check
 pub mod Gap
 pub mod Serve
+pub mod Enough
 pub mod Gen
 pub mod Grant
 pub mod Due

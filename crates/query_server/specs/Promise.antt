@@ -36,7 +36,7 @@ pub record IsAnsweredScript (words : List (List ℕ)) (reads : ReadsToCome) (old
   pub short : length script ≤ script_limit
   pub versions : List ℕ
   pub found : Journals
-  pub opened : AreOpened loading key old versions found
+  pub opened : AreOpened loading key old new versions found
   pub answered : IsScriptAnswered (in_versions loading versions) key workers old new found script written
   pub owed : AreOwed (house_in loading versions) found answered.records
   pub headline : (o : ℕ) (owner : Owner) → slice_get (house_in loading versions).owners o ≡ Some owner

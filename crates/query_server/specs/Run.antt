@@ -3,8 +3,8 @@ use Rattle.std.specs.Prelude.{◌≡◌, ◌⊎◌, true, false, ℕ, ◌^◌, �
 use mathlib.Core.List.{IsPrefix}
 use Rattle.std.specs.List.{flat_map}
 use Rattle.word_streams.specs.Draws.{draws_of}
-use Rattle.fz_outside.specs.Faults.{HasRisen}
-use Rattle.outside_disks.specs.Disks.{Passes, Shown, WhereTold, noted}
+use Rattle.outside_disks.specs.Disks.{Passes, WhereTold, noted}
+use Rattle.outside_disks.specs.Stored.{Stored}
 use Rattle.outside_disks.specs.Disks.Step.{Synced}
 use Rattle.journal_records.specs.declared.records.Header.{Header}
 use Rattle.journal_records.specs.declared.records.Record.{Record}
@@ -23,7 +23,8 @@ use Rattle.catalog_loading.specs.Steps.{FileStep}
 use Rattle.catalog_loading.specs.Loaded.{Loading, header_of, in_versions, with_house, entry_at, owners_in}
 use Rattle.query_server.specs.Work.{Work, to_answer}
 use Rattle.query_server.specs.Duty.{Duty, Kind}
-use Rattle.owner_books.specs.Shelves.{Shelf, EachDisk, IsOnlySynced}
+use Rattle.query_server.specs.Mirrors.{TwinsWentOn}
+use Rattle.owner_books.specs.Shelves.{Shelf, AreLost, EachDisk, IsOnlySynced}
 use Rattle.owner_books.specs.Opened.{AreOpened, IsDiskNamed}
 use Rattle.query_server.specs.Duty.{IsRefusalDue}
 use Rattle.query_server.specs.Status.{too_long_text}
@@ -44,15 +45,17 @@ run_kind catalog key workers = record { steps = run_steps catalog key workers; s
 -- An owner's disk through a run. Each file that a stop may have left since its journal was opened, which synced the disk, stands
 -- for the first of these records, among them those found; where an append failed, it may have that one's record too. What a stop
 -- leaves now stands for all of them. The disk's count of faults rose where an append failed, of a record that may follow them, and
--- else it stands still.
-pub record WentOn (entry : Entry) (header : Header) (found records : List Record) (closed : Option Failure) (before after : Shown) : Type 0 where
+-- else it stands still. Two disks say this each for itself: an append failed where it failed on
+-- all that were in use, so that both counts rose, or that of one whose other is empty.
+pub record WentOn (entry : Entry) (header : Header) (found records : List Record) (closed : Option Failure) (before after : Stored) : Type 0 where
   pub begins : IsPrefix found records
   pub moments : WhereTold (Passes (IsMoment header found records closed)) (noted Synced before.trace) after.trace
   pub kept : IfSome after.trace (IsKeptNow header records closed)
   pub counts : before.faults ≤ after.faults
   pub steady : closed ≡ None → after.faults ≡ before.faults
-  pub failed : (failure : Failure) → closed ≡ Some failure → HasRisen before.faults after.faults × (failure.failed_at ≡ after.faults)
+  pub failed : (failure : Failure) → closed ≡ Some failure → AreLost before after × (before.twins ≡ None → failure.failed_at ≡ after.faults)
   pub follows : (failure : Failure) → closed ≡ Some failure → MayFollow entry records failure.pending
+  pub twins : TwinsWentOn header found records closed before.twins after.twins
 
 -- A script was answered by so many workers, each at the places of its own blocks and in any order, where these records were found. The replies
 -- are the text; an owner's disk has its records and, by the replies, failed or didn't.
@@ -83,7 +86,7 @@ IsAnswerDue loading key workers old new found script status text =
 abbrev pub IsScriptDue : Loading → (key : List ℕ) → (workers : ℕ) → (old new : Shelf) → (script : List ℕ) → (status : Status) → (text : List ℕ) → Type 0
 IsScriptDue loading key workers old new script status text =
     IsRefusalDue loading key old new status text
-    ⊎ ((versions : List ℕ) × (found : Journals) × AreOpened loading key old versions found
+    ⊎ ((versions : List ℕ) × (found : Journals) × AreOpened loading key old new versions found
     × IsAnswerDue (in_versions loading versions) key workers old new found script status text)
 
 abbrev pub run_duty : Loading → (key : List ℕ) → (workers : ℕ) → Duty

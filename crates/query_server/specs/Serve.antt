@@ -63,14 +63,14 @@ pub record WereHeld (loading : Loading) (key : List ℕ) (workers : ℕ) (old ne
 abbrev pub IsServiceDue : Loading → (key : List ℕ) → (workers : ℕ) → (old new : Shelf) → (status : Status) → (text : List ℕ) → Type 0
 IsServiceDue loading key workers old new status text =
     IsRefusalDue loading key old new status text
-    ⊎ ((versions : List ℕ) × (found : Journals) × AreOpened loading key old versions found × (status ≡ Done) × (text ≡ [])
+    ⊎ ((versions : List ℕ) × (found : Journals) × AreOpened loading key old new versions found × (status ≡ Done) × (text ≡ [])
     × WereHeld (in_versions loading versions) key workers old new found)
 
 -- What may become of the disks where a failure or want of memory ends a service: nothing is written to any, or sessions were held before.
 abbrev pub MayStopService : Loading → (key : List ℕ) → (workers : ℕ) → (old new : Shelf) → Type 0
 MayStopService loading key workers old new =
     EachDisk (owners_in loading) (λ _. IsOnlySynced) old new
-    ⊎ ((versions : List ℕ) × (found : Journals) × AreOpened loading key old versions found × WereHeld (in_versions loading versions) key workers old new found)
+    ⊎ ((versions : List ℕ) × (found : Journals) × AreOpened loading key old new versions found × WereHeld (in_versions loading versions) key workers old new found)
 
 abbrev pub serve_duty : Loading → (key : List ℕ) → (workers each : ℕ) → Duty
 serve_duty loading key workers each = record {

@@ -46,7 +46,7 @@ pub record IsServiceOver (loading : Loading) (key : List ℕ) (workers each : �
     Type 0 where
   pub versions : List ℕ
   pub found : Journals
-  pub opened : AreOpened loading key old versions found
+  pub opened : AreOpened loading key old new versions found
   pub first : List Pass
   pub last : List Pass
   pub service : IsService (house_in loading versions) (draws_of key) workers each end before after first last

@@ -1,27 +1,62 @@
 -- What some work takes where nothing is in the way, and how it ends then.
-use Rattle.std.specs.Prelude.{◌≡◌, ◌⊎◌, ℕ, ◌<◌, List, [], Some, IsSome, ⊤}
+use Rattle.std.specs.Prelude.{◌≡◌, ◌⊎◌, ℕ, ◌<◌, List, [], Option, Some, None, ⊤}
+use mathlib.Core.List.{IsPrefix}
+use Rattle.outside_disks.specs.Disks.{seen_of}
+use Rattle.outside_disks.specs.Stored.{Twins}
+use Rattle.journal_records.specs.declared.records.Header.{Header}
 use Rattle.journal_records.specs.declared.records.Record.{Record}
-use Rattle.generated_run.specs.SessionCore.Transcript.{Journals}
-use Rattle.catalog_loading.specs.Loaded.{KeyedOwner, Loading, owners_in}
+use Rattle.budget_journal.specs.Journals.{Stands, TellsSome}
+use Rattle.budget_core.specs.Entries.{Entry}
+use Rattle.budget_core.specs.Legal.{IsHistory}
+use Rattle.budget_ledger.specs.Both.{AgreeOnCost, Tells}
+use Rattle.catalog_loading.specs.Loaded.{KeyedOwner, Loading, its_entry, its_header, new_entry, new_header, owners_in}
 use Rattle.query_server.specs.Work.{Work, usage, refused, to_answer, to_make, to_count, to_grant, to_check, to_compare, to_serve, to_generate}
-use Rattle.owner_books.specs.Shelves.{Shelf, TellBytes, bytes_on}
-use Rattle.query_server.specs.Grant.{entry_in, header_in}
-use Rattle.owner_books.specs.Opened.{AreOpened, IsOpened}
+use Rattle.owner_books.specs.Shelves.{Shelf, both_on, bytes_on}
 use Rattle.query_server.specs.declared.end.Status.{Status}
 use Rattle.query_server.specs.declared.end.Status.TheVariants.{Done, ProgramRefused, NoMemory, ScriptTooLong, TooLarge, JournalFull}
 
+-- A disk is empty, or each of two is, and they tell it.
+abbrev pub IsEmpty : (bytes : Option (List ℕ)) → Option Twins → Type 0
+IsEmpty bytes None = bytes ≡ Some []
+IsEmpty bytes (Some twins) = TellsSome (λ t. seen_of t ≡ []) twins.first.trace × TellsSome (λ t. seen_of t ≡ []) twins.second.trace
+
 -- The first owners' disks are empty.
 abbrev pub AreEmpty : (owners : ℕ) → Shelf → Type 0
-AreEmpty owners shelf = (o : ℕ) → o < owners → bytes_on shelf o ≡ Some []
+AreEmpty owners shelf = (o : ℕ) → o < owners → IsEmpty (bytes_on shelf o) (both_on shelf o)
+
+-- Bytes are a journal of records that may follow one another, in some version of this header.
+pub record HoldsRecords (entry : Entry) (header : Header) (bytes : List ℕ) : Type 0 where
+  pub version : ℕ
+  pub found : List Record
+  pub stands : Stands (record header { version = version }) found bytes
+  pub history : IsHistory (record entry { version = version }) found
+
+-- Two disks tell journals in such versions, of which one begins the other, and the records of that one may follow one another.
+pub record HoldTheSame (entry : Entry) (header : Header) (twins : Twins) : Type 0 where
+  pub version : ℕ
+  pub other : ℕ
+  pub records : List Record
+  pub others : List Record
+  pub first : Tells header version records twins.first
+  pub second : Tells header other others twins.second
+  pub agree : AgreeOnCost version other
+  pub longer : (IsPrefix others records × IsHistory (record entry { version = version }) records)
+      ⊎ (IsPrefix records others × IsHistory (record entry { version = other }) others)
+
+-- one disk tells such a journal, or two do
+abbrev pub TellsRecords : Entry → Header → (bytes : Option (List ℕ)) → Option Twins → Type 0
+TellsRecords entry header None None = ⊥
+TellsRecords entry header (Some bytes) None = HoldsRecords entry header bytes
+TellsRecords entry header bytes (Some twins) = HoldTheSame entry header twins
 
 -- The owners' disks tell journals of records that may follow one another, under the headers of this house and this key.
 abbrev pub HoldJournals : Loading → (key : List ℕ) → Shelf → Type 0
-HoldJournals loading key shelf = TellBytes (owners_in loading) shelf × ((versions : List ℕ) × (found : Journals) × AreOpened loading key shelf versions found)
+HoldJournals loading key shelf = (o : ℕ) → o < owners_in loading
+    → TellsRecords (new_entry loading o) (new_header loading key o) (bytes_on shelf o) (both_on shelf o)
 
 -- One owner's disk tells a journal of records that may follow one another, under the owner's header.
 abbrev pub HoldsJournal : KeyedOwner → Shelf → Type 0
-HoldsJournal one shelf = IsSome (bytes_on shelf one.number)
-    × ((version : ℕ) × (found : List Record) × IsOpened (entry_in one version) (header_in one version) (bytes_on shelf one.number) found)
+HoldsJournal one shelf = TellsRecords (its_entry one) (its_header one) (bytes_on shelf one.number) (both_on shelf one.number)
 
 -- All that is taken is valid. The words are a command and no name is refused, or else there would be no such work: each file that
 -- is named is there, not too long and within its definition, and so is each that a catalog names; an owner that is named is known,

@@ -5,7 +5,7 @@ ghost use Rattle.journal_records.specs.declared.records.Record.{Record};
 ghost use Rattle.owner_catalog.specs.Entries.{owner_entry_at};
 ghost use Rattle.catalog_loading.specs.Loaded.{entry_in, header_in, in_versions, new_header, owners_in};
 ghost use Rattle.generated_run.specs.SessionCore.Transcript.{Journals};
-ghost use Rattle.owner_books.specs.Shelves.{AreAtHome, EachDisk, IsOnlySynced, StandsStill, bytes_on};
+ghost use Rattle.owner_books.specs.Shelves.{AreAtHome, EachDisk, IsOnlySynced, StandsStill};
 ghost use Rattle.owner_books.specs.Bays.{HasDiskCause, KeepsBay};
 ghost use Rattle.owner_books.specs.Opened.{AreOpened, IsOpened};
 ghost use Rattle.query_server.specs.Audit.{counted_line, counted_text};
@@ -61,18 +61,18 @@ fn count_owner<B: Bay>(
     requires home { IsSome (B.shelf bay.old owner) }
     ensures counted { OnOk result ((version : ℕ) × (found : List Record)
         × IsOpened (entry_in opened.now.loading owner version) (header_in opened.now.loading opened.now.key owner version)
-        (bytes_on (B.shelf bay.old) owner) found
+        (B.shelf bay.old owner) (B.shelf bay.new owner) found
         × (lines.new.items ≡ lines.old.items ++ counted_line (entry_in opened.now.loading owner version)
         (owner_entry_at opened.now.loading.register.catalog owner) found)) }
     ensures left { LeftDisk owner (B.shelf bay.old) (B.shelf bay.new) }
     ensures still { OnOk result (StandsStill owner (B.shelf bay.old) (B.shelf bay.new)) }
-    ensures stop { IfErr result (IsBookStop opened.now.loading opened.now.key (B.shelf bay.old) owner) }
+    ensures stop { IfErr result (IsBookStop opened.now.loading opened.now.key (B.shelf bay.old) (B.shelf bay.new) owner) }
     ensures bay { KeepsBay B.shelf B.owners B.faults bay.old bay.new }
     ensures cause { HasDiskCause B.shelf B.owners B.faults bay.old bay.new result }
 {
     let book = open_book(alloc, bay, opened, header, owner)?;
     let counted = put_counted(lines, opened.catalog(), owner, &book);
-    bay.put_back(owner, book.into_disk());
+    bay.put_back(owner, book.into_disks());
     counted?;
     Ok(())
 }
@@ -81,7 +81,7 @@ fn count_owner<B: Bay>(
 fn count_all<B: Bay>(alloc: Global, bay: &mut B, opened: &OpenedTables) -> Result<Vec<u8>, Stop>
     requires home { AreAtHome (B.owners bay.old) (B.shelf bay.old) }
     ensures counted { IfOk result (λ lines. (versions : List ℕ) × (found : Journals)
-        × AreOpened opened.now.loading opened.now.key (B.shelf bay.old) versions found
+        × AreOpened opened.now.loading opened.now.key (B.shelf bay.old) (B.shelf bay.new) versions found
         × (lines.items ≡ counted_text (in_versions opened.now.loading versions) found)) }
     ensures disks { EachDisk (owners_in opened.now.loading) (λ _. IsOnlySynced) (B.shelf bay.old) (B.shelf bay.new) }
     ensures stop { IfErr result (IsOpenStop opened.now.loading opened.now.key (B.shelf bay.old) (B.shelf bay.new)) }

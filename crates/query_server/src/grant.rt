@@ -92,7 +92,7 @@ fn grant<B: Bay>(alloc: Global, bay: &mut B, opened: &OpenedOwner, amount: u64) 
     let owner = opened.number();
     let mut book = open_on(alloc, bay, opened.name(), entry, &header, owner)?;
     let end = grant_over(alloc, &mut book, opened.name(), amount);
-    bay.put_back(owner, book.into_disk());
+    bay.put_back(owner, book.into_disks());
     end
 }
 

@@ -1,5 +1,6 @@
 //! What is proved of the definitions.
 
+ghost use Rattle.query_server.specs.Enough.{ASoundDiskIsEnough, ASoundDiskIsEnoughToServe};
 ghost use Rattle.query_server.specs.Gap.{GapsAreBounded};
 ghost use Rattle.query_server.specs.Laws.{DiskRefusalsHaveCauses, GapsAreOfDatasets, OneWorkerTranscribes, OutsideStays, RunsAreAnswered};
 ghost use Rattle.query_server.specs.Laws.{LinesAreExact, ProgramsAreExact, RefusalsAreExact, VerdictsAreExact};
@@ -98,8 +99,16 @@ pub fn gaps_are_of_datasets()
     ensures { GapsAreOfDatasets }
 {}
 
-/// A query is refused for its owner's disk only where the count of faults of that disk rose in the run; and of a line that is told
-/// 52 it is its own record that may stand in the journal.
+/// A query is refused for its owner's disk only where the count of faults of that disk rose in the run, or of two disks both, or that of one whose
+/// other is empty; and of a line that is told 52 it is its own record that may stand in the journal.
 pub fn disk_refusals_have_causes()
     ensures { DiskRefusalsHaveCauses }
+{}
+
+/// Where the count of one of an owner's two disks stood still below its last value, and it wasn't empty as its journal was opened, no ask of
+/// that owner is refused for its disks: each file that a stop may have left of it stands for some first ones of the owner's records, with
+/// those that it had, and now for all. What the other disk's files stand for begins the same records.
+pub fn a_sound_disk_is_enough()
+    ensures scripts { ASoundDiskIsEnough }
+    ensures services { ASoundDiskIsEnoughToServe }
 {}

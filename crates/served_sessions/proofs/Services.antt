@@ -3,7 +3,8 @@ use Rattle.std.proofs.Common.{◌≡◌, ℕ, ◌<◌, Bool, List, slice_get, So
 use Rattle.std.specs.Prelude.{IfSome}
 use Rattle.word_streams.specs.Draws.{draws_of}
 use Rattle.fz_outside.specs.Faults.{HasRisen}
-use Rattle.outside_disks.specs.Disks.{Leaves, Passes, Shown, WhereTold, noted}
+use Rattle.outside_disks.specs.Disks.{Leaves, Passes, WhereTold, noted}
+use Rattle.outside_disks.specs.Stored.{Stored}
 use Rattle.outside_disks.specs.Disks.Step.{Synced}
 use Rattle.journal_records.specs.declared.records.Record.{Record}
 use Rattle.budget_ledger.specs.declared.failure.Failure.{Failure}
@@ -51,7 +52,7 @@ module _ (loading : Loading) (key : List ℕ) (workers : ℕ) (old new : Shelf) 
     pub speaker : (place : ℕ) (x : Exchange) → slice_get were.held.exchanges place ≡ Some x → IsAnalyst house x.turn.who
     speaker = crew_speaker house (draws_of key) o (found o) workers were.held.crew were.sittings were.held.exchanges (were.over.records o) were.held.crews shifts
 
-    module _ (before after : Shown) (was : old o ≡ Some before) (is : new o ≡ Some after) where
+    module _ (before after : Stored) (was : old o ≡ Some before) (is : new o ≡ Some after) where
       pub disk : WentOn owner.entry (header_of loading key o) (found o) (were.over.records o) (were.over.closed o) before after
       disk = its_disk loading key old new found were.over.records were.over.closed lawful were.over.disks o owner before after at was is
 

@@ -1,7 +1,8 @@
 -- what files hold of all that was told
 use Rattle.std.proofs.Common.{◌≡◌, ℕ, Bool, List, Option, slice_get, Some, refl, subst}
 use Rattle.std.specs.Prelude.{ℤ, IfSome}
-use Rattle.outside_disks.specs.Disks.{Leaves, Shown}
+use Rattle.outside_disks.specs.Disks.{Leaves}
+use Rattle.outside_disks.specs.Stored.{Stored}
 use Rattle.journal_records.specs.declared.records.Header.{Header}
 use Rattle.journal_records.specs.declared.records.Outcome.TheVariants.{Answered}
 use Rattle.journal_records.specs.declared.records.Record.{Record}
@@ -62,7 +63,7 @@ module _ (house : House) (draws : ℕ → ℕ → ℕ → ℕ) (count : ℕ) (cr
       by_run bytes its.0 its.1 its.2 (gone_on house draws o owner found earlier (run_with all_sent its.0) at inside f its.2 its.0 its.2.leaves)
 
   -- Each file that a stop leaves holds all that was told.
-  pub lines_held : (before after : Shown) → ((place : ℕ) (x : Exchange) → slice_get xs place ≡ Some x → IsAnalyst house x.turn.who) → AreGathered house draws count crew o found xs records
+  pub lines_held : (before after : Stored) → ((place : ℕ) (x : Exchange) → slice_get xs place ≡ Some x → IsAnalyst house x.turn.who) → AreGathered house draws count crew o found xs records
       → AreShut house draws count crew o xs closed → WentOn owner.entry header found records closed before after → IfSome after.trace (Leaves Holds)
   lines_held before after speaks all shut went =
       leaves_weaker Left Holds holds after.trace (lines_are_runs house draws count crew o owner found xs records closed header before after speaks all shut went).1

@@ -3,7 +3,8 @@
 ghost use Rattle.std.specs.Prelude.{◌≡◌, ℕ, ℤ, ◌<◌, ◌≤◌, true, Bool, List, [], ◌∷◌, ◌++◌, length, take, slice_get, Option, Some, IfSome};
 ghost use mathlib.Core.List.{IsPrefix};
 ghost use Rattle.word_streams.specs.Draws.{draws_of};
-ghost use Rattle.outside_disks.specs.Disks.{Leaves, Passes, Shown, WhereTold, noted};
+ghost use Rattle.outside_disks.specs.Disks.{Leaves, Passes, WhereTold, noted};
+ghost use Rattle.outside_disks.specs.Stored.{Stored};
 ghost use Rattle.outside_disks.specs.Disks.Step.{Synced};
 ghost use Rattle.journal_records.specs.declared.records.Header.{Header};
 ghost use Rattle.journal_records.specs.declared.records.Record.{Record};
@@ -105,14 +106,14 @@ pub fn served_runs_keep_the_promise()
 /// is its own record that may stand in the journal behind the others.
 pub fn services_are_runs()
     ensures runs { (loading : Loading) (key : List ℕ) (workers : ℕ) (old new : Shelf) (found : Journals) → IsLoading loading →
-        (were : WereHeld loading key workers old new found) → (o : ℕ) (owner : Owner) (before after : Shown) →
+        (were : WereHeld loading key workers old new found) → (o : ℕ) (owner : Owner) (before after : Stored) →
         slice_get (house_of loading.register).owners o ≡ Some owner → old o ≡ Some before → new o ≡ Some after →
         WhereTold (Passes (λ bytes. IsLeftOfService loading key workers old new found were o owner none_sent bytes))
         (noted Synced before.trace) after.trace
         × IfSome after.trace (Leaves (λ bytes. (sent : ℕ → Bool) → IsLeftOfService loading key workers old new found were o owner sent bytes)) }
     ensures go_on { (loading : Loading) (key : List ℕ) (workers : ℕ) (old new : Shelf) (found : Journals) (earlier : Programs) → IsLoading loading →
         AreFound (house_of loading.register) (draws_of key) earlier found → WereHeld loading key workers old new found →
-        (o : ℕ) (owner : Owner) (before after : Shown) → slice_get (house_of loading.register).owners o ≡ Some owner →
+        (o : ℕ) (owner : Owner) (before after : Stored) → slice_get (house_of loading.register).owners o ≡ Some owner →
         old o ≡ Some before → new o ≡ Some after →
         WhereTold (Passes (λ bytes. MayBeGoneOnFrom owner (draws_of key o) (header_of loading key o) (earlier o) bytes)) (noted Synced before.trace) after.trace
         × IfSome after.trace (Leaves (λ bytes. MayBeGoneOnFrom owner (draws_of key o) (header_of loading key o) (earlier o) bytes)) }
@@ -129,14 +130,14 @@ pub fn services_are_runs()
 /// them those that fail from some moment on, which is what a stop is. So it is of all answers that were sent before a stop.
 pub fn answers_stand_in_every_image()
     ensures services { (loading : Loading) (key : List ℕ) (workers : ℕ) (old new : Shelf) (found : Journals) → IsLoading loading →
-        (were : WereHeld loading key workers old new found) → (o : ℕ) (owner : Owner) (earlier : List (List ℕ)) (before after : Shown) →
+        (were : WereHeld loading key workers old new found) → (o : ℕ) (owner : Owner) (earlier : List (List ℕ)) (before after : Stored) →
         slice_get (house_of loading.register).owners o ≡ Some owner → IsFound owner (draws_of key o) earlier (found o) →
         old o ≡ Some before → new o ≡ Some after →
         IfSome after.trace (Leaves (HoldsAllTold (house_of loading.register) (draws_of key o) o owner (header_of loading key o) earlier
         were.held.exchanges)) }
     ensures scripts { (loading : Loading) (key : List ℕ) (workers : ℕ) (old new : Shelf) (found : Journals) (script text : List ℕ) →
         IsLoading loading → (done : IsScriptAnswered loading key workers old new found script text) →
-        (o : ℕ) (owner : Owner) (earlier : List (List ℕ)) (before after : Shown) →
+        (o : ℕ) (owner : Owner) (earlier : List (List ℕ)) (before after : Stored) →
         slice_get (house_of loading.register).owners o ≡ Some owner → IsFound owner (draws_of key o) earlier (found o) →
         old o ≡ Some before → new o ≡ Some after →
         IfSome after.trace (Leaves (HoldsAllTold (house_of loading.register) (draws_of key o) o owner (header_of loading key o) earlier

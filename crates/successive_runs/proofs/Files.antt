@@ -5,7 +5,8 @@ use Rattle.std.proofs.lemmas.Option.{slice_get_within}
 use mathlib.Core.Logic.{◌⊎◌, inl, inr}
 use mathlib.Core.List.{IsPrefix}
 use Rattle.word_streams.specs.Draws.{draws_of}
-use Rattle.outside_disks.specs.Disks.{Trace, Shown, Leaves, Passes, WhereTold, noted}
+use Rattle.outside_disks.specs.Disks.{Trace, Leaves, Passes, WhereTold, noted}
+use Rattle.outside_disks.specs.Stored.{Stored}
 use Rattle.outside_disks.specs.Disks.Step.{Synced}
 use Rattle.journal_records.specs.declared.records.Header.{Header}
 use Rattle.journal_records.specs.declared.records.Record.{Record}
@@ -86,7 +87,7 @@ kept_has_all header found records (Some failure) begins (Some t) kept = λ bytes
 -- ---- lines that were answered over an owner's disk, as a run
 
 module _ (house : House) (draws : ℕ → ℕ → ℕ → ℕ) (count : ℕ) (crew : ℕ → ℕ) (o : ℕ) (owner : Owner) (found : List Record) (xs : List Exchange) (records : List Record) (closed : Option Failure) (header : Header)
-    (before after : Shown) (speaks : (place : ℕ) (x : Exchange) → slice_get xs place ≡ Some x → IsAnalyst house x.turn.who) (all : AreGathered house draws count crew o found xs records)
+    (before after : Stored) (speaks : (place : ℕ) (x : Exchange) → slice_get xs place ≡ Some x → IsAnalyst house x.turn.who) (all : AreGathered house draws count crew o found xs records)
     (shut : AreShut house draws count crew o xs closed) (went : WentOn owner.entry header found records closed before after) where
   abbrev the_run : (sent : ℕ → Bool) (left : List Record) → Run
   the_run sent left = record { count = count; crew = crew; exchanges = xs; records = records; closed = closed; sent = sent; left = left }
@@ -133,7 +134,7 @@ module _ (house : House) (draws : ℕ → ℕ → ℕ → ℕ) (count : ℕ) (cr
 -- An owner's disk is as it was shown, and its entry is the owner's.
 pub its_disk : (loading : Loading) (key : List ℕ) (old new : Shelf) (found records : Journals) (closed : ℕ → Option Failure) → IsLoading loading
     → EachDisk (owners_in loading) (λ o. WentOn (entry_at loading o) (header_of loading key o) (found o) (records o) (closed o)) old new
-    → (o : ℕ) (owner : Owner) (before after : Shown) → slice_get (house_of loading.register).owners o ≡ Some owner → old o ≡ Some before → new o ≡ Some after
+    → (o : ℕ) (owner : Owner) (before after : Stored) → slice_get (house_of loading.register).owners o ≡ Some owner → old o ≡ Some before → new o ≡ Some after
     → WentOn owner.entry (header_of loading key o) (found o) (records o) (closed o) before after
 its_disk loading key old new found records closed lawful disks o owner before after at was is =
     let within = in_catalog loading.register lawful.register o (slice_get_within (house_of loading.register).owners o owner at) in
@@ -141,12 +142,12 @@ its_disk loading key old new found records closed lawful disks o owner before af
     let both : Some w.0 ≡ Some after = sym w.1 ∙ is in
     let same : w.0 ≡ after = cc (both) in
     subst (λ (e : Entry). WentOn e (header_of loading key o) (found o) (records o) (closed o) before after) (entry_said loading.register o owner newest_version at)
-    (subst (λ (s : Shown). WentOn (entry_at loading o) (header_of loading key o) (found o) (records o) (closed o) before s) same w.2)
+    (subst (λ (s : Stored). WentOn (entry_at loading o) (header_of loading key o) (found o) (records o) (closed o) before s) same w.2)
 
 -- ---- an answered script
 
 module _ (loading : Loading) (key : List ℕ) (workers : ℕ) (old new : Shelf) (found : Journals) (script text : List ℕ) (lawful : IsLoading loading)
-    (done : IsScriptAnswered loading key workers old new found script text) (o : ℕ) (owner : Owner) (before after : Shown)
+    (done : IsScriptAnswered loading key workers old new found script text) (o : ℕ) (owner : Owner) (before after : Stored)
     (at : slice_get (house_of loading.register).owners o ≡ Some owner) (was : old o ≡ Some before) (is : new o ≡ Some after) where
   abbrev script_house : House
   script_house = house_of loading.register

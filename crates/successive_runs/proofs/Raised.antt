@@ -2,7 +2,8 @@
 use Rattle.std.proofs.Common.{◌≡◌, ℕ, List, [], ◌∷◌, ◌++◌, Option, Some, None, refl, sym, ◌∙◌, ap, subst}
 use Rattle.std.specs.Prelude.{Result, Ok, Err, IsOk, IfSome}
 use mathlib.Core.Logic.{◌⊎◌, inl, inr}
-use Rattle.outside_disks.specs.Disks.{Shown, Leaves, Passes, WhereTold, noted}
+use Rattle.outside_disks.specs.Disks.{Leaves, Passes, WhereTold, noted}
+use Rattle.outside_disks.specs.Stored.{Stored}
 use Rattle.outside_disks.specs.Disks.Step.{Synced}
 use Rattle.journal_records.specs.declared.records.Header.{Header}
 use Rattle.journal_records.specs.declared.records.Record.{Record}
@@ -46,7 +47,7 @@ module _ (entry : Entry) (header : Header) (found : List Record) (amount : ℕ) 
       raised left (inr (is ∙ ap (λ (f : Failure). found ++ f.pending ∷ []) (sym one) ∙ ap (λ (r : Record). found ++ r ∷ []) which))
 
   -- a disk that went on to such records
-  on_disk : (records : List Record) (closed : Option Failure) (before after : Shown) → ((left : List Record) → IsLeft found records closed left → IsRaised left)
+  on_disk : (records : List Record) (closed : Option Failure) (before after : Stored) → ((left : List Record) → IsLeft found records closed left → IsRaised left)
       → WentOn entry header found records closed before after
       → WhereTold (Passes (IsRaisedFrom entry header found amount)) (noted Synced before.trace) after.trace × IfSome after.trace (Leaves (IsRaisedFrom entry header found amount))
   on_disk records closed before after leaves went = (
@@ -56,7 +57,7 @@ module _ (entry : Entry) (header : Header) (found : List Record) (amount : ℕ) 
         (kept_has_all header found records closed went.begins after.trace went.kept),
   )
 
-went_to : (o : ℕ) (Goes : Shown → Shown → Type 0) (old new : Shelf) (before after : Shown) → OneDisk o Goes old new → old o ≡ Some before → new o ≡ Some after → Goes before after
+went_to : (o : ℕ) (Goes : Stored → Stored → Type 0) (old new : Shelf) (before after : Stored) → OneDisk o Goes old new → old o ≡ Some before → new o ≡ Some after → Goes before after
 went_to o Goes old new before after disk was is =
     let w = disk.here before was in
     let both : Some w.0 ≡ Some after = sym w.1 ∙ is in

@@ -1,6 +1,7 @@
 -- What a grant leaves of the owner's journal.
 use Rattle.std.specs.Prelude.{◌≡◌, ◌⊎◌, ℕ, List, [], ◌∷◌, Some, IfSome}
-use Rattle.outside_disks.specs.Disks.{Shown, Leaves, Passes, WhereTold, noted}
+use Rattle.outside_disks.specs.Disks.{Leaves, Passes, WhereTold, noted}
+use Rattle.outside_disks.specs.Stored.{Stored}
 use Rattle.outside_disks.specs.Disks.Step.{Synced}
 use Rattle.journal_records.specs.declared.records.Header.{Header}
 use Rattle.journal_records.specs.declared.records.Record.{Record}
@@ -18,6 +19,6 @@ IsRaisedFrom entry header found amount bytes =
 
 -- So does each file that a stop may have left since the owner's journal was opened with these records, and each that a stop leaves now.
 abbrev pub LeavesRaised : KeyedOwner → (version : ℕ) → (found : List Record) → (amount : ℕ) → (old new : Shelf) → Type 0
-LeavesRaised one version found amount old new = (before after : Shown) → old one.number ≡ Some before → new one.number ≡ Some after →
+LeavesRaised one version found amount old new = (before after : Stored) → old one.number ≡ Some before → new one.number ≡ Some after →
     WhereTold (Passes (IsRaisedFrom (entry_in one version) (header_in one version) found amount)) (noted Synced before.trace) after.trace
     × IfSome after.trace (Leaves (IsRaisedFrom (entry_in one version) (header_in one version) found amount))

@@ -2,7 +2,8 @@
 
 ghost use Rattle.std.specs.Prelude.{◌≡◌, ℕ, Bool, List, [], Ok, Option, Some, IfSome, IsOk, slice_get};
 ghost use mathlib.Core.List.{IsPrefix};
-ghost use Rattle.outside_disks.specs.Disks.{Leaves, Passes, Shown, WhereTold, noted};
+ghost use Rattle.outside_disks.specs.Disks.{Leaves, Passes, WhereTold, noted};
+ghost use Rattle.outside_disks.specs.Stored.{Stored};
 ghost use Rattle.outside_disks.specs.Disks.Step.{Synced};
 ghost use Rattle.journal_records.specs.declared.records.Header.{Header};
 ghost use Rattle.journal_records.specs.declared.records.Record.{Record};
@@ -90,7 +91,7 @@ pub fn lines_are_told_their_own_numbers()
 /// run leaves, and each that a stop leaves now for such as it leaves whichever replies were sent by then.
 pub fn answered_scripts_are_runs()
     ensures { (loading : Loading) (key : List ℕ) (workers : ℕ) (old new : Shelf) (found : Journals) (script text : List ℕ) → IsLoading loading →
-        (done : IsScriptAnswered loading key workers old new found script text) → (o : ℕ) (owner : Owner) (before after : Shown) →
+        (done : IsScriptAnswered loading key workers old new found script text) → (o : ℕ) (owner : Owner) (before after : Stored) →
         slice_get (house_of loading.register).owners o ≡ Some owner → old o ≡ Some before → new o ≡ Some after →
         WhereTold (Passes (λ bytes. IsLeftOf loading key workers old new found script text done o owner none_sent bytes))
         (noted Synced before.trace) after.trace
@@ -102,7 +103,7 @@ pub fn answered_scripts_are_runs()
 pub fn answered_scripts_leave_what_may_be_found()
     ensures { (loading : Loading) (key : List ℕ) (workers : ℕ) (old new : Shelf) (found : Journals) (script text : List ℕ) (earlier : Programs) →
         IsLoading loading → AreFound (house_of loading.register) (draws_of key) earlier found →
-        IsScriptAnswered loading key workers old new found script text → (o : ℕ) (owner : Owner) (before after : Shown) →
+        IsScriptAnswered loading key workers old new found script text → (o : ℕ) (owner : Owner) (before after : Stored) →
         slice_get (house_of loading.register).owners o ≡ Some owner → old o ≡ Some before → new o ≡ Some after →
         WhereTold (Passes (λ bytes. MayBeGoneOnFrom owner (draws_of key o) (header_of loading key o) (earlier o) bytes)) (noted Synced before.trace) after.trace
         × IfSome after.trace (Leaves (λ bytes. MayBeGoneOnFrom owner (draws_of key o) (header_of loading key o) (earlier o) bytes)) }

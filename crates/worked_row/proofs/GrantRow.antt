@@ -4,7 +4,8 @@ use Rattle.std.specs.Prelude.{IfSome, Ok, Result, option_and_then, option_map}
 use Rattle.std.specs.Fmt.{digits}
 use Rattle.std.specs.Io.KnownBytes.{append_known}
 use mathlib.Core.Logic.{inl, inr}
-use Rattle.outside_disks.specs.Disks.{Shown, Trace, seen_of}
+use Rattle.outside_disks.specs.Disks.{Trace, seen_of}
+use Rattle.outside_disks.specs.Stored.{Stored, Twins}
 use Rattle.partition_charge.specs.Cost.{cost_of_charges, partition_cost}
 use Rattle.journal_records.specs.declared.records.Record.{Record}
 use Rattle.budget_journal.specs.Journals.{Stands, IsAtRest}
@@ -21,15 +22,15 @@ use Rattle.catalog_loading.specs.Steps.{StepOutcome, done, from, ◌>>=◌}
 use Rattle.catalog_loading.specs.Loaded.{catalog_read, its_entry, its_header, its_name, key_read, number_named, owner_read}
 use Rattle.query_server.specs.Due.{IfFinished, IsWrittenAt, command_steps, work_of}
 use Rattle.query_server.specs.Grant.{IsGrantDue, WentBy, entry_in, grant_steps, header_in, verdict_on, verdict_status, verdict_text}
-use Rattle.query_server.specs.Opened.{IsOpened, IsUnopened}
-use Rattle.query_server.specs.Shelves.{OneDisk, Shelf, bytes_on}
+use Rattle.query_server.specs.Opened.{IsOpened, IsUnopenedBy}
+use Rattle.query_server.specs.Shelves.{OneDisk, Shelf, both_on, bytes_of, bytes_on}
 use Rattle.query_server.specs.Work.{Work, ended, to_grant}
 use Rattle.query_server.specs.declared.end.Status.{Status}
 use Rattle.query_server.specs.declared.end.Status.TheVariants.{Done}
 use Rattle.query_server.proofs.Unopened.{not_refused as never_refused}
 use Rattle.worked_row.specs.Grant.{IsGranted, grant_words, granted_text, the_grant}
 use Rattle.worked_row.specs.Held.{AreRowFiles, IsJournalMade, catalog, census, loaded_owner, one, zeros}
-use Rattle.worked_row.proofs.RowStatus.{no_records}
+use Rattle.worked_row.proofs.RowStatus.{both_given, no_records}
 use Rattle.worked_row.proofs.RowSteps.{Gives, catalog_given, gives, goes_on, key_given, owner_given}
 
 -- ---- from the words to the work
@@ -67,9 +68,9 @@ grant_ending given held are_words files =
 -- ---- what is due
 
 -- the journal is opened in version 3, without records
-none_there : (bytes : List ℕ) (version : ℕ) (found : List Record) (told : Option (List ℕ)) → told ≡ Some bytes → Stands (header_in one 3) [] bytes → IsOpened (entry_in one version) (header_in one version) told found
+none_there : (bytes : List ℕ) (version : ℕ) (found : List Record) (before now : Option Stored) → bytes_of before ≡ Some bytes → Stands (header_in one 3) [] bytes → IsOpened (entry_in one version) (header_in one version) before now found
     → (version ≡ 3) × (found ≡ [])
-none_there bytes version found told is made opened =
+none_there bytes version found before now is made opened =
     let stands : Stands (header_in one version) found bytes = subst (λ (b : Option (List ℕ)). IfSome b (Stands (header_in one version) found)) is opened.stands in
     let new : version ≡ 3 = sym (head-version (header_in one version) bytes stands.head) ∙ head-version (header_in one 3) bytes made.head in (
       new,
@@ -88,7 +89,7 @@ unfolding digits
 its_line = refl
 
 -- a disk at rest has the bytes that stand for its records
-rested : (after : Shown) → IfSome after.trace (IsAtRest (header_in one 3) (the_grant ∷ [])) → IfSome (option_map seen_of after.trace) (Stands (header_in one 3) (the_grant ∷ []))
+rested : (after : Stored) → IfSome after.trace (IsAtRest (header_in one 3) (the_grant ∷ [])) → IfSome (option_map seen_of after.trace) (Stands (header_in one 3) (the_grant ∷ []))
 rested after kept = here after.trace kept
   where
     here : (t : Option Trace) → IfSome t (IsAtRest (header_in one 3) (the_grant ∷ [])) → IfSome (option_map seen_of t) (Stands (header_in one 3) (the_grant ∷ []))
@@ -98,22 +99,23 @@ rested after kept = here after.trace kept
 its_bytes : (old new : Shelf) (bytes : List ℕ) → bytes_on old 0 ≡ Some bytes → OneDisk 0 (WentBy (entry_in one 3) (header_in one 3) [] 5000000 the_verdict) old new → IsGranted new
 its_bytes old new bytes told disk = here (old 0) refl
   where
-    here : (shown : Option Shown) → old 0 ≡ shown → IsGranted new
+    here : (shown : Option Stored) → old 0 ≡ shown → IsGranted new
     here None is =
-        let none : None ≡ Some bytes = subst (λ (s : Option Shown). option_map seen_of (option_and_then (λ (shown : Shown). shown.trace) s) ≡ Some bytes) is told in
+        let none : None ≡ Some bytes = subst (λ (s : Option Stored). option_map seen_of (option_and_then (λ (shown : Stored). shown.trace) s) ≡ Some bytes) is told in
         cc
     here (Some before) is =
         let went = disk.here before is in
-        subst (λ (s : Option Shown). IfSome (bytes_on (λ o. s) 0) (Stands (header_in one 3) (the_grant ∷ []))) (sym went.1) (rested went.0 went.2.kept)
+        subst (λ (s : Option Stored). IfSome (bytes_on (λ o. s) 0) (Stands (header_in one 3) (the_grant ∷ []))) (sym went.1) (rested went.0 went.2.kept)
 
 abbrev IsGrantedEnd : Shelf → Status → List ℕ → Type 0
 IsGrantedEnd new status text = (status ≡ Done) × (text ≡ granted_text) × IsGranted new
 
 due_is : (old new : Shelf) (status : Status) (text : List ℕ) → IsJournalMade old → IsGrantDue one 5000000 old new status text → IsGrantedEnd new status text
-due_is old new status text (bytes, told, made) (inl u) =
-    absurd (never_refused (its_entry one) (its_header one) [] bytes u.refusal made refl (no_records (its_entry one)) (subst (λ (b : Option (List ℕ)). IsUnopened (its_entry one) (its_header one) b u.refusal) told u.refused))
-due_is old new status text (bytes, told, made) (inr a) =
-    let there = none_there bytes a.version a.found (bytes_on old 0) told made a.opened in
+due_is old new status text (bytes, told, alone, made) (inl u) =
+    absurd (never_refused (its_entry one) (its_header one) [] bytes u.refusal made refl (no_records (its_entry one))
+    (both_given (λ (b : Option (List ℕ)) (t : Option Twins). IsUnopenedBy (its_entry one) (its_header one) b t (both_on new 0) u.refusal) (bytes_on old 0) (Some bytes) (both_on old 0) None told alone u.refused))
+due_is old new status text (bytes, told, alone, made) (inr a) =
+    let there = none_there bytes a.version a.found (old 0) (new 0) told made a.opened in
     let same : verdict_on one a.version a.found 5000000 ≡ the_verdict
     = ap (λ (v : ℕ). verdict_on one v a.found 5000000) there.0 ∙ ap (λ (f : List Record). verdict_on one 3 f 5000000) there.1 ∙ allowed in
     let by = subst (λ (f : List Record). OneDisk 0 (WentBy (entry_in one 3) (header_in one 3) f 5000000 (verdict_on one 3 f 5000000)) old new) there.1

@@ -1,8 +1,9 @@
 -- What the status and what is written come to where that script is answered over a journal that was made and has no records.
-use Rattle.std.proofs.Common.{◌≡◌, ℕ, ◌<◌, List, [], ◌∷◌, ◌++◌, get_or, length, Option, Some, refl, sym, ◌∙◌, ap, subst, arith, length-append}
+use Rattle.std.proofs.Common.{◌≡◌, ℕ, ◌<◌, List, [], ◌∷◌, ◌++◌, get_or, length, Option, Some, None, refl, sym, ◌∙◌, ap, subst, arith, length-append}
 use Rattle.std.specs.Prelude.{IfSome}
 use mathlib.Core.Logic.{◌⊎◌, inl, inr}
 use Rattle.fz_outside.specs.Faults.{HasRisen}
+use Rattle.outside_disks.specs.Stored.{Twins}
 use Rattle.budget_journal.specs.Journals.{Stands}
 use Rattle.budget_journal.proofs.Gates.{head-version}
 use Rattle.budget_journal.proofs.One.{stands-one}
@@ -13,9 +14,9 @@ use Rattle.query_server.specs.SessionCore.Transcript.{Journals}
 use Rattle.query_server.specs.Work.{Work, to_answer}
 use Rattle.query_server.specs.Run.{IsScriptAnswered, IsScriptDue}
 use Rattle.catalog_loading.specs.Loaded.{header_in, in_versions, new_entry, new_header, owner_name_at}
-use Rattle.query_server.specs.Opened.{AreOpened, IsUnopened}
+use Rattle.query_server.specs.Opened.{AreOpened, IsUnopened, IsUnopenedBy}
 use Rattle.query_server.specs.Duty.{IsRefusalDue}
-use Rattle.query_server.specs.Shelves.{Shelf, bytes_on}
+use Rattle.query_server.specs.Shelves.{Shelf, both_on, bytes_on}
 use Rattle.query_server.specs.Due.{IsBeginning, IsToWrite, IsStopLine, IsWrittenAt}
 use Rattle.query_server.specs.Refusals.{disk_text}
 use Rattle.query_server.specs.Status.{memory_text}
@@ -29,13 +30,19 @@ use Rattle.worked_row.proofs.RowReplies.{answered_is}
 pub no_records : (entry : Entry) → IsHistory entry []
 no_records entry = record { follows = λ k next is. absurd (cc is) }
 
+-- what is so of two things, by the names that they have elsewhere
+pub both_given : {A B : Type 0} (P : A → B → Type 0) (a x : A) (b y : B) → a ≡ x → b ≡ y → P a b → P x y
+both_given {A} {B} P a x b y is same p = subst (λ (w : B). P x w) same (subst (λ (v : A). P v b) is p)
+
 -- it isn't refused
 not_refused : (old new : Shelf) (status : Status) (text : List ℕ) → IsJournalMade old → IsRefusalDue loading zeros old new status text → ⊥
-not_refused old new status text (bytes, told, made) due =
+not_refused old new status text (bytes, told, one, made) due =
     let first : due.o ≡ 0 = omega (arith, due.at.known) in
-    let refused : IsUnopened (new_entry loading 0) (new_header loading zeros 0) (bytes_on old 0) due.refusal =
-    subst (λ (o : ℕ). IsUnopened (new_entry loading o) (new_header loading zeros o) (bytes_on old o) due.refusal) first due.at.refused in
-    never_refused (new_entry loading 0) (new_header loading zeros 0) [] bytes due.refusal made refl (no_records (new_entry loading 0)) (subst (λ (b : Option (List ℕ)). IsUnopened (new_entry loading 0) (new_header loading zeros 0) b due.refusal) told refused)
+    let refused : IsUnopened (new_entry loading 0) (new_header loading zeros 0) (old 0) (new 0) due.refusal =
+    subst (λ (o : ℕ). IsUnopened (new_entry loading o) (new_header loading zeros o) (old o) (new o) due.refusal) first due.at.refused in
+    never_refused (new_entry loading 0) (new_header loading zeros 0) [] bytes due.refusal made refl (no_records (new_entry loading 0))
+    (both_given (λ (b : Option (List ℕ)) (t : Option Twins). IsUnopenedBy (new_entry loading 0) (new_header loading zeros 0) b t (both_on new 0) due.refusal)
+    (bytes_on old 0) (Some bytes) (both_on old 0) None told one refused)
 
 -- the first of these versions is 3
 begins_new : (versions : List ℕ) → length versions ≡ 64 → get_or versions 0 3 ≡ 3 → (rest : List ℕ) × (versions ≡ 3 ∷ rest)
@@ -43,8 +50,8 @@ begins_new [] many is = absurd (omega (arith, many))
 begins_new (version ∷ rest) many is = (rest, ap (λ (v : ℕ). v ∷ rest) is)
 
 -- it is opened in version 3, without records
-pub none_there : (old : Shelf) (versions : List ℕ) (found : Journals) → IsJournalMade old → AreOpened loading zeros old versions found → ((rest : List ℕ) × (versions ≡ 3 ∷ rest)) × (found 0 ≡ [])
-none_there old versions found (bytes, told, made) opened =
+pub none_there : (old new : Shelf) (versions : List ℕ) (found : Journals) → IsJournalMade old → AreOpened loading zeros old new versions found → ((rest : List ℕ) × (versions ≡ 3 ∷ rest)) × (found 0 ≡ [])
+none_there old new versions found (bytes, told, one, made) opened =
     let version = get_or versions 0 3 in
     let stands : Stands (header_in loading zeros 0 version) (found 0) bytes =
     subst (λ (b : Option (List ℕ)). IfSome b (Stands (header_in loading zeros 0 version) (found 0))) told (opened.each 0 (omega arith)).stands in
@@ -60,7 +67,7 @@ script_length = refl
 due_is : (old new : Shelf) (status : Status) (text : List ℕ) → IsJournalMade old → IsScriptDue loading zeros 1 old new script status text → (status ≡ Done) × IsRowText text
 due_is old new status text made (inl refusal) = absurd (not_refused old new status text made refusal)
 due_is old new status text made (inr (versions, found, opened, inl (done, few, answered))) =
-    let there = none_there old versions found made opened in
+    let there = none_there old new versions found made opened in
     (done, answered_is there.0.0 old new found text there.1 (subst (λ (vs : List ℕ). IsScriptAnswered (in_versions loading vs) zeros 1 old new found script text) there.0.1 answered))
 due_is old new status text made (inr (versions, found, opened, inr (over, many, is, disks))) = absurd (omega (arith, many, script_length))
 

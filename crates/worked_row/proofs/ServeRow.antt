@@ -217,7 +217,7 @@ served_end WantsMemory status Other done (inr (told, more)) = cc (done, told)
 
 at_row : (old new : Shelf) (before after : List Door) (end : Service) → end ≡ Served → IsJournalMade old → IsToCome (door_at before 0) → IsServiceOver loading zeros 1 1 old new before after end → IsRowServed (door_at after 0)
 at_row old new before after end served made coming at =
-    let there = none_there old at.versions at.found made at.opened in
+    let there = none_there old new at.versions at.found made at.opened in
     let both = subst (λ (vs : List ℕ). (service : IsService (house_in loading vs) draws 1 1 end before after at.first at.last)
     × IsHeldOver (in_versions loading vs) zeros 1 old new at.found at.first at.last service.sittings service.lasts service.held) there.0.1 (at.service, at.over) in
     over_row there.0.0 at.found old new before after at.first at.last end served there.1 coming both.0 both.1

@@ -1,11 +1,11 @@
 -- What the row's files are read as.
-use Rattle.std.specs.Prelude.{◌≡◌, ℕ, pos, List, [], ◌∷◌, ◌++◌, codes, replicate, Some}
+use Rattle.std.specs.Prelude.{◌≡◌, ℕ, pos, List, [], ◌∷◌, ◌++◌, codes, replicate, Some, None}
 use Rattle.budget_journal.specs.Journals.{Stands}
 use Rattle.fz_ast.specs.declared.row.Column.TheVariants.{Num}
 use Rattle.metric_values.specs.Values.{Flat, NumF}
 use Rattle.owner_catalog.specs.Catalog.{Catalog, OwnerEntry, TableEntry}
 use Rattle.catalog_loading.specs.Loaded.{KeyedOwner, LoadedOwner, LoadedTable, Loading, header_of, loading_with, owner_with, table_with}
-use Rattle.query_server.specs.Shelves.{Shelf, bytes_on}
+use Rattle.query_server.specs.Shelves.{Shelf, both_on, bytes_on}
 use Rattle.catalog_loading.specs.Files.{Contents}
 use Rattle.worked_row.specs.Row.{catalog_text, table_text}
 
@@ -55,6 +55,6 @@ abbrev pub AreRowFiles : Contents → Type 0
 AreRowFiles held =
     (held (codes "cat.json") ≡ Some catalog_text) × (held (codes "people.csv") ≡ Some table_text) × (held (codes "key") ≡ Some zeros)
 
--- the owner's journal was made for these files and this key, and has no records yet
+-- the owner's journal was made on one disk for these files and this key, and has no records yet
 abbrev pub IsJournalMade : Shelf → Type 0
-IsJournalMade shelf = (bytes : List ℕ) × (bytes_on shelf 0 ≡ Some bytes) × Stands (header_of loading zeros 0) [] bytes
+IsJournalMade shelf = (bytes : List ℕ) × (bytes_on shelf 0 ≡ Some bytes) × (both_on shelf 0 ≡ None) × Stands (header_of loading zeros 0) [] bytes
