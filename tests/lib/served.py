@@ -109,10 +109,10 @@ def is_listened_at(port):
 
 
 class Service:
-    def __init__(self, room, workers=1, each=10**6, port=None, addr=None, **more):
+    def __init__(self, room, workers=1, each=10**6, port=None, addr=None, more_words=(), **more):
         self.room, self.workers, self.port = room, workers, port or free_ports(workers)
         words = ["serve", "catalog.json", "key", "--port", str(self.port), "--workers", str(workers), "--each", str(each), *(["--addr", addr] if addr else [])]
-        self.process = subprocess.Popen([PROGRAM, *words], cwd=room.folder, stdin=subprocess.DEVNULL, stdout=subprocess.PIPE, stderr=subprocess.STDOUT, **more)
+        self.process = subprocess.Popen([PROGRAM, *words, *more_words], cwd=room.folder, stdin=subprocess.DEVNULL, stdout=subprocess.PIPE, stderr=subprocess.STDOUT, **more)
         try:
             self.wait_until_open()
         except BaseException:
