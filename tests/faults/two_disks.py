@@ -56,7 +56,7 @@ class Room:
 
     def __init__(self, folder, library):
         os.chdir(folder)
-        self.folder, self.library, self.came, self.tried = folder, f"{library}/fail.so", Counter(), 0
+        self.folder, self.library, self.came, self.tried, self.more_words = folder, f"{library}/fail.so", Counter(), 0, [FLAG]
         for name, data in (("key", bytes(32)), ("catalog.json", census()), ("people.csv", b"age\n20\n30\n40\n")):
             with open(name, "wb") as file:
                 file.write(data)
@@ -471,7 +471,7 @@ def served(room):
         for call in (1,) if only == "none" else (1, 5, 12, 20, 24, 28):
             room.lay(room.journal(), room.journal())
             given = {**os.environ, "LD_PRELOAD": room.library, "ONLY": only, "FAIL": str(call), "FAIL_ALL": "1"}
-            with Service(room, each=1, env=given, more_words=[FLAG]) as service, Caller(service.port) as caller:
+            with Service(room, each=1, env=given) as service, Caller(service.port) as caller:
                 told = [caller.ask(line) for line in script]
                 service.process.wait(60)
             due = due or told
