@@ -25,8 +25,8 @@ sys.path.insert(0, f"{os.path.dirname(os.path.abspath(__file__))}/../lib")
 from places import TOP  # noqa: E402
 from beginning import begin  # noqa: E402
 from compare_journals import ASKS, KEPT, SPOILS, Case, Differs  # noqa: E402
-from journal import HEAD, VERSION_AT, VERSIONS, Book, Refused, appended, areas, book_of, live_area, made, slots, version_of  # noqa: E402
-from mirrors import FLAG, FOLDERS, opened, side  # noqa: E402
+from journal import HEAD, VERSION_AT, VERSIONS, Book, Refused, appended, areas, book_of, contents, live_area, made, slots, version_of  # noqa: E402
+from mirrors import FLAG, FOLDERS, opened  # noqa: E402
 from random_scripts import amount_at_random, reservation_at_random  # noqa: E402
 from reference import Server, grant_by_words, key_words  # noqa: E402
 
@@ -129,7 +129,8 @@ class Two(Case):
     def same_pairs(self, what):
         for order, pair in enumerate(self.pairs):
             for name, data in zip(FOLDERS, pair):
-                if side(f"{name}/{order}.bud") != (data or b""):
+                path = f"{name}/{order}.bud"
+                if (contents(path) if os.path.exists(path) else b"") != (data or b""):
                     raise Differs(f"{name}/{order}.bud isn't as it should be behind {what}")
 
     def asks(self, books):

@@ -12,7 +12,9 @@ Rows are worked out by hand and judged by a second reader, too (tools/lib/mirror
   have all records. The same of a script, of a grant and of a service, over journals of each version, also where an area is opened;
 - each call on both disks fails with all later ones: 52, 42 and 6 come, and whatever was acknowledged is found again;
 - the process is killed at each call: either disk alone and both together open with what was acknowledged;
-- where a disk is gone and the other one fails, 52 and 42 come.
+- where a disk is gone and the other one fails, 52 and 42 come;
+- a service whose disk failed, or whose file was moved away, answers all the same, and tools/watch says of a copy which side lags; tools/mirror makes a
+  second file, of a journal that no process holds.
 
 It ends with status 1 at the first difference.
 """
@@ -472,7 +474,9 @@ def served(room):
             room.lay(room.journal(), room.journal())
             given = {**os.environ, "LD_PRELOAD": room.library, "ONLY": only, "FAIL": str(call), "FAIL_ALL": "1"}
             with Service(room, each=1, env=given) as service, Caller(service.port) as caller:
-                told = [caller.ask(line) for line in script]
+                told = [caller.ask(line) for line in script[:-1]]
+                watched(f"a service, call {call} on {only}", only)
+                told.append(caller.ask(script[-1]))
                 service.process.wait(60)
             due = due or told
             must(f"a service, call {call} on {only} and all later ones", (told, service.process.returncode), (due, 0))
@@ -481,7 +485,64 @@ def served(room):
     must("a service", due[1:4], ["answer 0 5 1000000", "recall 0 answer 5 2", "left 1000000 10000000 2"])
 
 
-ENDS = ["levelled", "one left", "services", "no 52, and then no 42", "a side that lags: it failed", "a side that lags: the other failed",
+def watched(what, only):
+    """A copy of a busy service's journals says which side lags, if any."""
+    subprocess.run([f"{TOP}/tools/snapshot", "copy"], check=True)
+    ran = subprocess.run([f"{TOP}/tools/watch", "catalog.json", "copy"], capture_output=True, text=True)
+    shutil.rmtree("copy")
+    lags = [line.split(" lags by ")[0] for line in ran.stdout.splitlines()[1:]]
+    must(f"{what}: tools/watch", (ran.returncode, lags), (0, []) if only == "none" else (3, [f"census: {only}"]))
+
+
+def moved(room):
+    """A file that is moved away under a service, another one being put there, is given up, and the other disk goes on."""
+    for name in FOLDERS:
+        room.lay(room.journal(), room.journal())
+        with Service(room, each=1) as service, Caller(service.port, "ann") as caller:
+            must("the first ask", caller.ask(ASK), "answer 0 5 1000000")
+            os.rename(f"{name}/0.bud", "aside")
+            shutil.copy("aside", f"{name}/0.bud")
+            must(f"{name} was moved: an ask", caller.ask(ASK).split(" ")[:2], ["answer", "1"])
+            must(f"{name} was moved: left", caller.ask("left census"), "left 2000000 10000000 4")
+            caller.ask("bye")
+            service.process.wait(60)
+        for path in (f"{name}/0.bud", "aside"):
+            must(f"{path} has what it had", len(book_of(side(path), room.head, room.entry, range(2)).records), 2)
+        room.level(f"{name} was moved")
+        room.came["moved"] += 1
+
+
+def copied(room):
+    """tools/mirror: a second file where there is none, from either; nothing where both are there, one is held, or the one is no journal."""
+
+    def mirrored():
+        ran = subprocess.run([f"{TOP}/tools/mirror"], capture_output=True, text=True)
+        return ran.returncode, ran.stdout, [line for line in ran.stderr.splitlines() if "one device" not in line]
+
+    one = room.journal(FIRST)
+    for at, name in enumerate(FOLDERS):
+        for absent in (None, b""):
+            room.lay(*(absent if at == other else one for other in range(2)))
+            due = f"./{name}/0.bud is a copy of ./{FOLDERS[1 - at]}/0.bud, {len(one)} bytes\n"
+            must(f"{name} is {absent}: tools/mirror", (mirrored(), room.sides()), ((0, due, []), [one, one]))
+            must("its mode", oct(os.stat(f"{name}/0.bud").st_mode & 0o777), "0o600")
+            room.level("tools/mirror")
+    room.lay(one, room.journal())
+    must("both are there: tools/mirror", (mirrored(), room.sides()), ((0, "", []), [one, room.journal()]))
+    for what, data in (("a closed header", closed(one)), ("half of a journal", one[:1000]), ("a byte", b"x")):
+        room.lay(data, None)
+        status, said, fault = mirrored()
+        must(f"{what}: tools/mirror", (status, said, len(fault), room.sides()), (1, "", 1, [data, b""]))
+    room.lay(one, None)
+    with open(f"{JOURNALS}/0.bud", "r+b") as file:
+        fcntl.flock(file, fcntl.LOCK_EX)
+        status, said, fault = mirrored()
+        must("a file that is held: tools/mirror", (status, said, "is held by a process" in fault[0], room.sides()), (1, "", True, [one, b""]))
+    must("nothing is left beside", sorted(os.listdir(JOURNALS) + os.listdir(MIRRORS)), ["0.bud"])
+    room.came["copied"] += 1
+
+
+ENDS = ["levelled", "moved", "copied", "one left", "services", "no 52, and then no 42", "a side that lags: it failed", "a side that lags: the other failed",
     *(f"{command}: {what}" for command in ("run", "grant") for what in ("one disk failed in its opening", "one disk failed behind it", "both failed, status 6",
     "killed")), "run: both failed, status 0"]  # fmt: skip
 
@@ -493,7 +554,7 @@ def main():
     with tempfile.TemporaryDirectory(dir="/dev/shm" if os.access("/dev/shm", os.W_OK) else None) as folder, tempfile.TemporaryDirectory() as library:
         room = Room(folder, library)
         try:
-            for rows in (usages, makings, refused, gone, faults, levelled, old_one_put_back, one_left, served):
+            for rows in (usages, makings, refused, gone, faults, levelled, old_one_put_back, one_left, served, moved, copied):
                 rows(room)
             lagging(room, step)
             calls(room, step)
