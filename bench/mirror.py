@@ -18,6 +18,7 @@ import subprocess
 import sys
 import tempfile
 import time
+from functools import partial
 
 TOP = os.path.dirname(os.path.dirname(os.path.abspath(__file__)))
 os.environ.setdefault("PROGRAM", f"{TOP}/crates/hitchseason/out/hitchseason")
@@ -85,15 +86,13 @@ def answers(folder, rounds, asks):
         room = Room(here, min(FULL, 2 * asks + 10))
         empty, script = room.filled(0), "hello ann\n" + "ask census 0.000001 size people\n" * asks
 
-        def of_one(program, files, words):
+        def of_one(program, files, words, lines):
             room.lay(*files)
-            none = room.seconds(program, "run", "hello ann\n", words)
-            room.lay(*files)
-            return 10**6 * (room.seconds(program, "run", script, words) - none) / asks
+            return room.seconds(program, "run", lines, words)
 
-        ways = [lambda: of_one(PROGRAM, (empty, empty), [FLAG]), lambda: of_one(PROGRAM, (empty,), [])]
-        ways += [lambda: of_one(BEFORE, (empty,), [])] if BEFORE else []
-        return in_turn(rounds, *ways)
+        ways = [(PROGRAM, (empty, empty), [FLAG]), (PROGRAM, (empty,), []), *([(BEFORE, (empty,), [])] if BEFORE else [])]
+        found = in_turn(rounds, *(partial(of_one, *way, lines) for lines in (script, "hello ann\n") for way in ways))
+        return [10**6 * (whole - none) / asks for whole, none in zip(found[: len(ways)], found[len(ways) :])]
 
 
 def openings(rounds):
@@ -106,9 +105,8 @@ def openings(rounds):
             room.lay(*files)
             return 1000 * room.seconds(program, "audit", "", words)
 
-        ways = [lambda: of_one(PROGRAM, (full, full), [FLAG]), lambda: of_one(PROGRAM, (full,), []), lambda: of_one(PROGRAM, (full, half), [FLAG])]
-        ways += [lambda: of_one(BEFORE, (full,), [])] if BEFORE else []
-        return in_turn(rounds, *ways)
+        ways = [(PROGRAM, (full, full), [FLAG]), (PROGRAM, (full,), []), (PROGRAM, (full, half), [FLAG]), *([(BEFORE, (full,), [])] if BEFORE else [])]
+        return in_turn(rounds, *(partial(of_one, *way) for way in ways))
 
 
 def main():
