@@ -14,7 +14,8 @@ Rows are worked out by hand and judged by a second reader, too (tools/lib/mirror
 - the process is killed at each call: either disk alone and both together open with what was acknowledged;
 - where a disk is gone and the other one fails, 52 and 42 come;
 - a service whose disk failed, or whose file was moved away, answers all the same, and tools/watch says of a copy which side lags; tools/mirror makes a
-  second file, of a journal that no process holds.
+  second file, of a journal that no process holds;
+- a file is written and synced whole before the other one, and so is each record.
 
 It ends with status 1 at the first difference.
 """
@@ -542,6 +543,25 @@ def copied(room):
     room.came["copied"] += 1
 
 
+def in_order(room):
+    """What is written and synced in turn, writes in a row being one: each file whole before the other, and each record. Writes that put half of their bytes
+    change nothing."""
+    paths = [f"{room.folder}/{name}/0.bud" for name in FOLDERS]
+    parts = [[f"write {path}", f"sync {path}"] for path in paths]
+    makings = [[f"mkdir {name}", f"sync {room.folder}", f"sync {room.folder}/{name}", *part * 3] for name, part in zip(FOLDERS, parts)]
+    openings = [f"sync {path}" for path in paths]
+    left = []
+    for faults in ({"LOG": "log"}, {"LOG": "log", "SHORT": "1"}):
+        room.empty()
+        for command, due in (("init", makings[0] + makings[1]), ("run", openings + (parts[0] * 2 + parts[1] * 2) * 2)):
+            room.ran(command, lines(ONE_ASK), **faults)
+            said = contents("log").decode().splitlines()
+            os.remove("log")
+            must(f"{command}: in order", [line for before, line in zip(["", *said], said) if line != before], due)
+        left.append(room.sides())
+    must("short writes: what is left", left[1], left[0])
+
+
 ENDS = ["levelled", "moved", "copied", "one left", "services", "no 52, and then no 42", "a side that lags: it failed", "a side that lags: the other failed",
     *(f"{command}: {what}" for command in ("run", "grant") for what in ("one disk failed in its opening", "one disk failed behind it", "both failed, status 6",
     "killed")), "run: both failed, status 0"]  # fmt: skip
@@ -554,7 +574,7 @@ def main():
     with tempfile.TemporaryDirectory(dir="/dev/shm" if os.access("/dev/shm", os.W_OK) else None) as folder, tempfile.TemporaryDirectory() as library:
         room = Room(folder, library)
         try:
-            for rows in (usages, makings, refused, gone, faults, levelled, old_one_put_back, one_left, served, moved, copied):
+            for rows in (usages, makings, refused, gone, faults, levelled, old_one_put_back, one_left, served, moved, copied, in_order):
                 rows(room)
             lagging(room, step)
             calls(room, step)
