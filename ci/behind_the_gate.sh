@@ -24,6 +24,7 @@ kind=scripts
 if [ "${1:-}" = --services ]; then
     kind=services
     OF_REFERENCE=(tests/comparisons/compare_gen.py "tests/comparisons/compare_tables.py 500" "tests/comparisons/compare_journals.py 500"
+        "tests/comparisons/compare_mirrors.py 500"
         "tests/comparisons/compare_scripts.py 60" "tests/comparisons/compare_orders.py 40")
     SCRIPTS=("tests/services/serving.py --quick" tests/services/keeping.py tests/services/full_disk.py tests/tools/page.py
         "tests/services/snapshots.py 8" "tests/services/two_processes.py 3"

@@ -142,9 +142,11 @@ if command -v cc >/dev/null; then
     try tests/faults/failing_disk.py --quick
     try tests/faults/failing_workers.py --quick
     try tests/faults/torn_writes.py 1
+    try tests/faults/two_disks.py --quick
     PROGRAM=$program "$top/tests/faults/refused_memory.sh" >memory.said || passed=1
     grep -c "out of memory" memory.said | sed 's/$/ refused allocations end with 7/' | tee said
-    counted tests/faults/refused_memory.sh said || passed=1
+    cat said >>memory.said
+    counted tests/faults/refused_memory.sh memory.said || passed=1
     grep WRONG memory.said && passed=1
 else
     echo "not tried, since there is no cc: calls on a journal that fail, torn writes, refused allocations"

@@ -6,7 +6,7 @@ Without pages: README.md, docs/, the READMEs of crates, examples and clients. It
 words, each word to be avoided, each page that is too long (a crate's README, README.md by its two parts, and those of PAGES), each line of
 README.md's table over 20 words and each crate that has no line there; and then the words of each group of pages. Blocks of code count as
 words of the page alone, and so does what stands in backquotes. --list prints the words of each page.
-It ends with status 1 where a rule is broken, or where all pages together have over N words (70,000 unless given).
+It ends with status 1 where a rule is broken, or where all pages together have over N words (73,000 unless given).
 """
 import glob
 import os
@@ -14,7 +14,7 @@ import re
 import sys
 
 TOP = os.path.dirname(os.path.dirname(os.path.abspath(__file__)))
-MOST, LONGEST, CRATE, ROW = 70_000, 35, 250, 20
+MOST, LONGEST, CRATE, ROW = 73_000, 35, 250, 20
 PAGES = {"docs/dev/DECISIONS.md": 6_000, "docs/dev/measurements.md": 4_000}
 # README.md's first page, and what is proved, crate by crate.
 FIRST, SECOND, PROVED = 1_200, 1_500, "\n# What is proved, crate by crate\n"

@@ -148,6 +148,8 @@ class Case:
             data, piece, place = bytearray(self.disks[0]), bytes_of(text), int(name)
             data[place : place + len(piece)] = piece
             self.disks[0] = bytes(data)
+        elif word == "swap":
+            self.disks[0], self.disks[2] = self.disks[2], self.disks[0]
         elif word == "keep":
             self.kept = (list(self.disks), self.astray)
         elif word == "back":

@@ -248,6 +248,8 @@ SPOILS = [changed] * 6 + [cut, longer, repeated, repeated, taken_out, slots_exch
 
 
 class Case:
+    more_words = ()
+
     def __init__(self, rng, came):
         self.rng, self.came = rng, came
         self.analysts = ANALYSTS[: rng.randint(1, 3)]
@@ -310,8 +312,8 @@ class Case:
                 data[GATES_AT + number] = rng.choice([1, 0x25, 0xFF, 0xA4])
         self.came["other bytes around the live area"] += 1
 
-    def ran(self, command, script=b""):
-        ran = subprocess.run([PROGRAM, command, "cat.json", "key"], input=script, capture_output=True)
+    def ran(self, command, script=b"", words=()):
+        ran = subprocess.run([PROGRAM, command, "cat.json", "key", *words, *self.more_words], input=script, capture_output=True)
         return ran.returncode, ran.stdout.decode(errors="replace"), ran.stderr
 
     def found(self):

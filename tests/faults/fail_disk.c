@@ -1,4 +1,4 @@
-// Lets one call on a file under a folder named journals fail, or ends the process there: put in front of a program by LD_PRELOAD.
+// Lets one call on a file under a folder named journals or mirrors fail, or ends the process there: put in front of a program by LD_PRELOAD.
 // TELL=1     writes how many such calls there were to standard error, at the end
 // FAIL=N     call N (from 1) fails with EIO, and with FAIL_ALL=1 each later one too
 // STOP=N     the process is killed at call N, in the place of the call; a write has then put half of its bytes
@@ -6,7 +6,7 @@
 // LOG=FILE   a line for each write, sync and folder made, with its path, in their order; also for a sync of any other folder
 // RECORD=FILE  what each write put and each sync, in their order: `W`, place and size of 8 bytes each and the bytes, and `S`
 // FAIL_WHILE=FILE  while there is such a file each write and each sync fails with ENOSPC, as on a full disk; no call is counted for that
-// ONLY=WORD  the calls are those on files alone whose path has the word, such as /2.bud
+// ONLY=WORD  the calls are those on files alone whose path has the word, such as /2.bud, or mirrors
 // The calls are reads and writes at a place, syncs, asking for a length or for which file it is, locking, and opening or making such a file
 // or folder.
 #define _GNU_SOURCE
@@ -49,7 +49,9 @@ __attribute__((noreturn)) void _exit(int status) {
     __builtin_unreachable();
 }
 
-static int counts(const char *path) { return path && strstr(path, "journals") != 0 && (!only || strstr(path, only) != 0); }
+static int counts(const char *path) {
+    return path && (strstr(path, "journals") != 0 || strstr(path, "mirrors") != 0) && (!only || strstr(path, only) != 0);
+}
 
 static const char *path_of(int file) {
     static _Thread_local char path[4096];

@@ -1,8 +1,9 @@
 #!/usr/bin/env python3
 """Two workers over three owners, of whose journals one fails or stops at each of its calls in turn.
 
-usage: tests/faults/failing_workers.py [--quick]    (PROGRAM=FILE tries another build than tools/build's). Needs cc. --quick tries every seventh call of a run,
-and every twelfth of an audit and of a service.
+usage: tests/faults/failing_workers.py [--mirror] [--quick]    (PROGRAM=FILE tries another build than tools/build's). Needs cc. --quick tries every seventh
+call of a run, and every twelfth of an audit and of a service. With --mirror each journal stands on two disks, and the calls are those on either of an
+owner's two files: but for a kill nobody is told anything.
 The owners' journals are of versions 1, 2 and 3, and each is so full that the lines that are tried open its next area, where the version has areas. The
 calls of each owner's file are counted in turn (tests/faults/fail_disk.c), and the same lines are answered again with one call that fails, with all from
 that one on, and with a kill in the place of the call, by
@@ -28,7 +29,8 @@ sys.path.insert(0, f"{os.path.dirname(os.path.abspath(__file__))}/../lib")
 import places  # noqa: E402,F401
 from served import TOP, PROGRAM, Caller, Service, Wrong, need_program, place
 from catalog import catalog, owner
-from journal import VERSIONS, WHOLE, Book, Refused, Reservation, appended, book_of, contents, header, in_version, made
+from journal import VERSIONS, WHOLE, Book, Refused, Reservation, appended, book_of, contents, header, in_version, made, that_counts
+from mirrors import FLAG, FOLDERS
 from orders import Wrong as NoOrder, blocks_of, judged
 from reference import house_of, key_words
 
@@ -56,8 +58,9 @@ SCRIPT = "".join(f"{line}\n" for line in LINES).encode()
 class Room:
     """A folder with the house and its journals, which are laid anew for each try."""
 
-    def __init__(self, folder, library):
-        self.folder, self.came, self.library = folder, Counter(), f"{library}/fail.so"
+    def __init__(self, folder, library, mirrored=False):
+        self.folder, self.came, self.library, self.more_words = folder, Counter(), f"{library}/fail.so", [FLAG] if mirrored else []
+        self.folders = FOLDERS if mirrored else FOLDERS[:1]
         os.chdir(folder)
         data = catalog(*(owner(name, TABLES, BUDGET, CAPACITY, PARTS) for name in NAMES), analysts=ANALYSTS)
         for name, held in (("catalog.json", data), ("key", KEY), ("people.csv", b"town,age\nA,20\nB,30\nA,40\n")):
@@ -66,7 +69,8 @@ class Room:
         subprocess.run(["cc", "-O1", "-shared", "-fPIC", "-o", self.library, f"{TOP}/tests/faults/fail_disk.c", "-ldl"], check=True)
         self.house = house_of(data, contents)
         self.entries = self.house.catalog["owners"]
-        os.mkdir("journals")
+        for name in self.folders:
+            os.mkdir(name)
         self.heads = [in_version(header(data, order, KEY, contents), version) for order, version in enumerate(VERSIONS)]
         self.before = [self.laid(order, version) for order, version in enumerate(VERSIONS)]
         self.anew()
@@ -86,23 +90,29 @@ class Room:
 
     def anew(self):
         for order, data in enumerate(self.before):
-            with open(f"journals/{order}.bud", "wb") as file:
-                file.write(data)
+            for name in self.folders:
+                with open(f"{name}/{order}.bud", "wb") as file:
+                    file.write(data)
 
     def journals(self):
-        return [contents(f"journals/{order}.bud") for order in range(len(NAMES))]
+        """What counts: of two files that with more records."""
+        return [that_counts("journals", ".", order) for order in range(len(NAMES))]
 
     def books(self):
         return [book_of(data, head, entry, ANALYSTS) for data, head, entry in zip(self.journals(), self.heads, self.entries)]
 
     def ran(self, command, script=b"", words=(), **faults):
         given = {**os.environ, **faults, **({"LD_PRELOAD": self.library} if faults else {})}
-        return subprocess.run([PROGRAM, command, "catalog.json", "key", *words], input=script, capture_output=True, env=given)
+        return subprocess.run([PROGRAM, command, "catalog.json", "key", *words, *self.more_words], input=script, capture_output=True, env=given)
 
-    def calls(self, order, command, script=b"", words=()):
-        """How many calls a command makes on an owner's file."""
+    def files(self):
+        """Each owner with the file, or each of two files, on which calls fail."""
+        return [(order, f"{name}/{order}.bud") for order in range(len(NAMES)) for name in self.folders]
+
+    def calls(self, file, command, script=b"", words=()):
+        """How many calls a command makes on a file."""
         self.anew()
-        return int(self.ran(command, script, words, ONLY=f"/{order}.bud", TELL="1").stderr)
+        return int(self.ran(command, script, words, ONLY=file, TELL="1").stderr)
 
 
 def answers_in(replies):
@@ -150,17 +160,17 @@ def in_order(room, order, books, replies):
     """Replies and records are those of some order of the lines."""
     said = "".join(replies[at] + "\n" for at in range(len(LINES))).encode()
     room.came.update({f"told {word}": many for word, many in Counter(reply[:5] for reply in replies.values() if reply[:5] in ("no 42", "no 52")).items()})
-    judged(room.house, key_words(KEY), room.found, books, SCRIPT, said, WORKERS, shut={NAMES[order].encode()})
+    judged(room.house, key_words(KEY), room.found, books, SCRIPT, said, WORKERS, shut=set() if room.more_words else {NAMES[order].encode()})
 
 
 def judge_run(room, order, ran, opening):
     """OPENING says whether the call is one of the opening."""
     replies = {}
-    if ran.returncode == 6:
+    if ran.returncode == 6 and not room.more_words:
         if ran.stdout != f"disk {NAMES[order]}\n".encode() or room.journals() != room.before:
             raise Wrong(f"{ran.stdout!r}, or the files aren't as they were")
         room.came[f"not opened, owner {order}"] += 1
-    elif ran.returncode == 0 and not opening:
+    elif ran.returncode == 0 and (not opening or room.more_words):
         replies = dict(enumerate(ran.stdout.decode().splitlines()))
         if len(replies) != len(LINES):
             raise Wrong(f"{len(replies)} replies")
@@ -184,27 +194,35 @@ def kept_with(room, order, replies):
 def runs(room, step):
     """Each call of each owner's file, in a run."""
     words, counts = ("--workers", str(WORKERS)), []
-    for order in range(len(NAMES)):
-        opening, count = room.calls(order, "audit"), room.calls(order, "run", SCRIPT, words)
+    for order, file in room.files():
+        opening, count = room.calls(file, "audit"), room.calls(file, "run", SCRIPT, words)
         counts.append((opening, count))
         for faults in FAULTS:
             for call in range(1, count + 1, step):
                 room.anew()
-                ran = room.ran("run", SCRIPT, words, ONLY=f"/{order}.bud", **{name: value or str(call) for name, value in faults.items()})
-                in_words(room, f"run, owner {order}, call {call} of {count}, {' '.join(faults)}", lambda: judge_run(room, order, ran, call <= opening))
+                ran = room.ran("run", SCRIPT, words, ONLY=file, **{name: value or str(call) for name, value in faults.items()})
+                in_words(room, f"run, {file}, call {call} of {count}, {' '.join(faults)}", lambda: judge_run(room, order, ran, call <= opening))
     return counts
 
 
 def audits(room, step):
     """Each call of the opening of the second of three owners, in an `audit`."""
-    count = room.calls(1, "audit")
+    file = "journals/1.bud"
+    count = room.calls(file, "audit")
     for call in range(1, count + 1, step):
         room.anew()
-        ran = room.ran("audit", ONLY="/1.bud", FAIL=str(call))
-        if (ran.returncode, ran.stdout, room.journals()) != (6, f"disk {NAMES[1]}\n".encode(), room.before):
+        ran = room.ran("audit", ONLY=file, FAIL=str(call))
+        if room.more_words:
+            must(f"audit, call {call} of {count}", (ran.returncode, ran.stdout.decode()), (0, "".join(f"{book.counts()}\n" for book in room.found)))
+        elif (ran.returncode, ran.stdout, room.journals()) != (6, f"disk {NAMES[1]}\n".encode(), room.before):
             in_words(room, f"audit, call {call} of {count}", lambda: kept(room, {}))
             raise Wrong(f"audit, call {call}: {ran.returncode} and {ran.stdout!r}")
     return count
+
+
+def must(what, found, wanted):
+    if found != wanted:
+        raise Wrong(f"{what}: {found!r}, wanted {wanted!r}")
 
 
 def in_words(room, what, judge):
@@ -228,10 +246,10 @@ def heard(service, worker, replies):
         pass
 
 
-def served(room, order, faults):
+def served(room, file, faults):
     """What two connections at once are told."""
     replies = {}
-    given = {**os.environ, "LD_PRELOAD": room.library, "ONLY": f"/{order}.bud", **faults}
+    given = {**os.environ, "LD_PRELOAD": room.library, "ONLY": file, **faults}
     with Service(room, WORKERS, each=1, env=given) as service:
         callers = [threading.Thread(target=heard, args=(service, worker, replies)) for worker in range(WORKERS)]
         for caller in callers:
@@ -255,12 +273,12 @@ def judge_service(room, order, status, replies):
 
 def services(room, step, counts):
     """Each call behind the opening of each owner's file, in a service of two connections."""
-    for order, (opening, count) in enumerate(counts):
+    for (order, file), (opening, count) in zip(room.files(), counts):
         for faults in FAULTS:
             for call in range(opening + 1, count + 1, step):
                 room.anew()
-                status, replies = served(room, order, {name: value or str(call) for name, value in faults.items()})
-                in_words(room, f"service, owner {order}, call {call}, {' '.join(faults)}", lambda: judge_service(room, order, status, replies))
+                status, replies = served(room, file, {name: value or str(call) for name, value in faults.items()})
+                in_words(room, f"service, {file}, call {call}, {' '.join(faults)}", lambda: judge_service(room, order, status, replies))
 
 
 ENDS = [f"run, version {version}: {end}" for version in VERSIONS for end in ("not opened", "replies", "killed")] + [
@@ -269,11 +287,11 @@ ENDS = [f"run, version {version}: {end}" for version in VERSIONS for end in ("no
 
 
 def main():
-    quick = sys.argv[1:] == ["--quick"]
+    mirrored, quick = "--mirror" in sys.argv[1:], "--quick" in sys.argv[1:]
     assert [list(lines) for lines in blocks_of([line.encode() for line in LINES])] == [list(range(len(BLOCKS[0]))), list(range(len(BLOCKS[0]), len(LINES)))]
     need_program()
     with tempfile.TemporaryDirectory(dir=place()) as folder, tempfile.TemporaryDirectory() as library:
-        room = Room(folder, library)
+        room = Room(folder, library, mirrored)
         try:
             # Of every eighth one is the write of an area's gate.
             counts = runs(room, 7 if quick else 1)
@@ -285,11 +303,12 @@ def main():
         finally:
             os.chdir(TOP)
     print(", ".join(f"{end} {many}" for end, many in sorted(room.came.items())))
-    lacking = [end for end in ENDS if not room.came[end]]
+    # Where one of two disks fails nobody is told 42 or 52, and each command opens its journals.
+    lacking = [end for end in ENDS if not room.came[end] and not (mirrored and ("not opened" in end or "no 42" in end or "no 52" in end))]
     if lacking:
         print("never met: " + ", ".join(lacking))
         sys.exit(1)
-    said = ", ".join(f"{count} of version {version}, {opening} of them in its opening" for version, (opening, count) in zip(VERSIONS, counts))
+    said = ", ".join(f"{count} of version {version}, {opening} of them in its opening" for version, (opening, count) in zip(VERSIONS, counts[:: len(room.folders)]))
     print(f"calls of two workers' runs on a journal: {said}; {opened} of an audit's second opening: as wanted")
 
 

@@ -1,8 +1,9 @@
 #!/usr/bin/env python3
 """Kills runs of the program at random moments, and reads what is left in the journal.
 
-usage: tests/faults/kills.py [COUNT [SEED [FOLDER]]]     (PROGRAM=FILE tries another build than tools/build's); 1,000 kills, and a folder on the
-disk of this repository, unless said.
+usage: tests/faults/kills.py [--mirror] [COUNT [SEED [FOLDER]]]     (PROGRAM=FILE tries another build than tools/build's); 1,000 kills, and a folder on
+the disk of this repository, unless said. With --mirror the journal stands on two disks, and behind every third kill the file of one of them, chosen at
+random, is lost: the other one opens alone, and tools/mirror makes another.
 Runs of 40 asks, of the whole and of parts of two partitions, continue one journal, and each is ended by SIGKILL at a random moment between its start and a little after its usual
 end. After each one, by a second reader (tools/journal.py) that shares nothing with the program but the rules:
 
@@ -28,7 +29,8 @@ from places import TOP  # noqa: E402
 
 PROGRAM = os.path.abspath(os.environ.get("PROGRAM", f"{TOP}/out/hitchseason"))
 from catalog import catalog, owner, read  # noqa: E402
-from journal import Refused, book_of, changes_since, contents, header, live_area, slots  # noqa: E402
+from journal import Refused, begun, book_of, changes_since, contents, header, live_area, slots  # noqa: E402
+from mirrors import FLAG, FOLDERS, side  # noqa: E402
 
 ASKS = 40
 PARTITIONS = (("area", "people", "town", ("A", "B")), ("age", "people", "town", ("A",)))
@@ -40,8 +42,8 @@ class Wrong(Exception):
 
 
 class Trial:
-    def __init__(self, folder, runs, rng):
-        self.folder, self.rng, self.came, self.length = folder, rng, Counter(), 0.0
+    def __init__(self, folder, runs, rng, mirrored):
+        self.folder, self.rng, self.came, self.length, self.more_words = folder, rng, Counter(), 0.0, [FLAG] if mirrored else []
         os.chdir(folder)
         tables = (("people", "people.csv", (("town", "text"), ("age", "num"))),)
         made = catalog(owner(tables=tables, budget=BUDGET, capacity=2 * ASKS * (runs + 2 + runs // 100), partitions=PARTITIONS))
@@ -56,14 +58,14 @@ class Trial:
         self.look()
 
     def ended(self, command, script=b""):
-        ran = subprocess.run([PROGRAM, command, "cat.json", "key"], input=script, capture_output=True)
+        ran = subprocess.run([PROGRAM, command, "cat.json", "key", *self.more_words], input=script, capture_output=True)
         if ran.returncode != 0:
             raise Wrong(f"{command} ended with {ran.returncode} and {ran.stdout[:200]}")
         return ran.stdout.decode()
 
     def look(self):
         """Reads the journal, compares it with what was there before and with `audit`, and keeps it."""
-        now = contents("journals/0.bud")
+        now, lost = self.left() if self.more_words else (contents("journals/0.bud"), None)
         if self.book is None:
             self.book = book_of(now, self.head, self.entry, range(2))
         before = len(self.book.records)
@@ -77,7 +79,29 @@ class Trial:
         if said != book.counts() + "\n":
             raise Wrong(f"audit said {said}, wanted {book.counts()}")
         self.kept = now
+        if self.more_words:
+            self.is_on_both(lost)
         return len(book.records) - before
+
+    def left(self):
+        """The journal as the disks have it, of which one is lost now and then, and the lost file."""
+        lost = self.rng.choice([*FOLDERS, None, None, None, None]) if self.book else None
+        if lost:
+            os.remove(f"{lost}/0.bud")
+            self.came[f"{lost} is lost"] += 1
+        there = [data for data in (side(f"{name}/0.bud") for name in FOLDERS) if data]
+        first, second = (len(begun(data, self.entry["capacity"])) for data in (there[0], there[-1]))
+        self.came["a side that lags"] += first != second
+        return there[-1] if second > first else there[0], lost
+
+    def is_on_both(self, lost):
+        """Behind an audit both disks have all records; of a lost one tools/mirror makes another."""
+        if lost:
+            subprocess.run([f"{TOP}/tools/mirror"], capture_output=True, check=True)
+        for name in FOLDERS:
+            data = contents(f"{name}/0.bud")
+            if slots(data, self.entry["capacity"]) and [one.encoded() for one in slots(data, self.entry["capacity"])] != [one.encoded() for one in self.book.records]:
+                raise Wrong(f"{name} lacks a record behind an audit")
 
     def script(self):
         """What is asked, and what the first lines must be told."""
@@ -97,7 +121,7 @@ class Trial:
         with open("script", "w") as file:
             file.write("".join(f"{line}\n" for line in lines))
         with open("script") as script, tempfile.TemporaryFile() as out:
-            run = subprocess.Popen([PROGRAM, "run", "cat.json", "key"], stdin=script, stdout=out)
+            run = subprocess.Popen([PROGRAM, "run", "cat.json", "key", *self.more_words], stdin=script, stdout=out)
             time.sleep(self.rng.uniform(0, 1.15 * self.length))
             run.kill()
             status = run.wait()
@@ -157,18 +181,21 @@ class Trial:
         self.came["records"] += grown
 
 
+MIRRORED = ["journals is lost", "mirrors is lost", "a side that lags"]
 MOMENTS = ["had ended", "before the first record", "a record without its gate", "a reservation alone", "between two asks, or behind them"]
 
 
 def main():
     if "PROGRAM" not in os.environ:
         subprocess.run([f"{TOP}/tools/build"], check=True)
-    count = int(sys.argv[1]) if len(sys.argv) > 1 else 1000
-    seed = int(sys.argv[2]) if len(sys.argv) > 2 else 1
+    mirrored = sys.argv[1:2] == ["--mirror"]
+    words = sys.argv[1 + mirrored :]
+    count = int(words[0]) if words else 1000
+    seed = int(words[1]) if len(words) > 1 else 1
     rng = random.Random(seed)
     os.makedirs(f"{TOP}/out", exist_ok=True)
-    with tempfile.TemporaryDirectory(dir=sys.argv[3] if len(sys.argv) > 3 else f"{TOP}/out") as folder:
-        trial = Trial(folder, count, rng)
+    with tempfile.TemporaryDirectory(dir=words[2] if len(words) > 2 else f"{TOP}/out") as folder:
+        trial = Trial(folder, count, rng, mirrored)
         trial.measure()
         for turn in range(count):
             if turn % 100 == 50:
@@ -183,7 +210,7 @@ def main():
         print(f"{len(trial.book.records)} records, {trial.came.pop('records')} of runs that were to be killed; {trial.came.pop('printed')} answers were printed")
         print("moments: " + ", ".join(f"{moment} {trial.came[moment]}" for moment in sorted(trial.came)))
         os.chdir(TOP)
-    lacking = [moment for moment in MOMENTS if not trial.came[moment]]
+    lacking = [moment for moment in (*MOMENTS, *(MIRRORED if mirrored else ())) if not trial.came[moment]]
     if lacking and count >= 1000:
         print("never met: " + ", ".join(lacking))
         sys.exit(1)

@@ -6,7 +6,7 @@
 #include <errno.h>
 #include <stdio.h>
 #include <stdlib.h>
-#include <string.h>
+#include <sys/auxv.h>
 #include <unistd.h>
 
 extern void *__libc_malloc(size_t size);
@@ -14,9 +14,14 @@ extern void *__libc_realloc(void *block, size_t size);
 
 static long count, refused = -1;
 
+// Whether the caller stands in the program itself, whose headers are where the kernel says. Where it lies and what it is called decides nothing.
+static int is_of_program(void *caller) {
+    Dl_info info, program;
+    return dladdr(caller, &info) && dladdr((void *)getauxval(AT_PHDR), &program) && info.dli_fbase == program.dli_fbase;
+}
+
 static int is_refused(void *caller) {
-    Dl_info info;
-    if (!dladdr(caller, &info) || !info.dli_fname || strstr(info.dli_fname, ".so")) return 0;
+    if (!is_of_program(caller)) return 0;
     if (refused < 0) refused = getenv("REFUSE") ? atol(getenv("REFUSE")) : 0;
     long now = __atomic_add_fetch(&count, 1, __ATOMIC_RELAXED);
     return now == refused || (refused > 0 && now > refused && getenv("REFUSE_ALL"));

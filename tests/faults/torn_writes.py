@@ -1,9 +1,10 @@
 #!/usr/bin/env python3
 """Each prefix of what commands write to a journal, torn in many ways: files that a loss of power may leave, and what is found on them.
 
-usage: tests/faults/torn_writes.py [MORE [SEED [FOLDER]]]     (PROGRAM=FILE tries another build than tools/build's). Needs cc. MORE files torn at
-random for each prefix, 4 unless said, beside the four of `MemDisk::after_stop`. FOLDER lies in memory, where there is such a place, unless said: what a
-disk would lose is made here.
+usage: tests/faults/torn_writes.py [--mirror] [MORE [SEED [FOLDER]]]     (PROGRAM=FILE tries another build than tools/build's). Needs cc. MORE files torn
+at random for each prefix, 4 unless said, beside the four of `MemDisk::after_stop`. FOLDER lies in memory, where there is such a place, unless said: what a
+disk would lose is made here. With --mirror each torn file is tried on either of two disks: the second one has the records before then, and the first one
+has the record that is being written.
 The writes and syncs of the program on its own journal are recorded (tests/faults/fail_disk.c): those of an `init`, and of three runs, one behind
 the other, with asks of the whole and of parts, of several analysts, refused and granted, the last by two workers; of one that opens the journal's next
 area, by one worker and by two; and of such runs over journals of versions 1 and 2. What was synced stays. Of each later write up to the prefix's
@@ -34,9 +35,10 @@ from places import TOP  # noqa: E402
 
 PROGRAM = os.path.abspath(os.environ.get("PROGRAM", f"{TOP}/out/hitchseason"))
 from catalog import catalog, owner, read  # noqa: E402
+from mirrors import FLAG, opened  # noqa: E402
 from journal import FIRST_SLOTS, VERSION_AT, VERSIONS, WHOLE, Book, Refused, Reservation, appended, book_of, contents, header, in_version, made  # noqa: E402
 
-JOURNAL = "journals/0.bud"
+JOURNAL, MIRROR = "journals/0.bud", "mirrors/0.bud"
 ANALYSTS = ("ann", "bob")
 ASK = "ask census 0.5 size people"
 PART = "askpart census area {} 0.25 size people"
@@ -147,10 +149,12 @@ def files_after(before, calls, more, rng):
 
 
 class Room:
-    def __init__(self, folder, library):
+    def __init__(self, folder, library, mirrored):
         os.chdir(folder)
         os.mkdir("journals")
-        self.came, self.tried, self.library = Counter(), set(), f"{library}/fail.so"
+        if mirrored:
+            os.mkdir("mirrors")
+        self.came, self.tried, self.library, self.mirrored = Counter(), set(), f"{library}/fail.so", mirrored
         tables = (("people", "people.csv", (("town", "text"), ("age", "num"))),)
         whole = catalog(owner(tables=tables, budget=10_000_000, capacity=CAPACITY, partitions=(("area", "people", "town", ("A", "B")),)))
         for name, data in (("key", bytes(32)), ("cat.json", whole), ("people.csv", b"town,age\nA,20\nB,30\nA,40\n")):
@@ -163,7 +167,9 @@ class Room:
         if given:
             given["LD_PRELOAD"] = self.library
         script = "".join(f"{line}\n" for line in lines)
-        words = [PROGRAM, command, *(["--workers", workers] if workers else []), "cat.json", "key"]
+        # What is recorded are the writes of one disk; those of two are the same on each.
+        two = [FLAG] if self.mirrored and not given else []
+        words = [PROGRAM, command, *(["--workers", workers] if workers else []), *two, "cat.json", "key"]
         return subprocess.run(words, input=script, capture_output=True, text=True, env={**os.environ, **given})
 
     def recorded(self, command, lines=(), workers=None):
@@ -200,14 +206,36 @@ class Room:
     def book(self, file):
         return book_of(file, self.head, self.entry, ANALYSTS)
 
+    def found(self, files):
+        return opened(files, self.head, self.entry, ANALYSTS) if self.mirrored else self.book(files[0])
 
-def judge(room, file, synced, next_ones, made):
-    """A file on which this many records were synced, of those that there are in the end; `made` says whether the `init` had ended."""
-    with open(JOURNAL, "wb") as out:
-        out.write(file)
+    def other(self, records, version):
+        """The file of the other disk, which was made and has these records."""
+        return appended(made(in_version(self.head, version), CAPACITY), CAPACITY, map(Encoded, records))
+
+    def disks(self, file, synced, records, there, version):
+        """A torn file, by itself or on either of two disks."""
+        if not self.mirrored:
+            return [(file,)]
+        return [(file, self.other(records[:synced], version) if there else b""), (self.other(records[: synced + there], version), file)]
+
+
+class Encoded:
+    def __init__(self, data):
+        self.data = data
+
+    def encoded(self):
+        return self.data
+
+
+def judge(room, files, synced, next_ones, made):
+    """A file, or two, on which this many records were synced, of those that there are in the end; `made` says whether the `init` had ended."""
+    for name, file in zip((JOURNAL, MIRROR), files):
+        with open(name, "wb") as out:
+            out.write(file)
     said = room.ran("audit")
     try:
-        book = room.book(file)
+        book = room.found(files)
     except Refused as refusal:
         if made:
             raise Wrong(f"the file is refused: {refusal}") from None
@@ -260,7 +288,8 @@ def tried(room, name, before, calls, records, known, more, rng):
             count += 1
             room.came[kind] += 1
             try:
-                judge(room, file, synced, records, there or end == len(calls))
+                for files in room.disks(file, synced, records, there, version):
+                    judge(room, files, synced, records, there or end == len(calls))
             except Wrong as fault:
                 raise Wrong(f"{name}, {end} of {len(calls)} calls, {kind}: {fault}") from None
             room.came[f"version {version}"] += 1
@@ -288,11 +317,13 @@ MET = [*STOPS, *(f"version {version}" for version in VERSIONS), "at random", "no
 def main():
     if "PROGRAM" not in os.environ:
         subprocess.run([f"{TOP}/tools/build"], check=True)
-    more = int(sys.argv[1]) if len(sys.argv) > 1 else 4
-    rng = random.Random(int(sys.argv[2]) if len(sys.argv) > 2 else 1)
-    place = sys.argv[3] if len(sys.argv) > 3 else "/dev/shm" if os.access("/dev/shm", os.W_OK) else None
+    mirrored = sys.argv[1:2] == ["--mirror"]
+    words = sys.argv[1 + mirrored :]
+    more = int(words[0]) if words else 4
+    rng = random.Random(int(words[1]) if len(words) > 1 else 1)
+    place = words[2] if len(words) > 2 else "/dev/shm" if os.access("/dev/shm", os.W_OK) else None
     with tempfile.TemporaryDirectory(dir=place) as folder, tempfile.TemporaryDirectory() as library:
-        room = Room(folder, library)
+        room = Room(folder, library, mirrored)
         try:
             for name, before, calls, records in list(steps(room)):
                 # The first sync of a run is its opening's.

@@ -1,6 +1,6 @@
 """What the benches of `serve` share: a folder with a house, a service in it on ports that are free, and connections that say lines and hear replies.
 
-    Room(FOLDER, ..)      catalog, key, tables and journals, made anew; `books()` reads the journals by the second reader (tools/journal.py)
+    Room(FOLDER, ..)      catalog, key, tables and journals, on two disks where MIRRORED, made anew; `books()` reads the journals by the second reader (tools/journal.py)
     Service(ROOM, ..)     `serve` in it, as a process; `stop()` kills it, `ended()` waits for it
     Caller(PORT)          a connection: `say`, `hear`, `ask`
 PROGRAM=FILE in the environment names the program, else it is tools/build's.
@@ -51,8 +51,8 @@ def place():
 class Room:
     """A folder with a house of so many owners and its journals."""
 
-    def __init__(self, folder, owners=4, capacity=2**16, budget=AMPLE, people=PEOPLE, key=bytes(range(32)), analysts=ANALYSTS):
-        self.folder, self.names, self.analysts = folder, NAMES[:owners], analysts
+    def __init__(self, folder, owners=4, capacity=2**16, budget=AMPLE, people=PEOPLE, key=bytes(range(32)), analysts=ANALYSTS, mirrored=False):
+        self.folder, self.names, self.analysts, self.more_words = folder, NAMES[:owners], analysts, ["--mirror"] if mirrored else []
         self.data = catalog(*[owner(name, TABLES, budget, capacity, PARTS) for name in self.names], analysts=analysts)
         self.catalog = read(self.data)
         for name, data in (("catalog.json", self.data), ("key", key), ("people.csv", people)):
@@ -62,7 +62,7 @@ class Room:
         self.ran("init")
 
     def ran(self, command, folder=None, status=0, **more):
-        ran = subprocess.run([PROGRAM, command, "catalog.json", "key"], cwd=folder or self.folder, stdin=subprocess.DEVNULL, capture_output=True, **more)
+        ran = subprocess.run([PROGRAM, command, "catalog.json", "key", *self.more_words], cwd=folder or self.folder, stdin=subprocess.DEVNULL, capture_output=True, **more)
         if ran.returncode != status:
             raise Wrong(f"{command} ended with {ran.returncode} and {ran.stdout[:200]!r}")
         return ran.stdout.decode()
@@ -112,6 +112,7 @@ class Service:
     def __init__(self, room, workers=1, each=10**6, port=None, addr=None, **more):
         self.room, self.workers, self.port = room, workers, port or free_ports(workers)
         words = ["serve", "catalog.json", "key", "--port", str(self.port), "--workers", str(workers), "--each", str(each), *(["--addr", addr] if addr else [])]
+        words += getattr(room, "more_words", [])
         self.process = subprocess.Popen([PROGRAM, *words], cwd=room.folder, stdin=subprocess.DEVNULL, stdout=subprocess.PIPE, stderr=subprocess.STDOUT, **more)
         try:
             self.wait_until_open()

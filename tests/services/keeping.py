@@ -9,6 +9,7 @@ usage: tests/services/keeping.py    (PROGRAM=FILE tries another build than tools
   isn't there yet, and before a pause, and a program that ends late is told some times, and waited for.
 - A worker that has served its connections answers nobody while another one hasn't, until the program's time is over and it is started again.
 - A relative folder is found where CDPATH is said.
+- Beside `mirrors` it wants --mirror, and with that both files of each owner: it ends with 2, and with 6, but goes on with one where it is told ALONE=yes.
 - examples/service: the unit passes `systemd-analyze verify`, the rules of loopback `nft -c`, where these are installed.
 It ends with status 1 where one differs.
 """
@@ -56,9 +57,10 @@ def words_of(process):
 class Kept:
     """tools/keep_serving over a folder, and what it says on standard error; MORE is put into its environment."""
 
-    def __init__(self, folder, each, port=None, workers=1, cwd=None, **more):
+    def __init__(self, folder, each, port=None, workers=1, cwd=None, more_words=(), **more):
         self.port, self.said = port or free_ports(workers), tempfile.TemporaryFile()
         words = [f"{TOP}/tools/keep_serving", folder, "catalog.json", "key", "--port", str(self.port), "--workers", str(workers), "--each", str(each)]
+        words += more_words
         given = {"stdin": subprocess.DEVNULL, "stderr": self.said, "env": {**os.environ, "PROGRAM": PROGRAM, **more}}
         self.process = subprocess.Popen(words, cwd=cwd, **given)
 
@@ -241,6 +243,37 @@ def elsewhere(folder):
         must("the status of keep_serving", kept.process.wait(30), 4)
 
 
+def two_disks(folder):
+    """A stand-in in the place of the program says whether it was started."""
+    Room(folder, 2)
+    program = stand_in(folder, "import sys, time; open('started', 'w').write(' '.join(sys.argv[-1:])); time.sleep(60)")
+    second = f"{folder}/mirrors/1.bud"
+    must("tools/mirror", subprocess.run([f"{TOP}/tools/mirror", folder], capture_output=True).returncode, 0)
+
+    def status(said, *more_words, **more):
+        """What it ends with, and that it says this; or 0 where it starts the program."""
+        with Kept(folder, 1, PROGRAM=program, more_words=more_words, **more) as kept:
+            wait_for(lambda: kept.process.poll() is not None or os.path.exists(f"{folder}/started"), kept.told)
+            if os.path.exists(f"{folder}/started"):
+                os.remove(f"{folder}/started")
+                return 0
+            must(f"`{said}` is told", said in kept.told(), True)
+            return kept.process.wait(30)
+
+    must("without the flag", status("--mirror is wanted"), 2)
+    must("with it", status("", "--mirror"), 0)
+    for what, spoil in (("isn't there", lambda: os.rename(second, f"{folder}/kept")), ("is empty", lambda: open(second, "w").close())):
+        spoil()
+        must(f"one file {what}", status(f"mirrors/1.bud: it {what}", "--mirror"), 6)
+        must(f"one file {what}, where that is told", status("", "--mirror", ALONE="yes"), 0)
+        must(f"one file {what}, where no is told", status("ALONE=yes starts on the other", "--mirror", ALONE="no"), 6)
+    open(f"{folder}/journals/1.bud", "w").close()
+    must("both files empty", status("journals/1.bud: it is empty", "--mirror", ALONE="yes"), 6)
+    shutil.rmtree(f"{folder}/mirrors")
+    os.symlink("nothing", f"{folder}/mirrors")
+    must("a link to nothing, without the flag", status("--mirror is wanted"), 2)
+
+
 def wait_for(holds, said, nap=0.05):
     until = time.monotonic() + 20
     while not holds():
@@ -296,7 +329,7 @@ def main():
         return
     need_program()
     try:
-        for what in (told_to_stop, told_before_a_pause, elsewhere, restarts, rolls_over, waits, ends, begins_anew):
+        for what in (told_to_stop, told_before_a_pause, elsewhere, two_disks, restarts, rolls_over, waits, ends, begins_anew):
             with tempfile.TemporaryDirectory(dir=place()) as folder:
                 what(folder)
         with tempfile.TemporaryDirectory() as folder:

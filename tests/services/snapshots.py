@@ -1,7 +1,8 @@
 #!/usr/bin/env python3
 """Copies of journals beside a busy service (tools/snapshot): each must open, and say no less than was told before it was begun.
 
-usage: tests/services/snapshots.py [COUNT [SEED]]    50 copies, unless said; 1,000 is the whole (PROGRAM=FILE tries another build than tools/build's)
+usage: tests/services/snapshots.py [--mirror] [COUNT [SEED]]    50 copies, unless said; 1,000 is the whole (PROGRAM=FILE tries another build than
+tools/build's). With --mirror the journals of the busy service stand on two disks: of neither may a copy say that it lags.
 Four connections ask four owners without a pause, and copies are made meanwhile. Of each copy:
 
 - `audit` of the program opens it, in a folder of its own, and counts what the second reader (tools/journal.py) counts in it;
@@ -87,6 +88,8 @@ def audited(room, copy):
         for name in ("catalog.json", "key", "people.csv"):
             shutil.copy(f"{room.folder}/{name}", folder)
         shutil.copytree(f"{room.folder}/{copy}", f"{folder}/journals")
+        if room.more_words:
+            os.rename(f"{folder}/journals/mirrors", f"{folder}/mirrors")
         return room.ran("audit", folder)
 
 
@@ -159,10 +162,10 @@ def plain(room, rng):
         return False
 
 
-def beside_a_service(rng, count):
+def beside_a_service(rng, count, mirrored):
     with tempfile.TemporaryDirectory(dir=place()) as folder:
         capacity = min(2**18, 300 * count + 200)
-        room = Room(folder, capacity=capacity)
+        room = Room(folder, capacity=capacity, mirrored=mirrored)
         copies, plain_ones = Copies(room), 0
         with Service(room, len(room.names)) as service:
             loads = [Load(service, room, order) for order in range(len(room.names))]
@@ -173,6 +176,8 @@ def beside_a_service(rng, count):
                 told, copy = [load.answered for load in loads], f"copy{number}"
                 copied(room, copy)
                 copies.judge(copy, told)
+                if mirrored:
+                    watched(room, copy)
                 if number % 10 == 0:
                     judge_watch(room, copy, copies.books)
                     plain_ones += not plain(room, rng)
@@ -318,14 +323,15 @@ def audits_of_copies():
 
 
 def main():
-    count, seed = numbers(__doc__, 50, 1)
+    mirrored = sys.argv[1:2] == ["--mirror"]
+    count, seed = numbers(__doc__, 50, 1, words=sys.argv[1 + mirrored :])
     need_program()
     try:
         other_files()
         ended_early()
         no_plain_files()
         audits_of_copies()
-        beside_a_service(random.Random(f"snapshots {seed}"), count)
+        beside_a_service(random.Random(f"snapshots {seed}"), count, mirrored)
     except (Wrong, Refused) as fault:
         print(f"seed {seed}: {fault}")
         sys.exit(1)

@@ -308,6 +308,7 @@ LINES = [
     ("no 60 7 20", "no number 7 was ever reserved"), ("no 61 7 20", "another analyst made reservation 7"), ("no 90", "nothing is charged"),
     ("usage", "no command"), ("refused key", "'key' is the file, or the owner"), ("journal labour uninitialised 0", "it has 0 bytes"),
     ("journal labour damaged 3", "slot 3"), ("journal labour changed", "the entry of labour"), ("journal labour exists 12", "a file of 12 bytes"),
+    ("journal labour forked 4", "different records in slot 4"),
     ("disk labour", "disk of the journal of labour"), ("memory", "memory ran out"), ("script too long", "over 2^24 bytes"), ("bye", "ended"),
     ("granted labour 1500000 3", "the budget of labour is 1500000 millionths now; its journal has 3 records"), ("too large 7", "would be over 10^18"),
     ("full 2 2", "2 of 2 are taken"), ("refused", "'' is the file, or the owner"),

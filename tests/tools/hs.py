@@ -60,7 +60,7 @@ forecast X labour 1 Q|forecast {f} X 1 Q|forecast {f} labour X Q|forecast {f} la
 ask {c} {k} X labour 1 Q|ask {c} {k} mia X 1 Q|ask {c} {k} mia labour X Q|ask {c} {k} mia labour 1 X|ask {c} {k} mia labour 1 Q X X
 shell X mia labour|shell {f} X labour|shell {f} mia X|askparts {f} mia labour X 1 Q|askparts {f} mia labour areas 1 X
 left X labour|left {f} X|left ssh://X labour|left h:1 labour --public X|plot X|plot histogram X|plot --X
-door X 7000 1|door mia X 1|door mia 7000 1 --catalog X|door mia 7000 1 X|snapshot X copies|snapshot Q copies|watch X copies|watch Q X|watch --X
+door X 7000 1|door mia X 1|door mia 7000 1 --catalog X|door mia 7000 1 X|snapshot X copies|snapshot Q copies|mirror X|mirror --X|watch X copies|watch Q X|watch --X
 why run X {k}|why run {c} X|why X|why check {c} X Q|why check {c} labour X|why serve {c} {k} --port X --each 1|why grant {c} {k} X 1|why gap {c} labour X Q
 reference.py X {k}|reference.py {c} X|journal.py X {k}|journal.py {c} X|hs X|hs check X labour Q|hs check {c} X Q|hs check {c} labour X
 """

@@ -171,6 +171,44 @@ GRANTS = [
      ["The journal of health has 10 records, and room for 10"]),
     (given((0, 7)), f"{GRANT} 500000", "", 0, []),
 ]  # fmt: skip
+def two(*steps):
+    """Both disks have the journals, and then these things are done."""
+    return both(lambda: shutil.copytree("journals", "mirrors"), *steps)
+
+
+def with_reservation(folder, answer):
+    """The answer of number 0 is another one, in this folder."""
+    with open(f"{folder}/0.bud", "r+b") as file:
+        file.seek(HEAD + SLOT + 15)
+        file.write(bytes([answer]))
+
+
+MIRROR = "--mirror"
+MIRRORED = [
+    (two(), f"{AUDIT} {MIRROR}", "", 0, []),
+    (two(lambda: os.remove("journals/0.bud")), f"{RUN} {MIRROR}", "< script", 0, []),
+    (two(), f"{AUDIT} {MIRROR} {MIRROR}", "", 2, ["`--mirror`: `--mirror` stands once, and takes no value"]),
+    (two(), f"{AUDIT} {MIRROR}=yes", "", 2, ["`--mirror=yes`: `--mirror` stands once, and takes no value"]),
+    (nothing, f"{CHECK} {MIRROR}", "", 2, ["`--mirror` is of init, run, serve, audit and grant: `check` opens no journal"]),
+    (two(lambda: with_reservation("mirrors", 9)), f"{AUDIT} {MIRROR}", "", 4, ["journal census forked 1", "In journals/0.bud, slot 1 (from 0) is: settlement 0",
+        "In mirrors/0.bud, slot 1 (from 0) is: settlement 0 answer 9", "A disk that had missed a run was put back", "The journal of health opens"]),
+    (two(lambda: put(0, HEAD + 1, b"\7")), f"{AUDIT} {MIRROR}", "", 4, ["journal census damaged 0", "In journals/0.bud, slot 0"]),
+    (two(lambda: write("mirrors/0.bud", contents("mirrors/0.bud")[:9])), f"{AUDIT} {MIRROR}", "", 4, ["journal census uninitialised 9", "mirrors/0.bud has 9 bytes"]),
+    (two(lambda: write("mirrors/0.bud", contents("mirrors/1.bud"))), f"{AUDIT} {MIRROR}", "", 4, ["journal census changed", "mirrors/0.bud is a journal, but not that "
+        "of census"]),
+    (two(older), f"{AUDIT} {MIRROR}", "", 4, ["journal census changed", "journals/0.bud and mirrors/0.bud don't belong together", "of version 1 and the other's of "
+        "version 3"]),
+    (two(lambda: os.remove("journals/0.bud"), lambda: os.remove("mirrors/0.bud")), f"{AUDIT} {MIRROR}", "", 4, ["journal census uninitialised 0", "There is no "
+        "journals/0.bud and no mirrors/0.bud"]),
+    (two(lambda: os.remove("journals/0.bud")), AUDIT, "", 4, ["journal census uninitialised 0", "`--mirror` isn't among the arguments: `journals` alone"]),
+    (two(), f"{INIT} {MIRROR}", "", 4, ["journal census exists 4224", "It is the journal that belongs here"]),
+    (two(lambda: os.remove("mirrors/0.bud"), lambda: os.remove("journals/0.bud"), lambda: os.mkdir("journals/0.bud")), f"{AUDIT} {MIRROR}", "", 6, ["disk census",
+        "journals/0.bud is a folder, where a file belongs"]),
+    (both(emptied, lambda: link("nothing", "mirrors")), f"{INIT} {MIRROR}", "", 6, ["disk census", "`mirrors` is a link to nothing, where nothing is: is that disk "
+        "mounted?"]),
+]  # fmt: skip
+
+
 # What is done to a folder with journals that have an answered ask, the program's words, the shell's words after them, the status, and words
 # that are said. A word with ! in front of it must not be said. Cases after "more" are left out of the quick form.
 MADE = [
@@ -557,6 +595,8 @@ def main():
     with tempfile.TemporaryDirectory(dir="/dev/shm" if os.access("/dev/shm", os.W_OK) else None) as room, tempfile.TemporaryDirectory() as scripts:
         trial = Trial(room)
         for case in every_third(MADE) if quick else MADE:
+            trial.one(*case)
+        for case in MIRRORED:
             trial.one(*case)
         if os.geteuid() == 0 and shutil.which("setpriv") and shutil.which("unshare"):
             trial.with_rights()

@@ -1,173 +1,38 @@
 """Why the program ended as it did: what is found on the disk now, in words.
 
-    Before(COMMAND)                    what stands in the folder `journals` before a command
+    Before(COMMAND)                    what stands in the folder `journals`, and in `mirrors`, before a command
     causes(STATUS, WORDS, BEFORE, SCRIPT)   sentences about a command that ended with this status, its words without the program's name;
                                        SCRIPT is the number of what was its standard input, or nothing where that was closed
 
-What a file is refused for is found by faults.py, what is wrong with a journal by journal.py and journal_changes.py. The program itself says
+What a file is refused for is found by faults.py, what is wrong with a journal by journal.py, mirrors.py and journal_changes.py. The program itself says
 less, and is not asked again. Where nothing is found, that is said: somebody may have changed the files since.
 """
 import difflib
 import errno
 import fcntl
 import os
-import re
 import resource
 import select
 import socket
 import stat
 
-from bounds import ASKS_LIMIT, EACH_LIMIT, MOST_BUDGET, OWNERS, PORT_LIMIT, SCRIPT_LIMIT, SEED_LIMIT, WORKERS
+from bounds import MOST_BUDGET, OWNERS, SCRIPT_LIMIT, WORKERS
+from command_words import SERVICE, Command, about_words
 from faults import ALL, Fault, Unreadable, bytes_of, catalog_of, check_key, survey_lines, table_of, whoever
 from files import contents
 from journal import GATE, HEAD, SLOT, VERSION_AT, Area, Grant, Refused, Reservation, Settlement, begun, book_of, capacity_in, decoded
-from journal import fields, header, journal_bytes, length_of, live_area, version_of
+from journal import fields, header, journal_bytes, length_of, live_area, slots, that_counts, version_of
 from holders import holders
 from journal_changes import House, changes
-from lines import amount_of, whole_of
 from meanings import COMMANDS, STATUSES
+from mirrors import FLAG, FOLDERS, MIRRORS, is_gone, is_mirrored, listed, opened, side, sides_in
 
 MOST_TOLD = 10
 IN_SERVICE = "Don't run `init`, which would begin the budget anew: go on as with `damaged`, its budget counts as spent."
-SERVICE = ("init", "run", "serve", "audit", "grant")
 ONE_PROCESS = (
     "One process at a time works on a folder of journals, and it keeps them until it ends. Nothing was written. To look at journals while it runs, copy them "
     "by tools/snapshot."
 )
-
-
-# The words.
-
-# Options that take a value: what each takes, the commands that have it, and the greatest number, or 0 where it takes a text.
-OPTIONS = {
-    "--workers": (f"a whole number from 1 to {WORKERS}. It may be left out", ("run", "serve"), WORKERS),
-    "--port": (f"a whole number from 1 to {PORT_LIMIT}, the first worker's port", ("serve",), PORT_LIMIT),
-    "--each": (f"a whole number from 1 to {EACH_LIMIT}, the connections that each worker serves", ("serve",), EACH_LIMIT),
-    "--addr": ("an address of this machine. It may be left out", ("serve",), 0),
-}
-# The words of `gen`: the least and the greatest number of each.
-GENERATED = {"SEED": (0, SEED_LIMIT), "N": (1, ASKS_LIMIT), "WORKERS": (1, WORKERS)}
-
-
-def meant_by(word):
-    """The option that a misspelt one is likely meant to be, which takes a value, too; or nothing."""
-    return next(iter(difflib.get_close_matches(word, OPTIONS, 1, 0.75)), None) if word.startswith("--") and "=" not in word else None
-
-
-class Command:
-    """The command that words are, as far as they are one: its name, its words in order, and what else is among them."""
-
-    def __init__(self, words):
-        self.name, self.words, self.options = words[0] if words else None, [], []
-        rest = iter(words[1:])
-        for word in rest:
-            if word == "--":
-                self.words += rest
-            elif word in OPTIONS or meant_by(word):
-                self.options.append(" ".join([word, *[next(rest, "")]]).strip())
-            elif word.startswith("-") and word != "-":
-                self.options.append(word)
-            else:
-                self.words.append(word)
-
-    def wanted(self):
-        return COMMANDS[self.name].split(" [")[0].split()
-
-    def given(self, name):
-        """The values of an option, one each time that it stands there."""
-        parts = [option.replace("=", " ", 1).partition(" ") for option in self.options]
-        return [value for option, _, value in parts if option == name]
-
-    def option(self, name, default=None):
-        """The value of an option, or the default."""
-        return (self.given(name) or [default])[0]
-
-    def is_right(self, name):
-        """Whether an option of this name stands there once, with a value that it takes."""
-        values, most = self.given(name), OPTIONS[name][2]
-        if len(values) != 1:
-            return False
-        number = whole_of(values[0]) if most else None
-        return bool(values[0]) if not most else number is not None and 1 <= number <= most
-
-
-def about_words(words):
-    """Why arguments are no command."""
-    found = Command(words)
-    for number, word in enumerate(words):
-        if not is_utf8(word):
-            yield f"Argument {number} isn't UTF-8, and so the program takes none of them."
-    if not words:
-        yield "No arguments were given."
-    elif found.name not in COMMANDS:
-        yield from about_name(found.name)
-    else:
-        yield from about_rest(found)
-    forms = {found.name: COMMANDS[found.name]} if words and found.name in COMMANDS else COMMANDS
-    yield "Its form is:" if len(forms) == 1 else "Its commands are:"
-    yield from (f"    hitchseason {name} {wanted}" for name, wanted in forms.items())
-
-
-def is_utf8(word):
-    try:
-        word.encode()
-        return True
-    except UnicodeEncodeError:
-        return False
-
-
-def shown(word):
-    return word.encode("utf-8", "surrogateescape").decode(errors="backslashreplace")
-
-
-def about_name(name):
-    if os.path.basename(name) == "hitchseason":
-        yield f"`{shown(name)}` is no command: tools/why takes the program's arguments alone, such as `tools/why run CATALOG KEY`."
-    elif name in ("help", "--help", "-h", "--version", "-V"):
-        yield f"`{name}` is no command: the program has no help of its own."
-    else:
-        likely = difflib.get_close_matches(name.lower(), COMMANDS, 1)
-        yield f"`{shown(name)}` is no command{f': is `{likely[0]}` meant?' if likely else '.'}"
-
-
-def about_numbers(found):
-    """Of `gen`: which word isn't a number of its range."""
-    for word, (name, (least, most)) in zip(found.words, GENERATED.items()):
-        number = whole_of(word)
-        if number is None or not least <= number <= most:
-            yield f"`{shown(word)}`: {name} is a whole number from {least} to {most}."
-
-
-def about_amount(found):
-    """Of `grant`: whether AMOUNT is one."""
-    for word in found.words[3:4]:
-        if amount_of(word) is None:
-            yield f"`{shown(word)}`: AMOUNT is a whole number of millionths from 1 to {MOST_BUDGET}, such as 500000 for half an epsilon."
-
-
-def about_rest(found):
-    wanted, most = found.wanted(), len(COMMANDS[found.name].split()) if found.name == "gen" else 0
-    if not len(wanted) <= len(found.words) <= max(len(wanted), most):
-        given = f"{len(found.words)} stand there" if found.words else "none stands there"
-        takes = f"{len(wanted)} or {most} arguments, {COMMANDS[found.name]}" if most else f"{len(wanted)} arguments, {' '.join(wanted)}"
-        yield f"`{found.name}` takes {takes}, and {given}."
-    if found.name in ("gen", "grant"):
-        yield from about_numbers(found) if found.name == "gen" else about_amount(found)
-    for option in ("--port", "--each") if found.name == "serve" else ():
-        if found.option(option) is None:
-            yield f"`{option}` is missing: `serve` wants it."
-    for option in found.options:
-        name = option.replace("=", " ", 1).split(" ")[0]
-        takes, commands, _ = OPTIONS.get(name, (None, (), 0))
-        if found.name in commands and found.is_right(name):
-            continue
-        if found.name in commands:
-            yield f"`{shown(option)}`: `{name}` stands once, and takes {takes}."
-        elif meant_by(name) and found.name in OPTIONS[meant_by(name)][1]:
-            yield f"`{shown(name)}` is no option: is `{meant_by(name)}` meant?"
-        else:
-            file = "" if found.name == "gen" or re.fullmatch("-[0-9.]+", option) else f": a file of this name is written `./{shown(option)}`"
-            yield f"`{shown(option)}` begins with a hyphen and is taken for an option, which `{found.name}` hasn't{file}."
 
 
 # Files, in the program's order.
@@ -331,16 +196,20 @@ class Before:
         return self.found.get(number, (0, 0))[1]
 
 
-def path_of(number):
-    return f"journals/{number}.bud"
+def path_of(number, folder=FOLDERS[0]):
+    return f"{folder}/{number}.bud"
+
+
+def paths_of(number, command):
+    """The owner's file, or both."""
+    return [path_of(number, folder) for folder in (FOLDERS if command.mirrored else FOLDERS[:1])]
 
 
 def seen(number):
-    try:
-        data = journal_bytes(path_of(number))
-    except OSError:
-        return 0, 0
-    return length_of(data), len(open_slots(data))
+    """Of two files the length of the first that has bytes, as an `init` says it."""
+    sides = sides_in(".", number) if is_mirrored() else [side(path_of(number))]
+    there = [data for data in sides if not is_gone(data)]
+    return (length_of(there[0]), max(len(open_slots(data)) for data in there)) if there else (0, 0)
 
 
 def open_slots(data):
@@ -360,13 +229,25 @@ class Journals:
     another owner, so one may not be there."""
 
     def __init__(self, command):
-        self.house = House(*command.words[:2])
+        self.house, self.mirrored = House(*command.words[:2]), command.mirrored
         self.entries = self.house.catalog["owners"]
-        self.bytes, self.books = [], []
+        self.bytes, self.books, self.paths = [], [], []
         for number, entry in enumerate(self.entries):
-            kept = journal_bytes(path_of(number)) if os.path.exists(path_of(number)) else None
+            path = self.that_is_judged(number, entry) if self.mirrored else path_of(number)
+            kept = journal_bytes(path) if os.path.exists(path) else None
+            self.paths.append(path)
             self.bytes.append(kept)
             self.books.append(self.book(number, entry, kept or b""))
+
+    def that_is_judged(self, number, entry):
+        """Of two files that which is refused by itself, or the one with more records."""
+        sides = [(path_of(number, folder), data) for folder, data in zip(FOLDERS, sides_in(".", number)) if not is_gone(data)]
+        for path, data in sides:
+            try:
+                listed(data, self.head(number), entry)
+            except Refused:
+                return path
+        return max(sides, key=lambda one: len(open_slots(one[1])))[0] if sides else path_of(number)
 
     def head(self, number, kept=b""):
         """The header that a journal of these bytes would have, in the version that they name."""
@@ -374,8 +255,11 @@ class Journals:
         return header(self.house.data, number, self.house.key, contents, version)
 
     def book(self, number, entry, kept):
+        analysts = self.house.catalog["analysts"]
         try:
-            return book_of(kept, self.head(number), entry, self.house.catalog["analysts"])
+            if self.mirrored:
+                return opened(sides_in(".", number), self.head(number), entry, analysts)
+            return book_of(kept, self.head(number), entry, analysts)
         except Refused as refusal:
             return refusal
         except OSError as fault:
@@ -388,11 +272,13 @@ class Journals:
         """What is said of a journal that is refused."""
         refusal, kept = self.books[number], self.bytes[number]
         kind = str(refusal).split()[0]
-        if kind == "damaged":
-            yield f"In {path_of(number)}, slot {str(refusal).split()[1]} (from 0): {refusal.how}."
+        if kind == "forked" or "whose rules of cost differ" in refusal.how:
+            yield from about_two(number, refusal, self.entries[number], self.house.catalog["analysts"])
+        elif kind == "damaged":
+            yield f"In {self.paths[number]}, slot {str(refusal).split()[1]} (from 0): {refusal.how}."
             yield "No stop of the program leaves that. Stop, and copy the file away; there is no repair, and its budget counts as spent."
         elif kind == "changed":
-            yield f"{path_of(number)} is a journal, but not that of {self.entries[number]['name']} with this entry, key and these tables."
+            yield f"{self.paths[number]} is a journal, but not that of {self.entries[number]['name']} with this entry, key and these tables."
             yield from changes(self.house, number, kept, self.opened())
         else:
             yield from self.unmade(number, kept)
@@ -403,11 +289,11 @@ class Journals:
             yield f"There is no folder `journals` in {os.getcwd()}: `init` was never run here, or this is the wrong folder."
         elif kept is None:
             made = f"those of {others} are there, so it was removed, or an `init` failed at it" if others else "no `init` made it here"
-            yield f"There is no {path_of(number)}: {made}."
+            yield f"There is no {' and no '.join([path_of(number), *([path_of(number, MIRRORS)] if self.mirrored else [])])}: {made}."
             yield from self.in_service()
         else:
             due = length_due(kept, self.entries[number]["capacity"])
-            yield f"{path_of(number)} has {length_of(kept)} bytes, of {due}, and is none that an `init` made and left: {self.half_made(number, kept)}"
+            yield f"{self.paths[number]} has {length_of(kept)} bytes, of {due}, and is none that an `init` made and left: {self.half_made(number, kept)}"
             yield from [IN_SERVICE] if open_slots(kept) else self.in_service()
 
     def in_service(self):
@@ -430,6 +316,21 @@ class Journals:
         if len(kept) >= HEAD and fields(kept)[1:] == fields(self.head(number, kept))[1:]:
             return "its header is there but for the first byte: an `init` was stopped at its last step."
         return "it has other bytes than an `init` leaves."
+
+
+def about_two(number, refusal, entry, analysts):
+    """Of two files that don't fit one another."""
+    words = str(refusal).split()
+    if words[0] != "forked":
+        yield f"{path_of(number)} and {path_of(number, MIRRORS)} don't belong together: {refusal.how}. Somebody put one of them there; nothing was written."
+        return
+    for folder in FOLDERS:
+        record = slots(journal_bytes(path_of(number, folder)), entry["capacity"])[int(words[1])]
+        yield f"In {path_of(number, folder)}, slot {words[1]} (from 0) is: {record.said(entry, analysts)}"
+    yield (
+        "A disk that had missed a run was put back, and had records that the other hasn't. From both answers may have been given: stop, copy both files away, and "
+        "count the budget as spent. There is no repair."
+    )
 
 
 def journals_of(command):
@@ -474,7 +375,7 @@ def about_existing(found, before):
     """Of an `init` that found a journal there."""
     for number, entry in enumerate(found.entries):
         if before.length(number) == 0:
-            yield f"The journal of {entry['name']} wasn't there, and was made by this `init`: {path_of(number)}."
+            yield f"The journal of {entry['name']} wasn't there, and was made by this `init`: {found.paths[number]}."
             continue
         book = found.books[number]
         yield f"journal {entry['name']} exists {before.length(number)}"
@@ -498,24 +399,24 @@ def mode_of(path):
 def about_error(fault, path):
     """What is said of an error at a path."""
     if fault.errno in (errno.EACCES, errno.EPERM):
-        places = [place for place in dict.fromkeys(("journals", path)) if os.path.lexists(place)]
+        places = [place for place in dict.fromkeys((os.path.dirname(path), path)) if os.path.lexists(place)]
         return f"{whoever()} may not open {path} to read and write it: {'; '.join(map(mode_of, places))}."
     if fault.errno == errno.EROFS:
         return f"{path} lies on a file system that is read-only."
     if fault.errno == errno.EISDIR:
         return f"{path} is a folder, where a file belongs."
     if fault.errno == errno.ENOTDIR:
-        return "`journals` is a file, where a folder belongs."
+        return f"`{os.path.dirname(path)}` is a file, where a folder belongs."
     if fault.errno == errno.ELOOP:
         return f"{path} is a link that leads nowhere but to itself."
     return f"{path} can't be opened: {fault.strerror}."
 
 
-def opening_fault(number):
+def opening_fault(path):
     """The error at which the program's opening of a journal fails, or nothing; a file that isn't there is none."""
     try:
-        journal_bytes(path_of(number))
-        os.close(os.open(path_of(number), os.O_RDWR | os.O_NONBLOCK))
+        journal_bytes(path)
+        os.close(os.open(path, os.O_RDWR | os.O_NONBLOCK))
     except FileNotFoundError:
         return None
     except OSError as fault:
@@ -531,52 +432,62 @@ def about_disk(command, before):
         yield f"The catalog can't be read now: {fault}."
         return
     for number in numbers_of(command, entries):
-        entry, fault = entries[number], opening_fault(number)
-        if fault:
-            yield f"disk {entry['name']}"
-            yield about_error(fault, path_of(number))
-            return
-        held = holders(path_of(number))
-        if held:
-            yield f"disk {entry['name']}"
-            yield from held
-            yield ONE_PROCESS
-            return
-        if command.name == "init" and not was_made(number, entry):
-            yield f"disk {entry['name']}"
-            yield from about_making(number, entry)
+        said = list(about_disk_of(command, number, entries[number]))
+        if said:
+            yield f"disk {entries[number]['name']}"
+            yield from said
             return
     yield "Each journal can be opened and read now: the disk failed for a while, or at a sync. Look at the system's log (`dmesg`) before the next run."
 
 
-def was_made(number, entry):
+def about_disk_of(command, number, entry):
+    """What is wrong with the disk of this owner's journal, or with both."""
+    paths = paths_of(number, command)
+    faults = [(path, fault) for path, fault in ((path, opening_fault(path)) for path in paths) if fault]
+    # With one disk sound, and no `init`, the other may fail.
+    if faults and (command.name == "init" or all(fault or is_gone(side(path)) for path, fault in ((path, opening_fault(path)) for path in paths))):
+        yield from (about_error(fault, path) for path, fault in faults)
+        return
+    held = [line for path in paths for line in holders(path)]
+    if held:
+        yield from [*held, ONE_PROCESS]
+        return
+    for path in paths if command.name == "init" else ():
+        if not was_made(path, entry):
+            yield from about_making(path, entry)
+            return
+
+
+def was_made(path, entry):
     """Whether an `init` ended on a journal, by its length and its first byte."""
     try:
-        data = journal_bytes(path_of(number))
+        data = journal_bytes(path)
     except OSError:
         return False
     return len(data) >= length_due(data, entry["capacity"]) and data[0] == GATE
 
 
-def about_making(number, entry):
+def about_making(path, entry):
     """Why a journal couldn't be made here."""
-    due = Area(2, entry["capacity"], 0).end
-    there = os.path.getsize(path_of(number)) if os.path.exists(path_of(number)) else 0
-    folder = "journals" if os.path.isdir("journals") else "."
+    due, home = Area(2, entry["capacity"], 0).end, os.path.dirname(path)
+    there = os.path.getsize(path) if os.path.exists(path) else 0
+    folder = home if os.path.isdir(home) else "."
     system = os.statvfs(folder)
     free = system.f_bavail * system.f_frsize
-    if system.f_flag & os.ST_RDONLY:
+    if os.path.islink(home) and not os.path.exists(home):
+        yield f"`{home}` is a link to {os.readlink(home)}, where nothing is: is that disk mounted?"
+    elif system.f_flag & os.ST_RDONLY:
         yield f"The file system of {os.path.realpath(folder)} is read-only."
     elif not os.access(folder, os.R_OK | os.W_OK | os.X_OK, effective_ids=True):
         yield f"{whoever()} may not make files in `{folder}`: {mode_of(folder)}."
     elif free < due - there:
-        yield f"The disk is full: {path_of(number)} takes {due} bytes, {there} were written, and {free} are free."
+        yield f"The disk is full: {path} takes {due} bytes, {there} were written, and {free} are free."
     else:
-        yield f"{path_of(number)} couldn't be written or synced, and the folder can be written now, with {free} bytes free. Look at the system's log (`dmesg`)."
+        yield f"{path} couldn't be written or synced, and the folder can be written now, with {free} bytes free. Look at the system's log (`dmesg`)."
     if there:
         yield (
-            f"What was begun lies in {path_of(number)}, {there} of {due} bytes. If no run was ever over any of these journals, remove the folder "
-            f"`journals` before the next `init`."
+            f"What was begun lies in {path}, {there} of {due} bytes. If no run was ever over any of these journals, remove the folder "
+            f"`{home}` before the next `init`."
         )
 
 
@@ -650,7 +561,7 @@ def names_of_owners(command):
 def journals_now():
     for number in range(OWNERS):
         try:
-            yield number, journal_bytes(path_of(number))
+            yield number, that_counts(FOLDERS[0], ".", number)
         except OSError:
             continue
 
@@ -771,6 +682,8 @@ def causes(status, words, before, script, told=lambda rows: None):
         yield from about_length(script)
     else:
         yield from about_limit(command, status)
+    if command.name in SERVICE and status in (4, 6) and is_mirrored() and not command.mirrored:
+        yield f"This folder has `{MIRRORS}`, and `{FLAG}` isn't among the arguments: `{FOLDERS[0]}` alone was looked at."
     if command.name == "grant" and status in (5, 6, 7):
         yield from about_grant(command, before)
     if command.name in ("run", "serve") and status in (5, 7, 8):

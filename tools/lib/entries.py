@@ -40,6 +40,7 @@ ENTRIES = [
     Entry(OPERATOR, "run", "answer a script", "tools/hs run catalog.json key < script"),
     Entry(OPERATOR, "serve", "answer over connections", "tools/hs serve catalog.json key --port 7000 --each 1000"),
     Entry(OPERATOR, "keep_serving", "keep a service running", "tools/hs keep_serving served catalog.json key --port 7000 --each 1000", False),
+    Entry(OPERATOR, "mirror", "give journals a second disk, or replace a lost one", "tools/hs mirror served"),
     Entry(OPERATOR, "door", "let one analyst's key in over ssh", "tools/hs door mia 7000 1 --catalog served/catalog.json"),
     Entry(OPERATOR, "snapshot", "copy journals while a service writes them", "tools/hs snapshot copies/monday served"),
     Entry(OPERATOR, "watch", "say of a copy what each owner has spent", "tools/hs watch served/catalog.json copies/monday"),

@@ -13,6 +13,8 @@
                                         this tool says of copies of a running service: what is being answered counts as lost there, until it is
     journal.py --check                  the values that are known from outside
 
+Where the folder has `mirrors`, too, each journal stands on two disks: the longer list counts, a disk that lags is named on standard error, and other
+records of the two are `forked` (mirrors.py).
 It shares nothing with the server but the rules (docs/journal-format.md). A journal is the file N.bud of owner N: a header of 128 bytes
 and slots of 64 bytes, in one area (version 1) or in areas of which one is live (versions 2 and 3), whole numbers highest byte first. A slot is
 open where its first byte is 0xA5.
@@ -426,7 +428,10 @@ class Costs:
 
 class Book:
     """Records as they may follow one another, by an owner's entry, the names of the analysts and the journal's version. What all together cost is
-    `costs`, and what each analyst's reservations cost by themselves is in `own`, by the analyst's number."""
+    `costs`, and what each analyst's reservations cost by themselves is in `own`, by the analyst's number. Of one that stands on two disks `disks` has how
+    many records each of them has (mirrors.py)."""
+
+    disks = {}
 
     def __init__(self, entry, analysts, version=VERSIONS[-1]):
         self.entry, self.analysts, self.version, self.records = entry, analysts, version, []
@@ -562,17 +567,25 @@ def journals_of(folder):
 
 def books(catalog_name, key_name, folder=".", file=contents):
     """Each owner's book, or why there is none."""
-    data, journals = file(catalog_name), journals_of(folder)
+    data = file(catalog_name)
     catalog, key = read(data), file(key_name)
     for order, entry in enumerate(catalog["owners"]):
         try:
-            kept = journal_bytes(f"{journals}/{order}.bud")
-        except FileNotFoundError:
-            kept = b""
-        try:
-            yield book_of(kept, header(data, order, key, file), entry, catalog["analysts"])
+            yield book_in(folder, order, header(data, order, key, file), entry, catalog["analysts"])
         except Refused as refusal:
             yield f"journal {entry['name']} {refusal}"
+
+
+def book_in(folder, order, head, entry, analysts):
+    """An owner's book, on one disk or two."""
+    from mirrors import is_mirrored, opened, side, sides_in
+
+    if is_mirrored(folder):
+        return opened(sides_in(folder, order), head, entry, analysts)
+    data = side(f"{journals_of(folder)}/{order}.bud")
+    if isinstance(data, OSError):
+        raise data
+    return book_of(data, head, entry, analysts)
 
 
 # A copy with what became of it.
@@ -608,12 +621,21 @@ def in_slot(data, slot, entry, analysts):
         return "a record of no such part or analyst"
 
 
+def that_counts(journals, folder, order):
+    """The bytes of an owner's file, of two on two disks those with more records."""
+    from mirrors import MIRRORS, is_gone, is_mirrored, side
+
+    names = [f"{place}/{order}.bud" for place in (journals, *([f"{folder}/{MIRRORS}"] if is_mirrored(folder) else []))]
+    found = [data for data in map(side, names) if len(names) == 2 and not is_gone(data)]
+    return max(found, key=lambda data: len(begun(data, capacity_in(data))) if len(data) >= HEAD else 0) if found else journal_bytes(names[0])
+
+
 def compared(folder, catalog_name, key_name):
     """A line an owner, and one for each record that a copy has otherwise; whether all is as it was."""
     catalog, same = read(contents(catalog_name)), True
     for order, entry in enumerate(catalog["owners"]):
         try:
-            copy, now = journal_bytes(f"{folder}/{order}.bud"), journal_bytes(f"journals/{order}.bud")
+            copy, now = that_counts(folder, folder, order), that_counts("journals", ".", order)
         except FileNotFoundError as fault:
             print(harmless(f"{entry['name']}: there is no {fault.filename}"))
             same = False
@@ -659,7 +681,9 @@ def read_audits(name, copies):
 
 
 def show(words):
-    """The records of each journal; whether none is refused."""
+    """The records of each journal; whether none is refused. Which of two disks lags is said on standard error."""
+    from mirrors import told_of_lags
+
     analysts, refused = read(contents(words[0]))["analysts"], False
     for book in books(*words):
         if isinstance(book, str):
@@ -667,33 +691,53 @@ def show(words):
             refused = True
             continue
         print("\n".join([*book.said(analysts), book.counts()]))
+        for line in told_of_lags(book.entry["name"], book):
+            print(line, file=sys.stderr)
     return not refused
+
+
+def files_of(folder, order):
+    """The owner's file, or both, each with the words that say which it is."""
+    from mirrors import FOLDERS, is_mirrored, sides_in
+
+    if is_mirrored(folder):
+        return [(f" in {name}", data) for name, data in zip(FOLDERS, sides_in(folder, order)) if not isinstance(data, OSError)]
+    name = f"{journals_of(folder)}/{order}.bud"
+    return [("", journal_bytes(name) if os.path.exists(name) else b"")]
 
 
 def show_areas(words):
     """Each journal's version and areas, or why it is refused; whether none is."""
-    catalog, key, folder = read(contents(words[0])), contents(words[1]), words[2] if len(words) == 3 else "."
-    refused, journals = False, journals_of(folder)
+    data, key, folder = contents(words[0]), contents(words[1]), words[2] if len(words) == 3 else "."
+    catalog, refused = read(data), False
     for order, (entry, book) in enumerate(zip(catalog["owners"], books(*words))):
-        data = journal_bytes(f"{journals}/{order}.bud") if os.path.exists(f"{journals}/{order}.bud") else b""
-        if len(data) >= HEAD:
-            live = live_area(data, entry["capacity"])
-            for area in areas(live.version, entry["capacity"]):
-                state = "live" if area.number == live.number else "earlier" if area.number < live.number else "to come"
-                print(f"{entry['name']} version {data[VERSION_AT]} area {area.number} {state}: {area.slots} slots, bytes {area.begin} to {area.end}")
+        files = files_of(folder, order)
+        for where, kept in files:
+            show_layout(f"{entry['name']}{where}", kept, entry["capacity"])
         if isinstance(book, str):
-            print(f"{book}: {why_refused(data, catalog, order, key, words[0])}")
+            print(f"{book}: {why_refused(folder, order, header(data, order, key, contents), entry, catalog['analysts'])}")
             refused = True
-        else:
-            print(f"{entry['name']} {length_of(data)} bytes, {len(book.records)} records of {entry['capacity']}")
+            continue
+        for where, kept in files:
+            if length_of(kept):
+                print(f"{entry['name']}{where} {length_of(kept)} bytes, {len(begun(kept, entry['capacity']))} records of {entry['capacity']}")
     return not refused
 
 
-def why_refused(data, catalog, order, key, catalog_name):
+def show_layout(name, data, capacity):
+    """The areas of a journal, where there is a header."""
+    if len(data) < HEAD:
+        return
+    live = live_area(data, capacity)
+    for area in areas(live.version, capacity):
+        state = "live" if area.number == live.number else "earlier" if area.number < live.number else "to come"
+        print(f"{name} version {data[VERSION_AT]} area {area.number} {state}: {area.slots} slots, bytes {area.begin} to {area.end}")
+
+
+def why_refused(folder, order, head, entry, analysts):
     """Why a journal is refused, in words."""
-    entry = catalog["owners"][order]
     try:
-        book_of(data, header(contents(catalog_name), order, key, contents), entry, catalog["analysts"])
+        book_in(folder, order, head, entry, analysts)
     except Refused as refusal:
         return refusal.how or "there is no header of 128 bytes whose first byte is 0xA5"
     return "it isn't"

@@ -9,8 +9,9 @@ import re
 from bounds import DEPTH_LIMIT, DRAW_LIMIT, LINE_LIMIT, NEST_LIMIT, PROGRAM_LIMIT, TOKEN_LIMIT, TURN_LIMIT, WIDTH_LIMIT
 
 COMMANDS = {
-    "init": "CATALOG KEY", "run": "CATALOG KEY [--workers W] < SCRIPT",
-    "serve": "CATALOG KEY [--addr A] --port P [--workers W] --each N", "audit": "CATALOG KEY", "grant": "CATALOG KEY OWNER AMOUNT",
+    "init": "CATALOG KEY [--mirror]", "run": "CATALOG KEY [--workers W] [--mirror] < SCRIPT",
+    "serve": "CATALOG KEY [--addr A] --port P [--workers W] --each N [--mirror]", "audit": "CATALOG KEY [--mirror]",
+    "grant": "CATALOG KEY OWNER AMOUNT [--mirror]",
     "check": "CATALOG OWNER FILE", "gap": "CATALOG OWNER CATALOG2 FILE", "gen": "SEED N [WORKERS]",
 }  # fmt: skip
 STATUSES = {
@@ -21,7 +22,8 @@ STATUSES = {
     4: "an owner's journal isn't the one that belongs there; nothing was read of the script",
     5: "a file, standard input or standard output failed; what was written is a part of what was due, or nothing; or a port of `serve` couldn't be listened at",
     6: "the disk, or the folder `journals`, failed while an owner's journal was made or opened, or another process has that journal; nothing was asked; of "
-        "`grant` also while its record was written, which may be there or not",
+        "`grant` also while its record was written, which may be there or not. With `--mirror` both disks failed, or the one whose other is empty; of `init` "
+        "either",
     7: "memory ran out before anything was answered; of `serve` and `gen` it may be later, and `check` and `gap` end so of any program that walks bags too "
         "often or too deep",
     8: "the script has over 2^24 bytes, and nothing of it was answered",
@@ -91,8 +93,11 @@ LINES = {
     "journal W damaged N": "the journal of {0} has bytes in its slot {1} (the first is 0) that the program never leaves there, or the wrong length; there "
         "is no repair",
     "journal W changed": "the entry of {0}, the analysts, the key or a table isn't what it was when the journal was made, or it is another owner's",
+    "journal W forked N": "the two disks of the journal of {0} have different records in slot {1} (the first is 0): one of them had missed a run, and was put "
+        "back; there is no repair",
     "journal W exists N": "`init` finds a file of {1} bytes in the place of the journal of {0}",
-    "disk W": "the disk of the journal of {0}, or the folder `journals`, failed, or another process has the journal",
+    "disk W": "the disk of the journal of {0}, or the folder `journals`, failed, or another process has the journal; with `--mirror` both disks, or the one "
+        "whose other is empty",
     "granted W N N": "the budget of {0} is {1} millionths now; its journal has {2} records",
     "too large N": "the budget is {0} millionths, and with the grant it would be over 10^18; nothing changed",
     "full N N": "there is no room for a grant's record: {0} of {1} are taken; nothing changed",

@@ -4,7 +4,7 @@
     put(FILE, TEXT)    writes it, whole or not at all
 
 Of each owner it has the budget and what is left, what was spent by analyst and by partition (whose most expensive part counts), how many numbers were
-answered, number by number, the grants, the numbers that are lost, exhausted or open, and whether the owner is shut. It never has a row, an answer or a
+answered, number by number, the grants, the numbers that are lost, exhausted or open, whether the owner is shut, and whether one of two disks lags. It never has a row, an answer or a
 program. Names are those of the catalog. A browser shows it light or dark, as it is set, and loads it anew each minute.
 """
 import os
@@ -173,7 +173,7 @@ def of_owner(found, name):
 
 def page(found):
     made = time.strftime("%Y-%m-%d %H:%M:%S", time.gmtime(found.made))
-    alerts = "".join(f'<p class="alert" role="alert">{escape(name)} {SHUT}</p>' for name in found.shut)
+    alerts = "".join(f'<p class="alert" role="alert">{escape(said)}</p>' for said in (*(f"{name} {SHUT}" for name in found.shut), *found.lagging()))
     return f"""<!DOCTYPE html>
 <html lang="en">
 <head>

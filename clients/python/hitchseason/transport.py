@@ -77,19 +77,23 @@ class Folder:
         replies = [reply_of(line) for line in ran.stdout.split(b"\n")]
         said = replies[0].strip()
         if ran.returncode in NEVER_ASKED:
-            more = f"`tools/why run {self.catalog} {self.key} < /dev/null` in {self.folder} says more"
+            more = f"`tools/why run {' '.join(self.words())} < /dev/null` in {self.folder} says more"
             raise Failed(f"the program ended with status {ran.returncode}: {meanings.STATUSES[ran.returncode]} ({said}). {more}.", said)
         found = replies[:-1]
         if ran.returncode != 0 or len(found) != len(lines):
             raise Stopped(ended(ran.returncode), found[: len(lines)])
         return found
 
+    def words(self):
+        """Of `run`. Where the folder has `mirrors`, its journals stand on two disks."""
+        return [self.catalog, self.key, *(["--mirror"] if os.path.lexists(os.path.join(self.folder, "mirrors")) else [])]
+
     def ran(self, script, lock):
         """A run in a session of its own, which Ctrl-C at a terminal doesn't reach: what is asked isn't cut by it. It has the lock for as long as it lives."""
         try:
             return subprocess.run(
-                [self.found(), "run", self.catalog, self.key], input=script, cwd=self.folder, stdout=subprocess.PIPE, stderr=subprocess.DEVNULL,
-                check=False, start_new_session=True, pass_fds=(lock,),
+                [self.found(), "run", *self.words()], input=script, cwd=self.folder, stdout=subprocess.PIPE, stderr=subprocess.DEVNULL, check=False,
+                start_new_session=True, pass_fds=(lock,),
             )  # fmt: skip
         except OSError as fault:
             raise Failed(f"{self.program} can't be run: {fault.strerror}") from None

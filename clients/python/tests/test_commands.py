@@ -170,6 +170,17 @@ class Commands(unittest.TestCase):
             ran = run(f"{tools}/journal.py", "catalog.json", "key", "empty")
             self.assertEqual((ran.returncode, ran.stdout), (1, "journal labour uninitialised 0\njournal health uninitialised 0\n"))
 
+    def test_two_disks(self):
+        """Where the folder has `mirrors`, what is asked is recorded there, too."""
+        with survey(budget=20_000_000, capacity=6) as place:
+            place.client().count("persons", eps="0.5")
+            self.assertEqual(subprocess.run([f"{TOP}/tools/mirror", place.folder], capture_output=True).returncode, 0)
+            place.client().count("persons", eps="0.5")
+            ran = subprocess.run(["diff", "-r", "journals", "mirrors"], cwd=place.folder, capture_output=True)
+            self.assertEqual((ran.returncode, ran.stdout), (0, b""))
+            ran = subprocess.run([f"{TOP}/tools/journal.py", "catalog.json", "key"], cwd=place.folder, capture_output=True, text=True)
+            self.assertIn("labour reservations 2 answered 2", ran.stdout)
+
     def test_plot(self):
         asked = self.said("askparts", self.folder, "mia", "labour", "areas", "0.5", self.file, "--json")
         drawn = ElementTree.fromstring(self.said("plot", "histogram", given=asked).encode())
