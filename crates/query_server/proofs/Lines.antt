@@ -11,7 +11,8 @@ use Rattle.owner_books.specs.Shelves.{EachDisk, IsOnlySynced, Shelf}
 use Rattle.query_server.specs.Outside.{Outside}
 use Rattle.query_server.specs.Due.{AreRead, ForContents, IsBeginning, IsFaultyWordsEnd, IsOfRun, IsWrittenAt, MayStop, SomeFailed, files_of, work_of}
 use Rattle.query_server.specs.Promise.{IsAnsweredScript, IsRunLeft}
-use Rattle.query_server.specs.Laws.{FaultyWordsAreTold, LinesAreExact, LinesAreHeadlines, OneWorkerTranscribes, OutsideStays, ProgramsAreExact, RefusalsAreExact, RunsAreAnswered, StatusesAreOfCommands, VerdictsAreExact, WhatIsLoadedIsLawful}
+use Rattle.query_server.specs.Service.{IsServiceLeft}
+use Rattle.query_server.specs.Laws.{FaultyWordsAreTold, LinesAreExact, LinesAreHeadlines, LinesAreServices, OneWorkerTranscribes, OutsideStays, ProgramsAreExact, RefusalsAreExact, RunsAreAnswered, StatusesAreOfCommands, VerdictsAreExact, WhatIsLoadedIsLawful}
 use Rattle.query_server.specs.declared.end.Status.{Status}
 use Rattle.query_server.specs.declared.end.Status.TheVariants as code
 use Rattle.word_streams.specs.Draws.{draws_of}
@@ -31,6 +32,14 @@ lines_exact words before after status text line held files =
       λ script source. (at_told held script before.files.held before.source.left comes files source line.1).0,
       λ written sink. line.0 ∙ ap (λ known. append_known known text) sink,
     )
+
+pub lines_services : LinesAreServices
+lines_services words before after status text line service held files =
+    let comes = Comes words before.files.names after.files.names before.bay.shelf after.bay.shelf status text in
+    let left : ReadsToCome → List ℕ → Type 0 = λ reads script. IsServiceLeft words reads before.bay.shelf after.bay.shelf before.doors after.doors status before.sink.faults after.sink.faults in
+    let some = at_held held before.files.held before.source.left comes files line.1 in
+    let served = at_held held before.files.held before.source.left left files service in
+    (some.0, (some.1.0, (some.1.1, served.1)))
 
 -- the same, as the clauses of a call say it
 pub line_told : (words : List (List ℕ)) (told : Contents) (script written : List ℕ) (held : Option Contents) (left contents now : Option (List ℕ)) (old new : List (List ℕ)) (b a : Shelf) (status : Status) (text : List ℕ)

@@ -110,6 +110,16 @@ LinesAreHeadlines = (words : List (List ℕ)) (before after : Outside) (status :
     × ((held : Contents) (script : List ℕ) → before.files.held ≡ Some held → before.source.left ≡ Some script
     → IsRunLeft words (always held) before.bay.shelf after.bay.shelf script status text)
 
+-- Of a service, what `line` and `service` say is of the same contents, where files tell what they hold: of these.
+abbrev pub LinesAreServices : Type 0
+LinesAreServices = (words : List (List ℕ)) (before after : Outside) (status : Status) (text : List ℕ) → IsLine words before after status text
+    → ForContents before.files.held before.source.left
+    (λ reads script. IsServiceLeft words reads before.bay.shelf after.bay.shelf before.doors after.doors status before.sink.faults after.sink.faults)
+    → (held : Contents) → before.files.held ≡ Some held
+    → (script : List ℕ) × IsWrittenAt (work_of words (always held)) before.bay.shelf after.bay.shelf script status text
+    × AreRead status (files_of words (always held)) before.files.names after.files.names
+    × IsServiceLeft words (always held) before.bay.shelf after.bay.shelf before.doors after.doors status before.sink.faults after.sink.faults
+
 -- A run that ends with status Done has answered its script; and one that was to answer a script has done so, or has written to no
 -- owner's disk: from `headline`.
 abbrev pub RunsAreAnswered : Type 0

@@ -7,7 +7,7 @@ ghost use Rattle.query_server.specs.Laws.{LinesAreExact, ProgramsAreExact, Refus
 ghost use Rattle.query_server.specs.Laws.{FaultyWordsAreTold, StatusesAreOfCommands};
 ghost use Rattle.query_server.specs.Laws.{AuditsKeepWhatWasFound, GrantsKeepWhatWasFound, RunsKeepWhatWasFound, ServicesKeepWhatWasFound};
 ghost use Rattle.query_server.specs.Laws.{OneWorkerWritesTheTranscript, OwnersMakeTheHeadline};
-ghost use Rattle.query_server.specs.Laws.{LinesAreHeadlines, ValidCommandsEndWell, WhatIsGrantedIsLawful, WhatIsLoadedIsLawful};
+ghost use Rattle.query_server.specs.Laws.{LinesAreHeadlines, LinesAreServices, ValidCommandsEndWell, WhatIsGrantedIsLawful, WhatIsLoadedIsLawful};
 
 /// Where files, source and sink tell what they hold, what the top call writes and reads is exactly what is due.
 pub fn lines_are_exact()
@@ -42,6 +42,11 @@ pub fn faulty_words_are_told()
 /// What `line` says of a run is what `headline` says, of the same contents and text.
 pub fn lines_are_headlines()
     ensures { LinesAreHeadlines }
+{}
+
+/// What `line` and `service` say of a service is of the same contents of files, where these tell what they hold.
+pub fn lines_are_services()
+    ensures { LinesAreServices }
 {}
 
 /// A run with status Done has answered its script; at another it has, or has written to no owner's disk.
