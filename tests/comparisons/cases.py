@@ -156,8 +156,6 @@ class Case:
             self.disks, self.astray = list(self.kept[0]), self.kept[1]
         elif word == "new":
             self.disks, self.astray = [b""] * 4, False
-        elif word == "swap":
-            self.disks[0], self.disks[2] = self.disks[2], self.disks[0]
         elif word == "fail":
             self.astray = True
 
