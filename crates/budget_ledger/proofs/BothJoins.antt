@@ -1,7 +1,8 @@
 -- What two disks that were read make, and the book of it.
-use Rattle.std.proofs.Common.{◌≡◌, ◌⊎◌, ℕ, suc, ◌+◌, ◌<◌, ◌≤◌, Bool, true, false, List, [], ◌∷◌, ◌++◌, length, length-append, take, drop, get_or, All, refl, sym, ◌∙◌, ap, subst, arith, inl, inr, Option, Some, None, min}
-use Rattle.std.specs.Prelude.{IfSome, ⊤}
+use Rattle.std.proofs.Common.{◌≡◌, ◌⊎◌, ℕ, suc, ◌+◌, ◌<◌, ◌≤◌, Bool, true, false, List, [], ◌∷◌, ◌++◌, length, length-append, take, drop, get_or, All, refl, sym, ◌∙◌, ap, subst, arith, inl, inr, Option, Some, None, Result, Ok, Err, min}
+use Rattle.std.specs.Prelude.{IfSome, IfOk, IfErr, ⊤}
 use Rattle.std.proofs.lemmas.List.{take_all, take-append-drop, take-append-le, nil_from_length, append-nil}
+use Rattle.std.proofs.lemmas.Bool.{cases_lt}
 use mathlib.Core.List.{IsPrefix}
 use Rattle.fz_outside.specs.Faults.{HasRisen}
 use Rattle.outside_disks.specs.Disks.{Trace, Shown, WhereTold, seen_of}
@@ -19,7 +20,7 @@ use Rattle.budget_ledger.specs.Account.{Failure, Held, Copy, Account, IsKeptNow,
 use Rattle.budget_ledger.specs.Both.{Reading, IsReading, RefusesBoth, HoldsBytes, AgreeOnCost, IsFork, Make, MakeNone, AreUnfit, IsBothFault, IsLeft, AreLeft, HaveFailed}
 use Rattle.budget_ledger.specs.Both.{twins_of, copy_read, IsOpenedCopy, IsOpenedBoth}
 use Rattle.budget_ledger.specs.Both.Reading.{Missing, Holding, Unfit}
-use Rattle.budget_ledger.specs.Joined.{reading_in, disk_under, half_of, side_of, HasRoom, IsHalfOf, IsWholeHalf, IsRead, IsSight, IsFresh, IsFreshHalf, AreFresh, HalfLevelled, IsJudged}
+use Rattle.budget_ledger.specs.Joined.{reading_in, disk_under, half_of, side_of, HasRoom, IsHalfOf, IsWholeHalf, IsRead, IsSight, IsFresh, IsFreshHalf, AreFresh, SideLevelled, HalfLevelled, IsJudged}
 use Rattle.budget_ledger.specs.Kept.{HoldsSide, HoldsHalf, HoldsBook, shown_on, held_on, copy_on, disk_in, storage_in}
 use Rattle.budget_ledger.specs.declared.both.BothFault.{BothFault}
 use Rattle.budget_ledger.specs.declared.both.BothFault.TheVariants.{Refused, Forked, VersionsDiffer}
@@ -47,12 +48,9 @@ front a b n long same = (drop n b, ap (λ (rs : List Record). rs ++ drop n b) (s
 
 -- Where they are alike up to one's length, it begins the other.
 pub alike_along : (a b : List Record) (n : ℕ) → min (length a) (length b) ≤ n → take n a ≡ take n b → IsPrefix a b ⊎ IsPrefix b a
-alike_along a b n most same = by (less_or (length a) (length b))
+alike_along a b n most same = by (cases_lt (length a) (length b))
   where
-    less_or : (x y : ℕ) → (x ≤ y) ⊎ (y ≤ x)
-    less_or x y = grind arith
-
-    by : (length a ≤ length b) ⊎ (length b ≤ length a) → IsPrefix a b ⊎ IsPrefix b a
+    by : (length a < length b) ⊎ (length b ≤ length a) → IsPrefix a b ⊎ IsPrefix b a
     by (inl short) = inl (front a b n (omega (arith, short, most)) same)
     by (inr short) = inr (front b a n (omega (arith, short, most)) (sym same))
 
@@ -66,19 +64,16 @@ longer_begins a b long (inl (rest, is)) =
 pub makes_longer : (v w : ℕ) (a b : List Record) (version : ℕ) (records : List Record) → AgreeOnCost v w × (IsPrefix a b ⊎ IsPrefix b a)
     → (length b ≤ length a → (version ≡ v) × (records ≡ a)) → (length a < length b → (version ≡ w) × (records ≡ b))
     → Make (Holding v a) (Holding w b) version records
-makes_longer v w a b version records (agree, ordered) first second = (agree, by (less_or (length b) (length a)))
+makes_longer v w a b version records (agree, ordered) first second = (agree, by (cases_lt (length a) (length b)))
   where
-    less_or : (x y : ℕ) → (x ≤ y) ⊎ (y < x)
-    less_or x y = grind arith
-
     swapped : IsPrefix a b ⊎ IsPrefix b a → IsPrefix b a ⊎ IsPrefix a b
     swapped (inl p) = inr p
     swapped (inr p) = inl p
 
-    by : (length b ≤ length a) ⊎ (length a < length b)
+    by : (length a < length b) ⊎ (length b ≤ length a)
         → (IsPrefix b a × (version ≡ v) × (records ≡ a)) ⊎ (IsPrefix a b × (length a < length b) × (version ≡ w) × (records ≡ b))
-    by (inl long) = inl (longer_begins a b long ordered, (first long).0, (first long).1)
-    by (inr less) = inr (longer_begins b a (omega (arith, less)) (swapped ordered), less, (second less).0, (second less).1)
+    by (inl less) = inr (longer_begins b a (omega (arith, less)) (swapped ordered), less, (second less).0, (second less).1)
+    by (inr long) = inl (longer_begins a b long ordered, (first long).0, (first long).1)
 
 -- ---- a disk that was read
 
@@ -304,6 +299,9 @@ module _ {D : Type 0} (trace : D → Option Trace) (faults : D → ℕ) (header 
   disk_in_half (sight.Has journal own) = refl
   disk_in_half (sight.Unfit now fault) = refl
 
+  pub disk_of_half : (h : Half D) (s : Sight D) → h ≡ half_of header s → (d : D) → d ≡ disk_in h → d ≡ disk_under s
+  disk_of_half h s is d at = at ∙ ap disk_in is ∙ disk_in_half s
+
   -- a refusal, of two disks that were read
   module _ (entry : Entry) (d e : D) (s t : Sight D) (is : IsSight trace faults header d s) (at : IsSight trace faults header e t) (one other : D)
       (first : one ≡ disk_under s) (second : other ≡ disk_under t) (fault : BothFault) where
@@ -331,8 +329,35 @@ module _ {D : Type 0} (trace : D → Option Trace) (faults : D → ℕ) (header 
         (subst (λ (y : D). HaveFailed (twins_of trace faults d e) (twins_of trace faults (disk_under s) y)) (sym second)
         (both_failed d e s t is at (subst (MakeNone (reading_in s) (reading_in t)) failed none)))
 
-  pub disk_of_half : (h : Half D) (s : Sight D) → h ≡ half_of header s → (d : D) → d ≡ disk_in h → d ≡ disk_under s
-  disk_of_half h s is d at = at ∙ ap disk_in is ∙ disk_in_half s
+  -- what was judged
+  module _ (entry : Entry) (d e : D) (s t : Sight D) (joined : Joined D) (is : IsSight trace faults header d s) (at : IsSight trace faults header e t)
+      (made : Make (reading_in s) (reading_in t) joined.version joined.records.items) (first : joined.first ≡ half_of header s) (second : joined.second ≡ half_of header t) where
+    abbrev Unfits : BothFault → Type 0
+    Unfits fault = AreUnfit (record entry { version = joined.version }) joined.records.items fault
+
+    pub judged_opened : {E : Type 0} (r : Result Account E) → IfOk r (IsJudged trace faults entry header joined) → IfOk r (IsOpenedBoth entry header (twins_of trace faults d e))
+    judged_opened (Ok book) judged = opened_both entry d e s t joined book is at made first second judged
+    judged_opened (Err refused) judged = tt
+
+    pub judged_refused : {B : Type 0} (r : Result B (D × D × BothFault)) → IfErr r (λ refused. Unfits refused.2)
+        → IfErr r (λ refused. (refused.0 ≡ disk_in joined.first) × (refused.1 ≡ disk_in joined.second))
+        → IfErr r (λ refused. IsBothFault entry header (twins_of trace faults d e) (twins_of trace faults refused.0 refused.1) refused.2)
+    judged_refused (Ok book) unfit disks = tt
+    judged_refused (Err refused) unfit disks = both_refused entry d e s t is at refused.0 refused.1
+        (disk_of_half joined.first s first refused.0 disks.0) (disk_of_half joined.second t second refused.1 disks.1) refused.2
+        (inr (joined.version, joined.records.items, made, unfit))
+
+    pub judged_left : {B : Type 0} (r : Result B (D × D × BothFault))
+        → IfErr r (λ refused. (refused.0 ≡ disk_in joined.first) × (refused.1 ≡ disk_in joined.second))
+        → IfErr r (λ refused. AreLeft (twins_of trace faults d e) (twins_of trace faults refused.0 refused.1))
+    judged_left (Ok book) disks = tt
+    judged_left (Err refused) disks = both_left entry d e s t is at refused.0 refused.1
+        (disk_of_half joined.first s first refused.0 disks.0) (disk_of_half joined.second t second refused.1 disks.1) refused.2
+
+    pub judged_cause : {B : Type 0} (r : Result B (D × D × BothFault)) → IfErr r (λ refused. Unfits refused.2)
+        → IfErr r (λ refused. refused.2 ≡ Refused DiskFault → HaveFailed (twins_of trace faults d e) (twins_of trace faults refused.0 refused.1))
+    judged_cause (Ok book) unfit = tt
+    judged_cause (Err refused) unfit = λ failed. absurd (subst Unfits failed unfit)
 
   -- ---- a half that gets what it lacks
 
@@ -380,3 +405,32 @@ module _ {D : Type 0} (trace : D → Option Trace) (faults : D → ℕ) (header 
           → IsInUse (copy_on trace faults ledger.records first) ⊎ IsInUse (copy_on trace faults ledger.records second)
       in_use (inl all) = inl (whole_use ledger.records first all)
       in_use (inr all) = inr (whole_use ledger.records second all)
+
+  -- ---- a journal that gets what it lacks
+
+  -- one that lacks nothing
+  pub lacks_nothing : (records : List Record) (side : Side D) → IsFresh trace faults records side → length records ≤ side.has
+      → HoldsSide trace faults side.header records None side × SideLevelled trace faults records side side
+  lacks_nothing records side fresh whole =
+      let all : take side.has records ≡ records = take_all side.has records whole in (
+        subst (λ (rs : List Record). HoldsSide trace faults side.header rs None side) all fresh.holds,
+        subst (λ (rs : List Record). HeldWent (Shows (disk_of side.journal)) (Shows (disk_of side.journal)) (held_on trace faults rs side) (held_on trace faults records side))
+            (sym all) (held_self (Shows (disk_of side.journal)) (held_on trace faults records side)),
+      )
+
+  -- under the header of the book
+  pub holds_levelled : (common : Header) (records : List Record) (old new : Side D) → old.header ≡ record common { version = old.header.version }
+      → HoldsSide trace faults old.header records None new → SideLevelled trace faults records old new → HoldsSide trace faults common records None new
+  holds_levelled common records old new of holds went = record {
+    copy = record {
+      header = went.header ∙ of ∙ ap (λ (h : Header). record common { version = h.version }) (sym went.header);
+      begins = holds.copy.begins;
+      whole = holds.copy.whole;
+      kept = holds.copy.kept;
+      failed = holds.copy.failed;
+      follows = holds.copy.follows;
+    };
+    journal = holds.journal;
+    has = holds.has;
+    whole = holds.whole;
+  }

@@ -13,8 +13,8 @@ ghost use Rattle.budget_ledger.specs.Both.{twins_of, AgreeOnCost, IsFork, Make, 
 ghost use Rattle.budget_ledger.specs.Both.{IsOpenedBoth, BothOpenWhatStands, BothFindTheLonger, HasMade, IsBothInitFault};
 ghost use Rattle.budget_ledger.specs.Both.Reading.{Missing, Holding};
 ghost use Rattle.budget_ledger.specs.Joined.{IsSight, HasRoom, reading_in, disk_under, half_of, side_of, unfit_by};
-ghost use Rattle.budget_ledger.specs.Joined.{IsHalfOf, IsFreshHalf, IsWholeHalf, HalfLevelled, IsJudged, AreFresh};
-ghost use Rattle.budget_ledger.specs.Kept.{HoldsHalf, disk_in, shown_on};
+ghost use Rattle.budget_ledger.specs.Joined.{IsHalfOf, IsFresh, IsFreshHalf, IsWholeHalf, SideLevelled, HalfLevelled, IsJudged, AreFresh};
+ghost use Rattle.budget_ledger.specs.Kept.{HoldsSide, HoldsHalf, disk_in, shown_on};
 
 use crate::book::Book;
 use crate::halves::{Half, Side, Store, level};
@@ -270,6 +270,20 @@ fn join<D: Disk>(
 }
 
 // Brings a journal that has the first ones of these records up to all of them, unless its disk fails.
+fn level_side<D: Disk>(side: &mut Side<D>, records: &[Record])
+    requires fresh { IsFresh D.trace D.faults records.now side.old }
+    requires valid { All IsValid records.now }
+    ensures holds { HoldsSide D.trace D.faults side.old.header records.now None side.new }
+    ensures levelled { SideLevelled D.trace D.faults records.now side.old side.new }
+    ensures whole { side.old.has ≡ length records.now → side.new ≡ side.old }
+{
+    if records.len() <= side.has as usize {
+        return;
+    }
+    level(side, records);
+}
+
+// The same of one of two disks, unless it is gone.
 fn level_half<D: Disk>(half: &mut Half<D>, records: &[Record])
     requires fresh { IsFreshHalf D.trace D.faults records.now half.old }
     requires valid { All IsValid records.now }
@@ -277,10 +291,9 @@ fn level_half<D: Disk>(half: &mut Half<D>, records: &[Record])
     ensures levelled { HalfLevelled D.trace D.faults records.now half.old half.new }
     ensures whole { IsWholeHalf records.now half.old → half.new ≡ half.old }
 {
-    if let Half::Kept(side) = half {
-        if (side.has as usize) < records.len() {
-            level(side, records);
-        }
+    match half {
+        Half::Gone(_) => (),
+        Half::Kept(side) => level_side(side, records),
     }
 }
 
