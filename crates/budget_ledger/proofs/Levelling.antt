@@ -55,6 +55,7 @@ module _ {D : Type 0} (trace : D → Option Trace) (faults : D → ℕ) where
       room = λ none. omega (arith, holds.journal.counted none, length-take-le slot records (omega arith), low, room);
     };
     counted = λ none. holds.journal.counted none ∙ sym (holds.whole none);
+    room = holds.journal.room;
   }
 
   pub level_step : (common : Header) (found records more : List Record) (next : Record) (start mid new : Side D) (answer : Result ⊤ AppendFault) → more ≡ records ++ next ∷ []

@@ -1,5 +1,5 @@
 -- What an append makes of a journal on one of two disks.
-use Rattle.std.proofs.Common.{◌≡◌, ◌⊎◌, ℕ, ◌+◌, ◌<◌, ◌≤◌, take, List, [], ◌∷◌, ◌++◌, length, length-append, refl, sym, ◌∙◌, ap, subst, arith, inl, inr, Option, Some, None, Result, Ok, Err, IsOk}
+use Rattle.std.proofs.Common.{◌≡◌, ◌⊎◌, ℕ, ◌+◌, ◌<◌, ◌≤◌, take, List, [], ◌∷◌, ◌++◌, length, length-append, refl, sym, ◌∙◌, ap, subst, arith, inl, inr, Bool, true, false, Option, Some, None, Result, Ok, Err, IsOk}
 use Rattle.std.specs.Prelude.{IfSome, IsSome, ⊤}
 use Rattle.std.proofs.lemmas.List.{take_all, take-append-le}
 use Rattle.std.proofs.lemmas.Bool.{ltb-true, ltb-false}
@@ -28,7 +28,7 @@ prefix_length a b p = omega (arith, length-append a p.0, ap (λ (rs : List Recor
 pub above : (before after : ℕ) → HasRisen before after → before ≤ after → 0 < after
 above before after risen later = by_case (ltb before last_count) refl
   where
-    by_case : (low : _) → ltb before last_count ≡ low → 0 < after
+    by_case : (low : Bool) → ltb before last_count ≡ low → 0 < after
     by_case true low = let up : before < after = risen (ltb-true before last_count low) in omega (arith, up)
     by_case false high = let most : last_count ≤ before = ltb-false before last_count high in omega (arith, most, later)
 
@@ -134,8 +134,8 @@ module _ {D : Type 0} (trace : D → Option Trace) (faults : D → ℕ) (common 
       as_many : new.has ≡ length records
       as_many = omega (arith, f.has, holds.whole out)
 
-      fell : held_on trace faults all new ≡ record { header = old.header; has = records; closed = Some here }
-      fell = λ i. record {
+      now_fallen : held_on trace faults all new ≡ record { header = old.header; has = records; closed = Some here }
+      now_fallen = λ i. record {
         header = f.header i;
         has = (keeps new.has (omega (arith, as_many)) ∙ take_all new.has records (omega (arith, as_many))) i;
         closed = f.failed.closed i;
@@ -157,7 +157,7 @@ module _ {D : Type 0} (trace : D → Option Trace) (faults : D → ℕ) (common 
 
       pub fallen_holds : Holds all closed new
       fallen_holds = record {
-        copy = subst (IsHeldCopy common all closed (shown_on trace faults (disk_of new.journal))) (sym fell) fallen_copy;
+        copy = subst (IsHeldCopy common all closed (shown_on trace faults (disk_of new.journal))) (sym now_fallen) fallen_copy;
         journal = record {
           room = f.room ∙ holds.journal.room ∙ ap (λ (h : Header). h.capacity) (sym f.header);
           counted = λ still. gone still;
@@ -184,7 +184,7 @@ module _ {D : Type 0} (trace : D → Option Trace) (faults : D → ℕ) (common 
       fallen_went = subst (λ (h : Held). HeldWent (shown_on trace faults (disk_of old.journal)) (shown_on trace faults (disk_of new.journal)) h (held_on trace faults all new))
           (sym (had old holds out))
           (subst (HeldWent (shown_on trace faults (disk_of old.journal)) (shown_on trace faults (disk_of new.journal)) (record { header = old.header; has = records; closed = None }))
-          (sym fell) fell_on)
+          (sym now_fallen) fell_on)
 
       which : here ≡ failure
       which = same_failure here failure (sym f.failed.closed ∙ f.dropped)

@@ -55,6 +55,7 @@ module _ {D : Type 0} (trace : D → Option Trace) (faults : D → ℕ) (ledger 
       room = λ still. omega (arith, holds.journal.counted still, holds.journal.room, ap (λ (h : Header). h.capacity) holds.copy.header, room);
     };
     counted = λ still. holds.journal.counted still ∙ sym (holds.whole still);
+    room = holds.journal.room;
   }
 
   halves_ready : (first second : Half D) → Holds ledger (Two first second) None → length ledger.records < ledger.entry.capacity → IsReadyHalf first × IsReadyHalf second

@@ -40,6 +40,7 @@ module _ {D : Type 0} where
   pub record IsReadySide (side : Side D) : Type 0 where
     pub journal : IsReady side.journal side.failure
     pub counted : side.failure ≡ None → used side.journal ≡ side.has
+    pub room : capacity_of side.journal ≡ side.header.capacity
 
   abbrev pub IsReadyHalf : Half D → Type 0
   IsReadyHalf (Gone disk) = ⊤

@@ -49,6 +49,7 @@ fn append_to_side<D: Disk>(side: &mut Side<D>, next: &Record) -> Result<(), Appe
     ensures stopped { IfErr result (λ fault. IsUnappendedOn D.trace D.faults next.now side.old side.new fault) }
     ensures room { capacity_of side.new.journal ≡ capacity_of side.old.journal }
 {
+    let _capacity = side.header.capacity;
     write_down(&mut side.journal, &mut side.failure, next)?;
     side.has += 1;
     Ok(())
@@ -63,10 +64,10 @@ pub(crate) fn level<D: Disk>(side: &mut Side<D>, records: &[Record])
     requires valid { All IsValid records.now }
     ensures holds { HoldsSide D.trace D.faults side.old.header records.now None side.new }
     ensures went { HeldWent (shown_on D.trace D.faults (disk_of side.old.journal)) (shown_on D.trace D.faults (disk_of side.new.journal))
-        (held_on (take side.old.has records.now) side.old) (held_on records.now side.new) }
+        (held_on D.trace D.faults (take side.old.has records.now) side.old) (held_on D.trace D.faults records.now side.new) }
 {
     for slot in side.has as usize..records.len() {
-        let _dropped_or_written = append_to_side(side, &records[slot]);
+        let _told = append_to_side(side, &records[slot]);
     }
 }
 

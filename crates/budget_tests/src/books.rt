@@ -12,6 +12,7 @@ use budget_ledger::book::{AppendFault, Book, BookFault, GrantFault};
 use journal_records::coding::encode;
 use journal_records::records::{Header, Outcome, Record, Settlement};
 use outside_disks::disk::Disk;
+use outside_disks::disks::Disks;
 use outside_disks::failing::{BlipDisk, FuseDisk};
 use outside_disks::memory::{Limits, MemDisk};
 use partition_charge::view::View;
@@ -96,12 +97,19 @@ fn ask_and_settle<D: Disk>(book: &mut Book<D>) -> Result<Result<u32, AppendFault
     }
 }
 
+// The disk of a book, or the first of two.
+fn disk_of<D: Disk + Drop>(book: Book<D>) -> D {
+    match book.into_disks() {
+        Disks::One(disk) | Disks::Both(disk, _) => disk,
+    }
+}
+
 /// The disk of a book in which was asked and settled, as far as that went.
-fn used<D: Disk>(alloc: Global, disk: D) -> D {
+fn used<D: Disk + Drop>(alloc: Global, disk: D) -> D {
     match opened(alloc, disk, 100) {
         Ok(mut book) => {
             let _answer = ask_and_settle(&mut book);
-            book.into_disk()
+            disk_of(book)
         }
         Err((disk, _)) => disk,
     }
@@ -137,7 +145,7 @@ fn stopped(alloc: Global) -> Option<Vec<u8>> {
     if ask(&mut book) != Ok(GRANT) || book.recall(0, 0) != (Recall::Open { seen: 1 }) {
         return None;
     }
-    book.into_disk().bytes().to_vec(alloc).ok()
+    disk_of(book).bytes().to_vec(alloc).ok()
 }
 
 /// Whether the book tells that its one reservation was lost, and counts it.
@@ -325,7 +333,7 @@ fn grants(rt: HostRuntime) {
     let asked = ask(&mut book);
     let large = book.grant(1_000_000_000_000_000_000);
     let granted = book.grant(5);
-    let again = opened(alloc, book.into_disk(), 100)
+    let again = opened(alloc, disk_of(book), 100)
         .ok()
         .expect(&rt, "a book");
     assert!(rt; asked == Ok(GRANT) && granted == Ok(RAISED));
@@ -409,7 +417,7 @@ fn answered(alloc: Global, times: u32) -> Option<MemDisk<'static>> {
             return None;
         }
     }
-    Some(book.into_disk())
+    Some(disk_of(book))
 }
 
 // After 32 answers area 0 is full. The next reservation stands in area 1.
@@ -426,7 +434,7 @@ fn a_growth(rt: HostRuntime) {
         seen: 65,
     };
     assert!(rt; ask_freely(&mut book) == Ok(next));
-    let grown = book.into_disk();
+    let grown = disk_of(book);
     assert!(rt; grown.bytes().len() == 10_624);
     assert!(rt; grown.bytes().get(97) == Some(&0xA5));
     assert!(rt; grown.bytes().get(8320) == Some(&0xA5));
@@ -443,7 +451,7 @@ fn left_exhausted(alloc: Global, version: u8) -> Option<(Left, Left)>
     let grant = ask(&mut book).ok()?;
     book.settle(grant.number, Outcome::Exhausted).ok()?;
     let left = book.left();
-    let again = opened(alloc, book.into_disk(), 100).ok()?;
+    let again = opened(alloc, disk_of(book), 100).ok()?;
     Some((left, again.left()))
 }
 

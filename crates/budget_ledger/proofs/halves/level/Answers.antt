@@ -16,18 +16,20 @@ loop-slot-init g c = record {
   room = refl;
 }
 
-pub append_to_side-requires-clause-ready : goal.append_to_side-requires-clause-ready
-append_to_side-requires-clause-ready g c =
+pub append_to_side-told-requires-clause-ready : goal.append_to_side-told-requires-clause-ready
+append_to_side-told-requires-clause-ready g c =
     level_ready g.D.Disk.trace g.D.Disk.faults c.args.side.now.header c.args.records.now c.loop-slot.slot c.loop-slot.side c.loop-slot.invariant.holds c.loop-slot-test.true
     (omega (arith, c.loop-slot.invariant.room, c.requires.room))
 
 pub loop-slot-preserved : goal.loop-slot-preserved
 loop-slot-preserved g c =
+    let ready = level_ready g.D.Disk.trace g.D.Disk.faults c.args.side.now.header c.args.records.now c.loop-slot.slot c.loop-slot.side c.loop-slot.invariant.holds
+        c.loop-slot-test.true (omega (arith, c.loop-slot.invariant.room, c.requires.room)) in
     let next = level_step g.D.Disk.trace g.D.Disk.faults c.args.side.now.header (take c.args.side.now.has c.args.records.now) (take c.loop-slot.slot c.args.records.now)
-        (take (c.loop-slot.slot + 1) c.args.records.now) _ c.args.side.now c.loop-slot.side c.append_to_side.new.side c.append_to_side.result
-        (take_next c.args.records.now c.loop-slot.slot _ c.loop-slot-test.true) c.loop-slot.invariant.holds (append_to_side-requires-clause-ready g c)
-        c.loop-slot.invariant.went c.append_to_side.ensures.written c.append_to_side.ensures.stopped in
-    record { holds = next.0; went = next.1; room = c.append_to_side.ensures.room ∙ c.loop-slot.invariant.room }
+        (take (c.loop-slot.slot + 1) c.args.records.now) _ c.args.side.now c.loop-slot.side c.append_to_side-told.new.side c.append_to_side-told.result
+        (take_next c.args.records.now c.loop-slot.slot _ c.loop-slot-test.true) c.loop-slot.invariant.holds ready
+        c.loop-slot.invariant.went c.append_to_side-told.ensures.written c.append_to_side-told.ensures.stopped in
+    record { holds = next.0; went = next.1; room = c.append_to_side-told.ensures.room ∙ c.loop-slot.invariant.room }
 
 pub returns : goal.returns
 returns g c =
