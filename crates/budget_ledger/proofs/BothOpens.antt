@@ -164,13 +164,13 @@ has_told header v a (Some t) count copy tells still (Holding w b) (Some u, found
     ap (λ (n : ℕ). Holding n b) (the_version header v a (seen_of t) tells w b here) ∙ ap (Holding v) (the_records header v a (seen_of t) tells w b here)
 has_told header v a (Some t) count copy tells still (Unfit fault) is = absurd is
 
-first_begins : (v : ℕ) (a : List Record) (s : Reading) (version : ℕ) (records : List Record) → Make (Holding v a) s version records → IsPrefix a records
+pub first_begins : (v : ℕ) (a : List Record) (s : Reading) (version : ℕ) (records : List Record) → Make (Holding v a) s version records → IsPrefix a records
 first_begins v a (Missing empty) version records (is, are) = subst (IsPrefix a) (sym are) (prefix_self a)
 first_begins v a (Holding w b) version records (agree, inl (begins, is, are)) = subst (IsPrefix a) (sym are) (prefix_self a)
 first_begins v a (Holding w b) version records (agree, inr (begins, less, is, are)) = subst (IsPrefix a) (sym are) begins
 first_begins v a (Unfit fault) version records made = absurd made
 
-second_begins : (w : ℕ) (b : List Record) (r : Reading) (version : ℕ) (records : List Record) → Make r (Holding w b) version records → IsPrefix b records
+pub second_begins : (w : ℕ) (b : List Record) (r : Reading) (version : ℕ) (records : List Record) → Make r (Holding w b) version records → IsPrefix b records
 second_begins w b (Missing empty) version records (is, are) = subst (IsPrefix b) (sym are) (prefix_self b)
 second_begins w b (Holding v a) version records (agree, inl (begins, is, are)) = subst (IsPrefix b) (sym are) begins
 second_begins w b (Holding v a) version records (agree, inr (begins, less, is, are)) = subst (IsPrefix b) (sym are) (prefix_self b)

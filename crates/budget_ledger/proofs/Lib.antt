@@ -1,5 +1,8 @@
+pub mod BothJoins
+pub mod BothMade
 pub mod BothOpens
 mod Examples
+mod ExamplesOfBoth
 mod ExamplesOfCopies
 pub mod Forks
 pub mod Grants

@@ -124,5 +124,5 @@ module _ {D : Type 0} (trace : D → Option Trace) (faults : D → ℕ) where
     pub second : Half D
     pub ledger : book.ledger ≡ record { entry = record entry { version = joined.version }; found = joined.records.items; records = joined.records.items }
     pub storage : book.storage ≡ storage_in trace faults joined.records.items (record header { version = joined.version }) (Two first second) None
-    pub on_first : HalfLevelled joined.records.items joined.first first
-    pub on_second : HalfLevelled joined.records.items joined.second second
+    pub went_first : HalfLevelled joined.records.items joined.first first
+    pub went_second : HalfLevelled joined.records.items joined.second second

@@ -18,7 +18,7 @@ use outside_disks::memory::{Limits, MemDisk};
 use partition_charge::view::View;
 use std::alloc::{AllocError, Global};
 
-const LIMITS: Limits = Limits {
+pub const LIMITS: Limits = Limits {
     length: 16_384,
     calls: 65_536,
     written: 65_536,
@@ -60,7 +60,7 @@ fn opened<D: Disk>(alloc: Global, disk: D, capacity: u32) -> Result<Book<D>, (D,
 }
 
 /// A first analyst's ask about the whole, at epsilon 1.
-fn ask<D: Disk>(book: &mut Book<D>) -> Result<Grant, BookFault>
+pub fn ask<D: Disk>(book: &mut Book<D>) -> Result<Grant, BookFault>
     ensures { IfOk result (λ grant. IsUnsettled book.new.ledger grant.number) }
 {
     let _spent = book.spent();
@@ -75,7 +75,7 @@ fn ask<D: Disk>(book: &mut Book<D>) -> Result<Grant, BookFault>
 }
 
 /// The same ask of a program that costs nothing.
-fn ask_freely<D: Disk>(book: &mut Book<D>) -> Result<Grant, BookFault>
+pub fn ask_freely<D: Disk>(book: &mut Book<D>) -> Result<Grant, BookFault>
     ensures { IfOk result (λ grant. IsUnsettled book.new.ledger grant.number) }
 {
     let _spent = book.spent();
@@ -90,7 +90,7 @@ fn ask_freely<D: Disk>(book: &mut Book<D>) -> Result<Grant, BookFault>
 }
 
 /// Asks, and settles the answer 5 where it is granted.
-fn ask_and_settle<D: Disk>(book: &mut Book<D>) -> Result<Result<u32, AppendFault>, BookFault> {
+pub fn ask_and_settle<D: Disk>(book: &mut Book<D>) -> Result<Result<u32, AppendFault>, BookFault> {
     match ask(book) {
         Ok(grant) => Ok(book.settle(grant.number, Outcome::Answered(5))),
         Err(fault) => Err(fault),
@@ -115,7 +115,7 @@ fn used<D: Disk + Drop>(alloc: Global, disk: D) -> D {
     }
 }
 
-fn second_settlement() -> Record
+pub fn second_settlement() -> Record
     ensures { IsValid result }
 {
     Record::Settle(Settlement {
@@ -401,7 +401,7 @@ fn a_record_that_may_not_follow(rt: HostRuntime) {
 }
 
 /// Asks for nothing, and settles the answer 1.
-fn answer_freely<D: Disk>(book: &mut Book<D>) -> bool {
+pub fn answer_freely<D: Disk>(book: &mut Book<D>) -> bool {
     match ask_freely(book) {
         Ok(grant) => book.settle(grant.number, Outcome::Answered(1)).is_ok(),
         Err(_) => false,

@@ -15,3 +15,5 @@ mod ledgers;
 mod locks;
 #[cfg(test)]
 mod sheets;
+#[cfg(test)]
+mod twins;

@@ -1,4 +1,5 @@
 use Rattle.std.proofs.Common.{◌≡◌, refl}
+use Rattle.budget_ledger.proofs.BothJoins.{alike_along, alike_more}
 use Rattle.budget_ledger.proofs.both.fork.Goals as goal
 
 pub loop-slot-init : goal.loop-slot-init
