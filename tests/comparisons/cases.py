@@ -80,35 +80,28 @@ def told(port, sent):
     return found
 
 
-# Of two owners the disks and, behind them, the mirrors, which commands without --mirror leave as they are.
-PLACES = [(folder, owner) for folder in ("journals", "mirrors") for owner in range(2)]
-EMPTY = [b""] * len(PLACES)
-
-
 class Case:
     def __init__(self, room):
-        self.room, self.disks, self.kept = room, list(EMPTY), (list(EMPTY), False)
+        self.room, self.disks, self.kept = room, [b"", b""], ([b"", b""], False)
         self.commands, self.done, self.astray, self.same, self.tried, self.passed_over = [], False, False, True, 0, 0
 
-    def path(self, place):
-        folder, owner = place
-        return f"{self.room}/{folder}/{owner}.bud"
+    def path(self, owner):
+        return f"{self.room}/journals/{owner}.bud"
 
     def lay(self):
-        for folder, _ in PLACES:
-            os.makedirs(f"{self.room}/{folder}", exist_ok=True)
-            for name in os.listdir(f"{self.room}/{folder}"):
-                os.remove(f"{self.room}/{folder}/{name}")
-        for place, data in zip(PLACES, self.disks):
+        os.makedirs(f"{self.room}/journals", exist_ok=True)
+        for name in os.listdir(f"{self.room}/journals"):
+            os.remove(f"{self.room}/journals/{name}")
+        for owner, data in enumerate(self.disks):
             if data:
-                with open(self.path(place), "wb") as file:
+                with open(self.path(owner), "wb") as file:
                     file.write(data)
 
     def left(self):
         found = []
-        for place in PLACES:
+        for owner in range(2):
             try:
-                with open(self.path(place), "rb") as file:
+                with open(self.path(owner), "rb") as file:
                     found.append(file.read())
             except FileNotFoundError:
                 found.append(b"")
@@ -152,14 +145,12 @@ class Case:
             data, piece, place = bytearray(self.disks[0]), bytes_of(text), int(name)
             data[place : place + len(piece)] = piece
             self.disks[0] = bytes(data)
-        elif word == "swap":
-            self.disks[0], self.disks[2] = self.disks[2], self.disks[0]
         elif word == "keep":
             self.kept = (list(self.disks), self.astray)
         elif word == "back":
             self.disks, self.astray = list(self.kept[0]), self.kept[1]
         elif word == "new":
-            self.disks, self.astray = list(EMPTY), False
+            self.disks, self.astray = [b"", b""], False
         elif word == "fail":
             self.astray = True
 
