@@ -8,7 +8,7 @@
 . "$top/ci/counted.sh"
 need_program
 if ! command -v python3 >/dev/null; then
-    echo "there is no Python; not tried: all rows of ci/behind_the_gate_disks.sh, tests/faults/failing_disk.py, failing_workers.py, torn_writes.py, refused_memory.sh"
+    echo "there is no Python; not tried: all rows of ci/behind_the_gate_disks.sh, tests/faults/failing_disk.py, failing_workers.py, torn_writes.py, two_disks.py, refused_memory.sh"
     exit 1
 fi
 # The user nobody may read what is made here, under whatever umask this was started and the repository made.
@@ -149,7 +149,7 @@ if command -v cc >/dev/null; then
     counted tests/faults/refused_memory.sh memory.said || passed=1
     grep WRONG memory.said && passed=1
 else
-    echo "not tried, since there is no cc: calls on a journal that fail, torn writes, refused allocations"
+    echo "not tried, since there is no cc: calls on a journal that fail, torn writes, two disks, refused allocations"
 fi
 if [ $passed = 0 ]; then echo "journals on disks: all as they should be"; else echo "journals on disks: something is WRONG"; fi
 exit $passed

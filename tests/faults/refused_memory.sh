@@ -77,8 +77,8 @@ is_spared() {
         { differs += $0 != wanted[FNR] && ($0 != "no 90" || wanted[FNR] !~ /^(no|answer) /) && $0 != lost[FNR] }
         END { exit differs > 0 || FNR != lines }' wanted output
 }
-# new_journals WORD..: before a run, the journals are made anew.
-new_journals() { if [ $# = 3 ] && [ "$1" = run ]; then renew "$2" "$3"; fi; }
+# new_journals WORD..: before a run, the journals are made anew, on two disks where it says so.
+new_journals() { if [ "$1" = run ] && { [ $# = 3 ] || [ "${4:-}" = --mirror ]; }; then renew "${@:2}"; fi; }
 # turns NAME SCRIPT WORD..: each allocation of this run refused in turn, alone and with all later ones. Each run must
 # end with status 7 and the line 'memory', or as it ends with none refused, but that replies to asks may be 'no 90' or 'no 51'.
 turns() {
@@ -127,6 +127,7 @@ by_malloc_more() {
     many_owners many.json 3 3
     sed 's/"census"/"o1"/' many.json >twice.json
     head -c 31 /dev/zero >key31
+    turns "two disks" script run cat.json key --mirror
     turns "5,000 rows" script run long.json key
     turns "2,000 lines" long run cat.json key
     turns "both" long run long.json key

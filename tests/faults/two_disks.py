@@ -180,6 +180,11 @@ def refused(room):
             must(f"{name}: the files behind {command}", room.sides(), before)
 
 
+def stands(path):
+    """What is in a place: the bytes of a file, or whether there is anything else."""
+    return contents(path) if os.path.isfile(path) else os.path.lexists(path)
+
+
 def gone(room):
     """One disk's file isn't there, is empty, can't be opened or lies behind a link to nothing: the other is used alone, and nothing is made in its place."""
     one = room.journal(FIRST)
@@ -195,11 +200,11 @@ def gone(room):
         }.items():
             room.lay(one, one)
             spoil()
-            before = os.path.isdir(f"{name}/0.bud"), os.path.lexists(f"{name}/0.bud"), os.path.exists("nothing")
+            before = stands(f"{name}/0.bud"), os.path.exists("nothing")
             must(f"{name} {what}: audit", room.said("audit"), counts)
             must(f"{name} {what}: run", room.said("run", lines(["hello ann", ASK]))[0], 0)
             must(f"{name} {what}: grant", room.said("grant", words=("census", "5")), (0, "granted census 10000005 5\n"))
-            must(f"{name} {what}: nothing is made", (os.path.isdir(f"{name}/0.bud"), os.path.lexists(f"{name}/0.bud"), os.path.exists("nothing")), before)
+            must(f"{name} {what}: nothing is made", (stands(f"{name}/0.bud"), os.path.exists("nothing")), before)
             must(f"{name} {what}: {sound} has all", len(book_of(side(f"{sound}/0.bud"), room.head, room.entry, range(2)).records), 5)
 
 

@@ -70,10 +70,10 @@ make_room() {
     catalog cat.json people.csv
 }
 
-# renew CATALOG KEY: this folder's journals are made anew, and hold no records. Where the files are refused there are none.
+# renew CATALOG KEY [--mirror]: this folder's journals are made anew, and hold no records. Where the files are refused there are none.
 renew() {
-    rm -rf journals
-    "$program" init "$1" "$2" </dev/null >made 2>&1
+    rm -rf journals mirrors
+    "$program" init "$@" </dev/null >made 2>&1
 }
 # afresh CATALOG KEY: a run over new journals, on this function's standard input.
 afresh() {

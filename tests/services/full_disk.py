@@ -196,7 +196,8 @@ def tried(folder, by_mount):
         kept = keeper(room, disk, port, ends)
         analysts = [Analyst(name, owner, port, folder) for name, owner in (("ann", "census"), ("bob", "census"), ("eve", "labour"))]
         # So that the journal of labour needs no room for a while, it has just grown for the second time, and little is asked.
-        analysts[2].pause = 0
+        # It is looked at each tenth of a second, in which no more may be asked than the new area has room for.
+        analysts[2].pause = 0.005
         wait_for("the journal of labour has grown", lambda: os.path.getsize(f"{folder}/journals/1.bud") > HEAD + SLOT * (64 + 128))
         analysts[2].pause = 0.5
         filled(room, disk, analysts, ends)

@@ -1,7 +1,8 @@
 #!/usr/bin/env python3
 """Two processes on one folder at once, in all pairs of the commands init, run, audit and grant, and each of these, and a second `serve`, beside a `serve`.
 
-usage: tests/services/two_processes.py [COUNT [SEED]]     (PROGRAM=FILE tries another build than tools/build's); 20 times each pair, unless said.
+usage: tests/services/two_processes.py [--mirror] [COUNT [SEED]]     (PROGRAM=FILE tries another build than tools/build's); 20 times each pair, unless
+said. With --mirror each journal stands on two disks, and no file is moved away.
 A journal is one process's at a time. Whatever the other one does:
 
 - a process ends with 0; or with 6 and the line `disk OWNER` where the other one has the journal; or with 4 where an `init` was too early or too late;
@@ -33,7 +34,8 @@ from places import TOP  # noqa: E402
 
 PROGRAM = os.path.abspath(os.environ.get("PROGRAM", f"{TOP}/out/hitchseason"))
 from catalog import catalog, owner, read  # noqa: E402
-from journal import Refused, book_of, contents, header  # noqa: E402
+from journal import Refused, book_in, contents, header  # noqa: E402
+from mirrors import FLAG, FOLDERS  # noqa: E402
 from served import free_ports, is_listened_at  # noqa: E402
 
 COMMANDS = ("init", "run", "audit", "grant")
@@ -51,8 +53,8 @@ def check(holds, what):
 
 
 class Trial:
-    def __init__(self, folder, count, rng):
-        self.rng, self.came, self.told, self.granted = rng, Counter(), {}, []
+    def __init__(self, folder, count, rng, mirrored):
+        self.rng, self.came, self.told, self.granted, self.more_words = rng, Counter(), {}, [], [FLAG] if mirrored else []
         os.chdir(folder)
         tables = (("people", "people.csv", (("age", "num"),)),)
         made = catalog(owner(tables=tables, budget=BUDGET, capacity=2 * ASKS * (5 * count + 2) + 9 * count))
@@ -65,7 +67,8 @@ class Trial:
     def begin(self, command):
         script = open("script") if command == "run" else subprocess.DEVNULL
         more = ["--port", str(free_ports(1)), "--each", "1"] if command == "serve" else ["census", "1"] if command == "grant" else []
-        return subprocess.Popen([PROGRAM, command, "cat.json", "key", *more], stdin=script, stdout=subprocess.PIPE, stderr=subprocess.STDOUT, text=True)
+        words = [PROGRAM, command, "cat.json", "key", *more, *self.more_words]
+        return subprocess.Popen(words, stdin=script, stdout=subprocess.PIPE, stderr=subprocess.STDOUT, text=True)
 
     def ended(self, command, process):
         """How a command ended; the answers that it told are kept."""
@@ -95,7 +98,7 @@ class Trial:
 
     def look(self, killed=False):
         """The journal has what was told, and `audit` counts what is there."""
-        book = book_of(contents("journals/0.bud"), self.head, self.entry, range(2))
+        book = book_in(".", 0, self.head, self.entry, range(2))
         for number, (value, taken) in self.told.items():
             settled = book.settled.get(int(number))
             check(settled is not None and (settled.outcome, settled.answer) == (1, value), f"number {number} isn't settled with {value}")
@@ -107,7 +110,8 @@ class Trial:
         check(said == book.counts() + "\n", f"audit said {said}, wanted {book.counts()}")
 
     def afresh(self):
-        shutil.rmtree("journals", ignore_errors=True)
+        for name in FOLDERS:
+            shutil.rmtree(name, ignore_errors=True)
         self.told, self.granted = {}, []
 
     def pair(self, one, other):
@@ -222,17 +226,19 @@ class Trial:
 def main():
     if "PROGRAM" not in os.environ:
         subprocess.run([f"{TOP}/tools/build"], check=True)
-    count = int(sys.argv[1]) if len(sys.argv) > 1 else 20
-    seed = int(sys.argv[2]) if len(sys.argv) > 2 else 1
+    mirrored = sys.argv[1:2] == ["--mirror"]
+    words = sys.argv[1 + mirrored :]
+    count = int(words[0]) if words else 20
+    seed = int(words[1]) if len(words) > 1 else 1
     os.makedirs(f"{TOP}/out", exist_ok=True)
     with tempfile.TemporaryDirectory(dir=f"{TOP}/out") as folder:
-        trial = Trial(folder, count, random.Random(seed))
+        trial = Trial(folder, count, random.Random(seed), mirrored)
         try:
             trial.pairs(count)
             trial.kills(count)
             trial.afresh()
             trial.beside_a_service(count)
-            for _ in range(count):
+            for _ in range(0 if mirrored else count):
                 trial.another_file_in_its_place(False)
                 trial.another_file_in_its_place(True)
         except (Wrong, Refused) as fault:
