@@ -87,7 +87,7 @@ lags_by_none = lags (lost ∷ []) (Some fell) (inl refl) refl
 lags_in_use : IsHeldCopy wide two None (shown 0) (record in_use { has = lost ∷ [] }) → ⊥
 lags_in_use copy = let same : 1 ≡ 2 = ap (λ (rs : List Record). length rs) (copy.whole refl) in omega (arith, same)
 
-number_in : List Record → ℕ
+abbrev number_in : List Record → ℕ
 number_in (first ∷ Settle settlement ∷ rest) = settlement.number
 number_in records = 7
 
