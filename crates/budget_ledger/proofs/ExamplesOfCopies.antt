@@ -1,10 +1,10 @@
 -- A book on two disks, on both sides of each choice.
-use Rattle.std.proofs.Common.{◌≡◌, ◌⊎◌, ℕ, ◌<◌, List, [], ◌∷◌, ◌++◌, length, refl, sym, ap, subst, arith, inl, inr, Option, Some, None}
+use Rattle.std.proofs.Common.{◌≡◌, ◌⊎◌, ℕ, ◌<◌, List, [], ◌∷◌, length, refl, sym, ap, subst, arith, inl, inr, Option, Some, None}
 use Rattle.outside_disks.specs.Disks.{Trace, Shown}
 use Rattle.outside_disks.specs.Stored.{one_stored, two_stored}
 use Rattle.journal_records.specs.declared.records.Outcome.TheVariants.{Lost}
 use Rattle.journal_records.specs.declared.records.Record.{Record}
-use Rattle.journal_records.specs.declared.records.Record.TheVariants.{Reserve, Settle, Grant}
+use Rattle.journal_records.specs.declared.records.Record.TheVariants.{Settle}
 use Rattle.journal_records.specs.Records.{settling}
 use Rattle.journal_records.specs.declared.records.Header.{Header}
 use Rattle.budget_ledger.specs.Account.{Failure, Held, Copy, Copies, Storage, with_closing, count_of, IsHeldCopy, AreCopies, HeldWent, CopyWent, EachCopyWent, stored_by}
