@@ -1,4 +1,4 @@
-use Rattle.std.proofs.Common.{◌≡◌, ◌+◌, List, take, None, refl, arith, ◌∙◌, sym, subst}
+use Rattle.std.proofs.Common.{◌+◌, List, take, None, refl, arith, ◌∙◌, subst}
 use Rattle.std.proofs.lemmas.List.{take_all}
 use Rattle.journal_records.specs.declared.records.Record.{Record}
 use Rattle.budget_journal.specs.Journals.{disk_of}
