@@ -1,8 +1,9 @@
 -- What two disks that were read make, and the book of it.
 use Rattle.std.proofs.Common.{◌≡◌, ◌⊎◌, ℕ, suc, ◌+◌, ◌<◌, ◌≤◌, Bool, true, false, List, [], ◌∷◌, ◌++◌, length, length-append, take, drop, get_or, All, refl, sym, ◌∙◌, ap, subst, arith, inl, inr, Option, Some, None, Result, Ok, Err, min}
-use Rattle.std.specs.Prelude.{IfSome, IfOk, IfErr, ⊤}
+use Rattle.std.specs.Prelude.{IfSome, IfOk, IfErr, IsErrAnd, ⊤}
 use Rattle.std.proofs.lemmas.List.{take_all, take-append-drop, take-append-le, nil_from_length, append-nil}
 use Rattle.std.proofs.lemmas.Bool.{cases_lt}
+use Rattle.std.proofs.lemmas.Option.{slice_get-get_or}
 use mathlib.Core.List.{IsPrefix}
 use Rattle.fz_outside.specs.Faults.{HasRisen}
 use Rattle.outside_disks.specs.Disks.{Trace, Shown, WhereTold, seen_of}
@@ -21,7 +22,7 @@ use Rattle.budget_ledger.specs.Both.{Reading, IsReading, RefusesBoth, HoldsBytes
 use Rattle.budget_ledger.specs.Both.{twins_of, copy_read, IsOpenedCopy, IsOpenedBoth}
 use Rattle.budget_ledger.specs.Both.Reading.{Missing, Holding, Unfit}
 use Rattle.budget_ledger.specs.Joined.{reading_in, disk_under, half_of, side_of, HasRoom, IsHalfOf, IsWholeHalf, IsRead, IsSight, IsFresh, IsFreshHalf, AreFresh, SideLevelled, HalfLevelled, IsJudged}
-use Rattle.budget_ledger.specs.Kept.{HoldsSide, HoldsHalf, HoldsBook, shown_on, held_on, copy_on, disk_in, storage_in}
+use Rattle.budget_ledger.specs.Kept.{HoldsSide, HoldsHalf, HoldsBook, shown_on, held_on, copy_on, disk_in, storage_in, account_in}
 use Rattle.budget_ledger.specs.declared.both.BothFault.{BothFault}
 use Rattle.budget_ledger.specs.declared.both.BothFault.TheVariants.{Refused, Forked, VersionsDiffer}
 use Rattle.budget_ledger.specs.declared.both.Sight.{Sight}
@@ -39,9 +40,23 @@ use Rattle.budget_ledger.proofs.Levelling.{take_next}
 -- ---- two lists
 
 -- With one record more on both sides they are still alike.
-pub alike_more : (a b : List Record) (k : ℕ) (x : Record) → take k a ≡ take k b → k < length a → k < length b → get_or a k x ≡ get_or b k x → take (k + 1) a ≡ take (k + 1) b
-alike_more a b k x same in_a in_b at =
-    take_next a k x in_a ∙ ap (λ (rs : List Record). rs ++ get_or a k x ∷ []) same ∙ ap (λ (r : Record). take k b ++ r ∷ []) at ∙ sym (take_next b k x in_b)
+pub alike_more : (a b : List Record) (k : ℕ) (x y : Record) → take k a ≡ take k b → k < min (length a) (length b) → get_or a k x ≡ get_or b k y
+    → take (k + 1) a ≡ take (k + 1) b
+alike_more a b k x y same low at =
+    take_next a k x (omega (arith, low)) ∙ ap (λ (rs : List Record). rs ++ get_or a k x ∷ []) same ∙ ap (λ (r : Record). take k b ++ r ∷ []) at
+    ∙ sym (take_next b k y (omega (arith, low)))
+
+-- Where the next ones differ, it is there that they do.
+pub fork_at : (a b : List Record) (k : ℕ) (x y : Record) → take k a ≡ take k b → k < min (length a) (length b) → (get_or a k x ≡ get_or b k y → ⊥) → IsFork a b k
+fork_at a b k x y same low other = record {
+  within = omega (arith, low);
+  beside = omega (arith, low);
+  same = same;
+  differ = λ is. other (same_some (sym (slice_get-get_or a k x (omega (arith, low))) ∙ is ∙ slice_get-get_or b k y (omega (arith, low))));
+}
+  where
+    same_some : {r q : Record} → Some r ≡ Some q → r ≡ q
+    same_some e = cc
 
 front : (a b : List Record) (n : ℕ) → length a ≤ n → take n a ≡ take n b → IsPrefix a b
 front a b n long same = (drop n b, ap (λ (rs : List Record). rs ++ drop n b) (sym (take_all n a long) ∙ same) ∙ take-append-drop n b)
@@ -240,14 +255,11 @@ module _ {D : Type 0} (trace : D → Option Trace) (faults : D → ℕ) (header 
       → AreFresh trace faults header joined
   fresh_both d e s t joined is at made first second = by (one_has s t joined.version joined.records.items made)
     where
-      abbrev records : List Record
-      records = joined.records.items
-
-      with : IsWholeHalf records joined.first ⊎ IsWholeHalf records joined.second → length records ≤ header.capacity → All IsValid records → AreFresh trace faults header joined
+      with : IsWholeHalf joined.records.items joined.first ⊎ IsWholeHalf joined.records.items joined.second → length joined.records.items ≤ header.capacity → All IsValid joined.records.items → AreFresh trace faults header joined
       with whole room valid =
-          let begins = begin_both s t joined.version records made in record {
-            first = subst (IsFreshHalf trace faults records) (sym first) (fresh_half d s records is begins.0 room);
-            second = subst (IsFreshHalf trace faults records) (sym second) (fresh_half e t records at begins.1 room);
+          let begins = begin_both s t joined.version joined.records.items made in record {
+            first = subst (IsFreshHalf trace faults joined.records.items) (sym first) (fresh_half d s joined.records.items is begins.0 room);
+            second = subst (IsFreshHalf trace faults joined.records.items) (sym second) (fresh_half e t joined.records.items at begins.1 room);
             of_first = subst (IsHalfOf header) (sym first) (of_header s);
             of_second = subst (IsHalfOf header) (sym second) (of_header t);
             whole = whole;
@@ -255,9 +267,9 @@ module _ {D : Type 0} (trace : D → Option Trace) (faults : D → ℕ) (header 
             valid = valid;
           }
 
-      by : HasAll records s ⊎ HasAll records t → AreFresh trace faults header joined
-      by (inl all) = let good = good_one d s records is all in with (inl (subst (IsWholeHalf records) (sym first) good.0)) good.1 good.2
-      by (inr all) = let good = good_one e t records at all in with (inr (subst (IsWholeHalf records) (sym second) good.0)) good.1 good.2
+      by : HasAll joined.records.items s ⊎ HasAll joined.records.items t → AreFresh trace faults header joined
+      by (inl all) = let good = good_one d s joined.records.items is all in with (inl (subst (IsWholeHalf joined.records.items) (sym first) good.0)) good.1 good.2
+      by (inr all) = let good = good_one e t joined.records.items at all in with (inr (subst (IsWholeHalf joined.records.items) (sym second) good.0)) good.1 good.2
 
   -- ---- the book
 
@@ -328,6 +340,27 @@ module _ {D : Type 0} (trace : D → Option Trace) (faults : D → ℕ) (header 
         subst (λ (x : D). HaveFailed (twins_of trace faults d e) (twins_of trace faults x other)) (sym first)
         (subst (λ (y : D). HaveFailed (twins_of trace faults d e) (twins_of trace faults (disk_under s) y)) (sym second)
         (both_failed d e s t is at (subst (MakeNone (reading_in s) (reading_in t)) failed none)))
+
+  -- two that make none
+  module _ {B : Type 0} (entry : Entry) (d e : D) (s t : Sight D) (is : IsSight trace faults header d s) (at : IsSight trace faults header e t)
+      (r : Result B (D × D × BothFault)) (x : D × D × BothFault) (disks : (x.0 ≡ disk_under s) × (x.1 ≡ disk_under t)) where
+    pub none_refused : IsErrAnd r (λ y. y ≡ x) → MakeNone (reading_in s) (reading_in t) x.2
+        → IfErr r (λ refused. IsBothFault entry header (twins_of trace faults d e) (twins_of trace faults refused.0 refused.1) refused.2)
+    none_refused same none = by r same
+      where
+        by : (q : Result B (D × D × BothFault)) → IsErrAnd q (λ y. y ≡ x)
+            → IfErr q (λ refused. IsBothFault entry header (twins_of trace faults d e) (twins_of trace faults refused.0 refused.1) refused.2)
+        by (Ok book) wrong = tt
+        by (Err y) at_x = subst (λ (z : D × D × BothFault). IsBothFault entry header (twins_of trace faults d e) (twins_of trace faults z.0 z.1) z.2) (sym at_x)
+            (both_refused entry d e s t is at x.0 x.1 disks.0 disks.1 x.2 (inl none))
+
+    pub none_left : IsErrAnd r (λ y. y ≡ x) → IfErr r (λ refused. AreLeft (twins_of trace faults d e) (twins_of trace faults refused.0 refused.1))
+    none_left same = by r same
+      where
+        by : (q : Result B (D × D × BothFault)) → IsErrAnd q (λ y. y ≡ x) → IfErr q (λ refused. AreLeft (twins_of trace faults d e) (twins_of trace faults refused.0 refused.1))
+        by (Ok book) wrong = tt
+        by (Err y) at_x = subst (λ (z : D × D × BothFault). AreLeft (twins_of trace faults d e) (twins_of trace faults z.0 z.1)) (sym at_x)
+            (both_left entry d e s t is at x.0 x.1 disks.0 disks.1 x.2)
 
   -- what was judged
   module _ (entry : Entry) (d e : D) (s t : Sight D) (joined : Joined D) (is : IsSight trace faults header d s) (at : IsSight trace faults header e t)
@@ -434,3 +467,46 @@ module _ {D : Type 0} (trace : D → Option Trace) (faults : D → ℕ) (header 
     has = holds.has;
     whole = holds.whole;
   }
+
+  -- ---- the book of what two disks make
+
+  pub found_as : (entry e : Entry) (joined : Joined D) (ledger : Ledger) → ledger ≡ record { entry = e; found = joined.records.items; records = joined.records.items }
+      → e ≡ record entry { version = joined.version }
+      → ledger ≡ record { entry = record entry { version = joined.version }; found = joined.records.items; records = joined.records.items }
+  found_as entry e joined ledger is of = is ∙ ap (λ (x : Entry). record { entry = x; found = joined.records.items; records = joined.records.items }) of
+
+  module _ (entry : Entry) (joined : Joined D) (ledger : Ledger) (first second : Half D)
+      (is : ledger ≡ record { entry = record entry { version = joined.version }; found = joined.records.items; records = joined.records.items }) where
+    same_records : ledger.records ≡ joined.records.items
+    same_records = ap (λ (l : Ledger). l.records) is
+
+    pub judged_by : HalfLevelled trace faults ledger.records joined.first first → HalfLevelled trace faults ledger.records joined.second second
+        → IsJudged trace faults entry header joined (account_in trace faults ledger (record header { version = joined.version }) (Two first second) None)
+    judged_by on_first on_second = record {
+      first = first;
+      second = second;
+      ledger = is;
+      storage = ap (λ (rs : List Record). storage_in trace faults rs (record header { version = joined.version }) (Two first second) None) same_records;
+      went_first = subst (λ (rs : List Record). HalfLevelled trace faults rs joined.first first) same_records on_first;
+      went_second = subst (λ (rs : List Record). HalfLevelled trace faults rs joined.second second) same_records on_second;
+    }
+
+    pub book_by : AreFresh trace faults header joined → header.budget ≡ entry.budget → header.capacity ≡ entry.capacity → IsSound ledger
+        → ((common : Header) → IsHalfOf common joined.first → HoldsHalf trace faults common ledger.records None first)
+        → ((common : Header) → IsHalfOf common joined.second → HoldsHalf trace faults common ledger.records None second)
+        → (IsWholeHalf ledger.records joined.first → first ≡ joined.first) → (IsWholeHalf ledger.records joined.second → second ≡ joined.second)
+        → HoldsBook trace faults ledger (record header { version = joined.version }) (Two first second) None
+    book_by fresh budget capacity sound on_first on_second whole_first whole_second =
+        book_of_two entry joined.version ledger first second (ap (λ (l : Ledger). l.entry) is) budget capacity sound
+        (on_first (record header { version = joined.version }) (of_version joined.version joined.first fresh.of_first))
+        (on_second (record header { version = joined.version }) (of_version joined.version joined.second fresh.of_second)) (whole fresh.whole)
+      where
+        stays : (old new : Half D) → (IsWholeHalf ledger.records old → new ≡ old) → IsWholeHalf joined.records.items old → IsWholeHalf ledger.records new
+        stays old new same all =
+            let here : IsWholeHalf ledger.records old = subst (λ (rs : List Record). IsWholeHalf rs old) (sym same_records) all in
+            subst (IsWholeHalf ledger.records) (sym (same here)) here
+
+        whole : IsWholeHalf joined.records.items joined.first ⊎ IsWholeHalf joined.records.items joined.second
+            → IsWholeHalf ledger.records first ⊎ IsWholeHalf ledger.records second
+        whole (inl all) = inl (stays joined.first first whole_first all)
+        whole (inr all) = inr (stays joined.second second whole_second all)

@@ -1,8 +1,8 @@
 -- Why journals aren't made on two disks, and what is made.
-use Rattle.std.proofs.Common.{◌≡◌, ◌≢◌, ◌⊎◌, ℕ, ◌≤◌, List, [], length, refl, sym, ◌∙◌, ap, subst, arith, inl, inr, Option, Some, None, Err}
-use Rattle.std.specs.Prelude.{IfSome, IsErrOf}
+use Rattle.std.proofs.Common.{◌≡◌, ◌≢◌, ◌⊎◌, ℕ, ◌≤◌, List, [], length, refl, sym, ◌∙◌, ap, subst, arith, inl, inr, Option, Some, None, Result, Ok, Err}
+use Rattle.std.specs.Prelude.{IfSome, IfErr, IsErrAnd}
 use Rattle.std.proofs.lemmas.List.{nil_from_length}
-use Rattle.fz_outside.specs.Faults.{HasCause, HasRisen}
+use Rattle.fz_outside.specs.Faults.{HasRisen}
 use Rattle.outside_disks.specs.Disks.{Trace, Shown, WhereTold, seen_of}
 use Rattle.outside_disks.specs.Stored.{Twins}
 use Rattle.journal_records.specs.declared.records.Header.{Header}
@@ -35,6 +35,12 @@ pub record IsInit (header : Header) (before after : Shown) (fault : InitFault) :
   pub there : (n : ℕ) → fault ≡ AlreadyThere n → (n ≢ 0) × (after.trace ≡ before.trace) × ((t : Trace) → before.trace ≡ Some t → n ≡ length (seen_of t))
   pub later : before.faults ≤ after.faults
   pub failed : fault ≡ DiskFault → HasRisen before.faults after.faults
+
+-- A call of a disk failed.
+pub stop_failed : {T : Type 0} (header : Header) (before now : Twins) (r : Result T InitFault) → IsErrAnd r (λ e. e ≡ DiskFault)
+    → IsBothInitFault header before now DiskFault → IfErr r (IsBothInitFault header before now)
+stop_failed header before now (Ok value) wrong holds = tt
+stop_failed header before now (Err fault) same holds = subst (IsBothInitFault header before now) (sym same) holds
 
 module _ (header : Header) where
   -- the call that asks for a disk's length failed

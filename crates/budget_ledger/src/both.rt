@@ -91,6 +91,13 @@ fn agree_on_cost(version: u8, other: u8) -> bool
     (version == NEWEST_VERSION) == (other == NEWEST_VERSION)
 }
 
+// Whether two records are the same.
+fn are_same(one: &Record, other: &Record) -> bool
+    ensures { IsTrue result ↔ (one.now ≡ other.now) }
+{
+    one == other
+}
+
 // The least slot below both lengths where the records differ.
 fn fork(records: &[Record], others: &[Record]) -> Option<u32>
     requires { length records.now < 2 ^ 32 }
@@ -98,7 +105,7 @@ fn fork(records: &[Record], others: &[Record]) -> Option<u32>
     ensures along { IfNone result (IsPrefix records.now others.now ⊎ IsPrefix others.now records.now) }
 {
     for slot in 0..records.len().min(others.len()) {
-        if records[slot] != others[slot] {
+        if !are_same(&records[slot], &others[slot]) {
             return Some(slot as u32);
         }
     }
