@@ -359,6 +359,12 @@ nobodys_disk (inr (o, within, done)) = one_rose (done.behind 2 within)
 second_disk : IsDiskLine (to_count loading key) (counted 0 0 0) (counted 0 1 0) (codes "disk b\n")
 second_disk = (1, omega arith, refl, opened, others)
   where
+    standing : (before after : Stored) → Some (failed_times 0) ≡ Some before → Some (failed_times 0) ≡ Some after → IsStanding before after
+    standing before after was is =
+        let one : failed_times 0 ≡ before = cc was in
+        let other : failed_times 0 ≡ after = cc is in
+        subst (λ (b : Stored). IsStanding b after) one (subst (IsStanding (failed_times 0)) other (refl, tt))
+
     opened : AreOpenedBefore loading key (counted 0 0 0) (counted 0 1 0) 1
     opened zero less = (3, [], record { stands = tt; history = record { follows = λ k next is. absurd (cc is) }; twins = tt })
     opened (suc p) less = absurd (omega (arith, less))
@@ -368,12 +374,6 @@ second_disk = (1, omega arith, refl, opened, others)
     others (suc zero) isnt before after was is = absurd (isnt refl)
     others (suc (suc zero)) isnt before after was is = standing before after was is
     others (suc (suc (suc o))) isnt before after was is = absurd (cc was)
-
-    standing : (before after : Stored) → Some (failed_times 0) ≡ Some before → Some (failed_times 0) ≡ Some after → IsStanding before after
-    standing before after was is =
-        let one : failed_times 0 ≡ before = cc was in
-        let other : failed_times 0 ≡ after = cc is in
-        subst (λ (b : Stored). IsStanding b after) one (subst (IsStanding (failed_times 0)) other (refl, tt))
 
 -- it was the first one's disk
 first_disk : (o : ℕ) → o < 2 → codes "disk b\n" ≡ disk_text (owner_name_at loading o) → NoOtherRose o (counted 0 0 0) (counted 1 0 0) → ⊥
