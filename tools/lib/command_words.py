@@ -32,10 +32,13 @@ def meant_by(word):
 
 
 class Command:
-    """The command that words are, as far as they are one: its name, its words in order, and what else is among them."""
+    """The command that words are, as far as they are one: its name, its words in order, what else is among them, and whether its journals stand on two
+    disks."""
 
     def __init__(self, words):
         self.name, self.words, self.options = words[0] if words else None, [], []
+        # The program looks at all words, those after `--`, too.
+        self.mirrored = FLAG in words
         rest = iter(words[1:])
         for word in rest:
             if word == "--":
@@ -54,11 +57,6 @@ class Command:
         """The values of an option, one each time that it stands there."""
         parts = [option.replace("=", " ", 1).partition(" ") for option in self.options]
         return [value for option, _, value in parts if option == name]
-
-    @property
-    def mirrored(self):
-        """Whether its journals stand on two disks."""
-        return FLAG in self.options
 
     def option(self, name, default=None):
         """The value of an option, or the default."""
