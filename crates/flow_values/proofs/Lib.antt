@@ -6,3 +6,4 @@ pub mod Closures
 pub mod Examples
 pub mod RowExamples
 pub mod ChainExamples
+pub mod DepthExamples

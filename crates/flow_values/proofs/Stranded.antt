@@ -1,11 +1,12 @@
 -- Chains and strands put together, and laid out.
-use Rattle.std.proofs.Common.{◌≡◌, ℕ, ◌<◌, ◌+◌, Bool, List, None, [], ◌∷◌, ◌++◌, Option, length, get_or, refl, ap, sym, subst, ◌∙◌, append_assoc, append-nil}
-use Rattle.std.specs.Prelude.{reverse, take}
+use Rattle.std.proofs.Common.{◌≡◌, ℕ, ◌<◌, ◌+◌, Bool, List, None, [], ◌∷◌, ◌++◌, Option, length, get_or, refl, ap, arith, sym, subst, ◌∙◌, append_assoc, append-nil}
+use Rattle.std.specs.Prelude.{max, reverse, take}
 use Rattle.std.proofs.lemmas.List.{take_more}
 use Rattle.metric_values.specs.Values.{Flat}
+use Rattle.flow_values.specs.Held.{HeldChain}
 use Rattle.flow_values.specs.Strands.{AreAppended, AreStaged, IsLonger, IsSameStrand}
 use Rattle.flow_values.specs.Steps.{AllGo, AreAllMaps, Step, all_through}
-use Rattle.flow_values.specs.Views.{AllKnown, IsFlow, flow_of, step_by, step_of, steps_of}
+use Rattle.flow_values.specs.Views.{AllKnown, IsFlow, flow_of, stages_deep, step_by, step_of, steps_of, strands_deep}
 use Rattle.flow_values.specs.declared.value.Closure.{Closure}
 use Rattle.flow_values.specs.declared.value.Stage.{Stage}
 use Rattle.flow_values.specs.declared.value.Strand.{Strand}
@@ -20,8 +21,9 @@ maps_more [] s h k = (k, tt)
 maps_more (t ∷ ss) s h k = (h.0, maps_more ss s h.1 k)
 
 -- stages from the last one on: those that are met, and the steps of those that are left
-abbrev pub AreMet : List Step → List Step → List Stage → Type 0
-AreMet all left out = (left ++ steps_of (reverse out) ≡ all) × AllKnown (reverse out)
+abbrev pub AreMet : HeldChain → HeldChain → List Stage → Type 0
+AreMet all left out =
+    (left.steps ++ steps_of (reverse out) ≡ all.steps) × AllKnown (reverse out) × (stages_deep left.deep (reverse out) ≡ all.deep)
 
 -- the elements of a strand
 abbrev pub strand_of : Strand → List Flat
@@ -30,6 +32,10 @@ strand_of s = all_through s.chain.steps s.table.value
 pub flow_more : (ss : List Strand) (s : Strand) → flow_of (ss ++ s ∷ []) ≡ flow_of ss ++ strand_of s
 flow_more [] s = append-nil (strand_of s)
 flow_more (x ∷ ss) s = ap (λ xs. strand_of x ++ xs) (flow_more ss s) ∙ sym (append_assoc (strand_of x) (flow_of ss) (strand_of s))
+
+deep_more : (ss : List Strand) (s : Strand) → strands_deep (ss ++ s ∷ []) ≡ max (strands_deep ss) s.chain.deep
+deep_more [] s = omega arith
+deep_more (x ∷ ss) s = omega (arith, deep_more ss s)
 
 abbrev pub IsStrand : Strand → Type 0
 IsStrand s = AllGo s.chain.steps s.table.value
@@ -67,10 +73,11 @@ module _ (c : Closure) (l : ℕ) (k : Option Bool) where
         let h = subst (λ (xs : List Flat). AllGo (step_by c l k ∷ []) xs) (flow_more ss x) g in
         walk_more out s (inv.walked (walk_left ss (x ∷ []) f) (go_left (step_by c l k ∷ []) (flow_of ss) (strand_of x) h))
         (longer_goes s x is (walk_last ss x f) (go_right (step_by c l k ∷ []) (flow_of ss) (strand_of x) h));
+    deep = omega (arith, deep_more out s, deep_more ss x, inv.deep, is.deep);
   }
 
   pub staged_none : AreStaged c l k [] []
-  staged_none = record { elements = refl; walked = λ f g. tt }
+  staged_none = record { elements = refl; walked = λ f g. tt; deep = omega arith }
 
   pub staged_more : (ss : List Strand) (i : ℕ) (x : Strand) → i < length ss → x ≡ get_or ss i x → (out more : List Strand) (s : Strand)
       → AreStaged c l k (take i ss) out → more ≡ out ++ s ∷ [] → IsLonger s x c l k → AreStaged c l k (take (i + 1) ss) more
@@ -79,7 +86,7 @@ module _ (c : Closure) (l : ℕ) (k : Option Bool) where
       (subst (λ (ys : List Strand). AreStaged c l k (take i ss ++ x ∷ []) ys) (sym p) (staged_one (take i ss) out x s inv is))
 
 pub appended_none : (ss : List Strand) → AreAppended ss [] ss
-appended_none ss = record { elements = sym (append-nil (flow_of ss)); walked = λ f g. f }
+appended_none ss = record { elements = sym (append-nil (flow_of ss)); walked = λ f g. f; deep = omega arith }
 
 appended_one : (start out ss : List Strand) (x s : Strand) → AreAppended start ss out → IsSameStrand s x → AreAppended start (ss ++ x ∷ []) (out ++ s ∷ [])
 appended_one start out ss x s inv is = record {
@@ -89,6 +96,7 @@ appended_one start out ss x s inv is = record {
   walked = λ f g.
       walk_more out s (inv.walked f (walk_left ss (x ∷ []) g))
       (subst (λ (steps : List Step). AllGo steps s.table.value) (sym is.steps) (subst (λ (rows : List Flat). AllGo x.chain.steps rows) (sym is.table) (walk_last ss x g)));
+  deep = omega (arith, deep_more out s, deep_more ss x, inv.deep, is.deep);
 }
 
 pub appended_more : (ss : List Strand) (i : ℕ) (x : Strand) → i < length ss → x ≡ get_or ss i x → (start out more : List Strand) (s : Strand)

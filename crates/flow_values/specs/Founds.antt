@@ -1,5 +1,5 @@
 -- What a name is found to stand for, numbers and texts among that, and another value for the innermost name.
-use Rattle.std.specs.Prelude.{None, Option, Some, ◌≡◌, ⊤}
+use Rattle.std.specs.Prelude.{None, Option, Some, ℕ, ◌≡◌, ⊤}
 use Rattle.metric_law.specs.Means.{find}
 use Rattle.fz_ast.specs.Terms.{Name}
 use Rattle.metric_values.specs.Values.{Bind, Empty, Env, NumV, TextV, Value}
@@ -16,6 +16,13 @@ value_found Nowhere = None
 value_found (Whole v) = Some v.now.means
 value_found (First p) = Some (first_in p.now.means)
 value_found (Second p) = Some (second_in p.now.means)
+
+-- how deep that is held where it is found
+abbrev pub found_deep : Found → ℕ
+found_deep Nowhere = 0
+found_deep (Whole v) = v.now.deep
+found_deep (First p) = p.now.deep
+found_deep (Second p) = p.now.deep
 
 -- what is found as a half is one of a pair
 abbrev pub IsFoundInPair : Found → Type 0

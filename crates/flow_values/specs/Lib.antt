@@ -1,4 +1,5 @@
 pub mod Held
+pub mod Depths
 pub mod Computed
 pub mod Steps
 pub mod Codes

@@ -1,5 +1,5 @@
 -- What the code's values and scopes stand for.
-use Rattle.std.specs.Prelude.{◌≡◌, ◌<◌, ◌++◌, ℕ, suc, max, Bool, IsTrue, List, Option, [], ◌∷◌, length, ⊤}
+use Rattle.std.specs.Prelude.{◌≡◌, ◌<◌, ◌+◌, ◌++◌, ℕ, suc, max, Bool, IsTrue, List, Option, [], ◌∷◌, length, ⊤}
 use Rattle.fz_ast.specs.Names.{name_of, text_of}
 use Rattle.fz_ast.specs.Terms.{FnE, FunE, Name, Term, at}
 use Rattle.fz_ast.specs.TermNodes.{term_at}
@@ -8,6 +8,7 @@ use Rattle.fz_ast.specs.declared.span.Span.{Span}
 use Rattle.metric_values.specs.Values.{Flat, TextF, Value, NumV, TextV, UnitV, PairV, InlV, InrV, BangV, BagV, FunV, FnV, Env, Empty, Bind, truth, value_of}
 use Rattle.metric_values.specs.Cells.{cell_at, columns_in, from_column, row_at}
 use Rattle.run_values.specs.Parts.{IsPair, first_in, second_in}
+use Rattle.flow_values.specs.Depths.{stage_deep}
 use Rattle.flow_values.specs.Held.{Held, HeldChain, HeldScope}
 use Rattle.flow_values.specs.Steps.{AllGo, AreAllMaps, Step, all_through}
 use Rattle.flow_values.specs.declared.value.Closure.{Closure}
@@ -69,6 +70,11 @@ abbrev pub AllKnown : List Stage → Type 0
 AllKnown [] = ⊤
 AllKnown (s ∷ ss) = IsKnown s.function.value × AllKnown ss
 
+-- how deep a bag is held behind these stages, that is held d deep before them
+abbrev pub stages_deep : ℕ → List Stage → ℕ
+stages_deep d [] = d
+stages_deep d (s ∷ ss) = stages_deep (stage_deep s.function.value.scope.deep d s.left) ss
+
 -- the steps before, and one more
 abbrev pub joint_steps : Joint → List Step
 joint_steps j = j.before.steps ++ step_by j.function.value j.left j.keeps ∷ []
@@ -78,7 +84,7 @@ end_view Rows = record { steps = []; deep = 0 }
 end_view (After p) =
     record {
       steps = joint_steps p.value;
-      deep = suc (max p.value.function.value.scope.deep p.value.before.deep);
+      deep = stage_deep p.value.function.value.scope.deep p.value.before.deep p.value.left;
     }
 
 -- its node is a function, and where it says so, no step leaves elements out
@@ -130,7 +136,8 @@ IsValueForm (Bag p) = IsFlow p.value.strands.items
 IsValueForm (Fun p) = IsKnown p.value
 IsValueForm form = ⊤
 
--- a name is two deeper than what it stands for and the names outside, so that two names are deeper than the pair of what they stand for
+-- a name is two deeper than what it stands for and the names outside, so that two names are deeper than the pair of what they stand for.
+-- Several names in one frame are as deep as if each had its own
 abbrev pub scope_deep : ℕ → ℕ → ℕ
 scope_deep v s = suc (suc (max v s))
 
@@ -141,7 +148,7 @@ link_view (More p) =
 link_view (Halves p) =
     record {
       means = Bind (name_of p.value.second) (second_in p.value.pair.means) (Bind (name_of p.value.first) (first_in p.value.pair.means) p.value.outer.means);
-      deep = scope_deep p.value.pair.deep p.value.outer.deep;
+      deep = scope_deep p.value.pair.deep p.value.outer.deep + 2;
     }
 link_view (Element p) =
     record { means = Bind (name_of p.value.name) p.value.value.means p.value.outer.means; deep = scope_deep p.value.value.deep p.value.outer.deep }
@@ -150,7 +157,7 @@ link_view (Opened p) =
       means =
           Bind (name_of p.value.second) (second_in p.value.value.means)
           (Bind (name_of p.value.first) (first_in p.value.value.means) (Bind (name_of p.value.name) p.value.value.means p.value.outer.means));
-      deep = scope_deep p.value.value.deep p.value.outer.deep;
+      deep = scope_deep p.value.value.deep p.value.outer.deep + 4;
     }
 
 -- two names are for the halves of a pair

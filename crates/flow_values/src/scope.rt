@@ -1,9 +1,10 @@
 //! Names and what they stand for.
-ghost use Rattle.std.specs.Prelude.{◌≡◌, bytes_eq, IfOk, IfSome, IsSome, OnErr, OnOk, Some};
+ghost use Rattle.std.specs.Prelude.{◌≡◌, ◌≤◌, ◌+◌, bytes_eq, max, IfOk, IfSome, IsSome, OnErr, OnOk, Some};
 ghost use Rattle.fz_ast.specs.Names.{name_of};
 ghost use Rattle.metric_law.specs.Means.{find};
 ghost use Rattle.metric_values.specs.Values.{Bind, Empty};
-ghost use Rattle.flow_values.specs.Founds.{AreHalvesNamed, IsFoundFunction, IsFoundInPair, plain_found, plain_of, rebound, value_found};
+ghost use Rattle.flow_values.specs.Founds.{AreHalvesNamed, IsFoundFunction, IsFoundInPair, found_deep, plain_found, plain_of, rebound, value_found};
+ghost use Rattle.flow_values.specs.Views.{scope_deep};
 ghost use Rattle.run_values.specs.Parts.{IsPair, first_in, second_in};
 
 use crate::plain::Plain;
@@ -21,7 +22,8 @@ fn same_name(a: &Name, b: &Name) -> bool
 // The scope inside a name for the first half of a pair.
 fn first_of(alloc: Global, name: Name, pair: &Value, outer: &Scope) -> Result<Scope, NoMemory>
     requires { IsPair pair.now.means }
-    ensures { IfOk result (λ s. s.means ≡ Bind (name_of name) (first_in pair.now.means) outer.now.means) }
+    ensures means { IfOk result (λ s. s.means ≡ Bind (name_of name) (first_in pair.now.means) outer.now.means) }
+    ensures deep { IfOk result (λ s. s.deep ≤ scope_deep pair.now.deep outer.now.deep) }
 {
     let first = pair.first()?;
     outer.with(alloc, name, first)
@@ -37,7 +39,8 @@ impl Scope {
 
     /// The scope inside one more name.
     pub fn with(&self, alloc: Global, name: Name, value: Value) -> Result<Scope, NoMemory>
-        ensures { IfOk result (λ s. s.means ≡ Bind (name_of name) value.means self.now.means) }
+        ensures means { IfOk result (λ s. s.means ≡ Bind (name_of name) value.means self.now.means) }
+        ensures deep { IfOk result (λ s. s.deep ≡ scope_deep value.deep self.now.deep) }
     {
         let outer = self.copy()?;
         match Rc::new(alloc, Frame { name, value, outer }) {
@@ -57,8 +60,9 @@ impl Scope {
         pair: Value,
     ) -> Result<Scope, NoMemory>
         requires { IsPair pair.means }
-        ensures { IfOk result (λ s.
+        ensures means { IfOk result (λ s.
             s.means ≡ Bind (name_of second.now) (second_in pair.means) (Bind (name_of first.now) (first_in pair.means) self.now.means)) }
+        ensures deep { IfOk result (λ s. s.deep ≡ scope_deep pair.deep self.now.deep + 2) }
     {
         let halves = Halves {
             first: *first,
@@ -83,7 +87,8 @@ impl Scope {
         second: &Name,
         value: Value,
     ) -> Result<Scope, NoMemory>
-        ensures { IfOk result (λ s. s.means ≡ Bind (name_of name.now) value.means self.now.means) }
+        ensures means { IfOk result (λ s. s.means ≡ Bind (name_of name.now) value.means self.now.means) }
+        ensures deep { IfOk result (λ s. s.deep ≡ scope_deep value.deep self.now.deep) }
     {
         let element = Element {
             name: *name,
@@ -107,7 +112,8 @@ impl Scope {
         first: &Name,
         second: &Name,
     ) -> Result<Option<Scope>, NoMemory>
-        ensures { IfOk result (λ o. IfSome o (λ s. AreHalvesNamed self.now.means (name_of name.now) (name_of first.now) (name_of second.now) s.means)) }
+        ensures names { IfOk result (λ o. IfSome o (λ s. AreHalvesNamed self.now.means (name_of name.now) (name_of first.now) (name_of second.now) s.means)) }
+        ensures deep { IfOk result (λ o. IfSome o (λ s. s.deep ≤ self.now.deep + 4)) }
     {
         let Link::Element(rc) = &self.link else {
             return Ok(None);
@@ -127,6 +133,7 @@ impl Scope {
     pub fn rebind(&mut self, alloc: Global, value: Value) -> Result<(), NoMemory>
         ensures rebound { OnOk result (self.new.means ≡ rebound self.old.means value.means) }
         ensures unchanged { OnErr result (self.new ≡ self.old) }
+        ensures deep { OnOk result (self.new.deep ≤ max self.old.deep (value.deep + 2)) }
     {
         match &mut self.link {
             Link::More(rc) => {
@@ -151,7 +158,8 @@ impl Scope {
     // The scope in which the innermost name, if there is one, stands for another value.
     #[inline(never)]
     fn rebound_apart(&self, alloc: Global, value: Value) -> Result<Scope, NoMemory>
-        ensures { IfOk result (λ s. s.means ≡ rebound self.now.means value.means) }
+        ensures means { IfOk result (λ s. s.means ≡ rebound self.now.means value.means) }
+        ensures deep { IfOk result (λ s. s.deep ≤ max self.now.deep (value.deep + 2)) }
     {
         match &self.link {
             Link::End => Ok(Scope::new()),
@@ -202,6 +210,7 @@ impl Scope {
     fn found(&self, name: &Name) -> Found<'_>
         ensures is { value_found result ≡ find self.now.means (name_of name.now) }
         ensures pair { IsFoundInPair result }
+        ensures deep { found_deep result ≤ self.now.deep }
     {
         match &self.link {
             Link::End => Found::None,
@@ -245,7 +254,8 @@ impl Scope {
     /// What the innermost of these names stands for.
     pub fn find(&self, name: &Name) -> Result<Value, NoMemory>
         requires { IsSome (find self.now.means (name_of name.now)) }
-        ensures { IfOk result (λ v. find self.now.means (name_of name.now) ≡ Some v.means) }
+        ensures means { IfOk result (λ v. find self.now.means (name_of name.now) ≡ Some v.means) }
+        ensures deep { IfOk result (λ v. v.deep ≤ self.now.deep) }
     {
         match self.found(name) {
             Found::Whole(value) => value.copy(),

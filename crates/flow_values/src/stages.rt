@@ -1,8 +1,9 @@
 //! Chains with one stage more, strands put after others, and a strand's stages laid out.
 ghost use Rattle.std.specs.Prelude.{◌≡◌, ◌++◌, ◌∷◌, [], IfOk, IsTrue, None, OnOk, reverse as reversed};
+ghost use Rattle.flow_values.specs.Depths.{stage_deep};
 ghost use Rattle.flow_values.specs.Steps.{AreAllMaps, Step};
 ghost use Rattle.flow_values.specs.Strands.{AreAppended, AreStaged, IsLaidOut, IsLonger, IsSameStage, IsSameStrand};
-ghost use Rattle.flow_values.specs.Views.{AllKnown, IsFlow, IsKnown, flow_of, step_by, steps_of};
+ghost use Rattle.flow_values.specs.Views.{AllKnown, IsFlow, IsKnown, flow_of, stages_deep, step_by, steps_of};
 
 use crate::value::{Chain, Closure, End, Joint, Stage, Strand};
 use fz_ast::NoMemory;
@@ -58,7 +59,8 @@ fn gives(keeps: Option<bool>) -> bool
 impl Chain {
     // No stages.
     fn none() -> Chain
-        ensures { result.steps ≡ [] }
+        ensures steps { result.steps ≡ [] }
+        ensures deep { result.deep ≡ 0 }
     {
         Chain { end: End::Rows }
     }
@@ -103,7 +105,8 @@ impl Chain {
         keeps: Option<bool>,
     ) -> Result<Chain, NoMemory>
         requires { IsKnown function.now.value }
-        ensures { IfOk result (λ c. c.steps ≡ self.now.steps ++ step_by function.now.value left keeps ∷ []) }
+        ensures steps { IfOk result (λ c. c.steps ≡ self.now.steps ++ step_by function.now.value left keeps ∷ []) }
+        ensures deep { IfOk result (λ c. c.deep ≡ stage_deep function.now.value.scope.deep self.now.deep left) }
     {
         let joint = Joint {
             function: function.clone()?,
@@ -125,6 +128,7 @@ impl Chain {
 fn backwards(alloc: Global, chain: &Chain) -> Result<Vec<Stage>, NoMemory>
     ensures is { IfOk result (λ out. steps_of (reversed out.items) ≡ chain.now.steps) }
     ensures known { IfOk result (λ out. AllKnown (reversed out.items)) }
+    ensures deep { IfOk result (λ out. stages_deep 0 (reversed out.items) ≡ chain.now.deep) }
 {
     let mut out = Vec::new(alloc);
     let mut at = chain;

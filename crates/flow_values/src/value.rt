@@ -1,5 +1,5 @@
 //! Values are shared by counted references, and never lead back to themselves.
-ghost use Rattle.std.specs.Prelude.{◌≡◌, ◌<◌, ◌++◌, ◌∷◌, [], bytes_eq, length, IfOk, IfSome, IsTrue};
+ghost use Rattle.std.specs.Prelude.{◌≡◌, ◌<◌, ◌≤◌, ◌++◌, ◌∷◌, [], bytes_eq, length, max, suc, IfOk, IfSome, IsTrue};
 ghost use Rattle.fz_ast.specs.Names.{text_of};
 ghost use Rattle.fz_ast.specs.TermNodes.{term_at};
 ghost use Rattle.metric_values.specs.Values.{NumV, TextV, UnitV, PairV, InlV, InrV, BangV, BagV, truth, value_of};
@@ -8,7 +8,8 @@ ghost use Rattle.flow_values.specs.Founds.{plain_in, plain_of};
 ghost use Rattle.run_values.specs.Parts.{IsBag, IsBangValue, IsClosure, IsNum, IsPair, IsSum, IsTextValue, banged_in, elements, first_in, number_in};
 ghost use Rattle.run_values.specs.Parts.{number_or_none, second_in, side_in, text_in};
 ghost use Rattle.flow_values.specs.Steps.{AllGo, all_through};
-ghost use Rattle.flow_values.specs.Views.{IsClosureAt, IsFlow, IsFunction, IsKnown, IsTextCell, closure_value, flow_of, function_of, text_bytes};
+ghost use Rattle.flow_values.specs.Depths.{stage_deep};
+ghost use Rattle.flow_values.specs.Views.{IsClosureAt, IsFlow, IsFunction, IsKnown, IsTextCell, closure_value, flow_of, function_of, strands_deep, text_bytes};
 
 use crate::plain::{Plain, last_plain, plain_at};
 use crate::stages::{all_staged, one_strand, put_all};
@@ -293,7 +294,8 @@ fn shared(alloc: Global, value: Value) -> Result<Rc<Value>, NoMemory>
 fn cell(table: &Rc<Table>, i: u32, k: u16) -> Result<Value, NoMemory>
     requires row { i < length table.now.value }
     requires column { k < columns_in (row_at table.now.value i) }
-    ensures { IfOk result (λ v. v.means ≡ value_of (cell_at k (row_at table.now.value i))) }
+    ensures means { IfOk result (λ v. v.means ≡ value_of (cell_at k (row_at table.now.value i))) }
+    ensures deep { IfOk result (λ v. v.deep ≡ 0) }
 {
     match table.cell(i, k as usize) {
         Cell::Number(z) => Ok(Value::num(z)),
@@ -318,7 +320,8 @@ fn bytes_at(table: &Rc<Table>, i: u32, k: u16) -> &[u8]
 fn part(table: &Rc<Table>, i: usize, k: usize) -> Result<Value, NoMemory>
     requires row { i < length table.now.value }
     requires column { k < columns_in (row_at table.now.value i) }
-    ensures { IfOk result (λ v. v.means ≡ value_of (from_column k (row_at table.now.value i))) }
+    ensures means { IfOk result (λ v. v.means ≡ value_of (from_column k (row_at table.now.value i))) }
+    ensures deep { IfOk result (λ v. v.deep ≡ 0) }
 {
     let width = table.width();
     if k + 1 == width {
@@ -331,19 +334,22 @@ fn part(table: &Rc<Table>, i: usize, k: usize) -> Result<Value, NoMemory>
 
 impl Value {
     pub fn num(z: i64) -> Value
-        ensures { result.means ≡ NumV z }
+        ensures means { result.means ≡ NumV z }
+        ensures deep { result.deep ≡ 0 }
     {
         Value { form: Form::Num(z) }
     }
 
     pub fn unit() -> Value
-        ensures { result.means ≡ UnitV }
+        ensures means { result.means ≡ UnitV }
+        ensures deep { result.deep ≡ 0 }
     {
         Value { form: Form::Unit }
     }
 
     pub fn truth(b: bool) -> Value
-        ensures { result.means ≡ truth b }
+        ensures means { result.means ≡ truth b }
+        ensures deep { result.deep ≡ 0 }
     {
         Value {
             form: Form::Truth(b),
@@ -351,7 +357,8 @@ impl Value {
     }
 
     pub fn text(alloc: Global, text: Text) -> Result<Value, NoMemory>
-        ensures { IfOk result (λ v. v.means ≡ TextV (text_of text)) }
+        ensures means { IfOk result (λ v. v.means ≡ TextV (text_of text)) }
+        ensures deep { IfOk result (λ v. v.deep ≡ 0) }
     {
         match Rc::new(alloc, text) {
             Ok(rc) => Ok(Value {
@@ -362,7 +369,8 @@ impl Value {
     }
 
     pub fn pair(alloc: Global, first: Value, second: Value) -> Result<Value, NoMemory>
-        ensures { IfOk result (λ v. v.means ≡ PairV first.means second.means) }
+        ensures means { IfOk result (λ v. v.means ≡ PairV first.means second.means) }
+        ensures deep { IfOk result (λ v. v.deep ≡ suc (max first.deep second.deep)) }
     {
         match Rc::new(alloc, Both { first, second }) {
             Ok(rc) => Ok(Value {
@@ -373,7 +381,8 @@ impl Value {
     }
 
     pub fn inl(alloc: Global, value: Value) -> Result<Value, NoMemory>
-        ensures { IfOk result (λ v. v.means ≡ InlV value.means) }
+        ensures means { IfOk result (λ v. v.means ≡ InlV value.means) }
+        ensures deep { IfOk result (λ v. v.deep ≡ suc value.deep) }
     {
         let rc = shared(alloc, value)?;
         Ok(Value {
@@ -382,7 +391,8 @@ impl Value {
     }
 
     pub fn inr(alloc: Global, value: Value) -> Result<Value, NoMemory>
-        ensures { IfOk result (λ v. v.means ≡ InrV value.means) }
+        ensures means { IfOk result (λ v. v.means ≡ InrV value.means) }
+        ensures deep { IfOk result (λ v. v.deep ≡ suc value.deep) }
     {
         let rc = shared(alloc, value)?;
         Ok(Value {
@@ -391,7 +401,8 @@ impl Value {
     }
 
     pub fn bang(alloc: Global, value: Value) -> Result<Value, NoMemory>
-        ensures { IfOk result (λ v. v.means ≡ BangV value.means) }
+        ensures means { IfOk result (λ v. v.means ≡ BangV value.means) }
+        ensures deep { IfOk result (λ v. v.deep ≡ suc value.deep) }
     {
         let rc = shared(alloc, value)?;
         Ok(Value {
@@ -402,7 +413,8 @@ impl Value {
     /// The bag of these strands' elements.
     pub(crate) fn bag(alloc: Global, strands: Vec<Strand>) -> Result<Value, NoMemory>
         requires { IsFlow strands.items }
-        ensures { IfOk result (λ v. v.means ≡ BagV (flow_of strands.items)) }
+        ensures means { IfOk result (λ v. v.means ≡ BagV (flow_of strands.items)) }
+        ensures deep { IfOk result (λ v. v.deep ≡ suc (strands_deep strands.items)) }
     {
         match Rc::new(alloc, Flow { strands }) {
             Ok(rc) => Ok(Value {
@@ -414,7 +426,8 @@ impl Value {
 
     /// The bag with no elements.
     pub fn no_elements(alloc: Global) -> Result<Value, NoMemory>
-        ensures { IfOk result (λ v. v.means ≡ BagV []) }
+        ensures means { IfOk result (λ v. v.means ≡ BagV []) }
+        ensures deep { IfOk result (λ v. v.deep ≡ 1) }
     {
         Value::bag(alloc, Vec::new(alloc))
     }
@@ -440,8 +453,9 @@ impl Value {
         requires bag { IsBag self.now.means }
         requires function { IsClosure function.now.means }
         requires goes { AllGo (record { function = function.now.means; left = left; keeps = keeps } ∷ []) (elements self.now.means) }
-        ensures { IfOk result
+        ensures means { IfOk result
             (λ v. v.means ≡ BagV (all_through (record { function = function.now.means; left = left; keeps = keeps } ∷ []) (elements self.now.means))) }
+        ensures deep { IfOk result (λ v. v.deep ≤ suc (stage_deep function.now.deep self.now.deep left)) }
     {
         let closure = function.shared_function();
         let strands = all_staged(alloc, &self.flow().strands, closure, left, keeps)?;
@@ -452,7 +466,8 @@ impl Value {
     pub fn union(&self, alloc: Global, other: &Value) -> Result<Value, NoMemory>
         requires bag { IsBag self.now.means }
         requires other_bag { IsBag other.now.means }
-        ensures { IfOk result (λ v. v.means ≡ BagV (elements self.now.means ++ elements other.now.means)) }
+        ensures means { IfOk result (λ v. v.means ≡ BagV (elements self.now.means ++ elements other.now.means)) }
+        ensures deep { IfOk result (λ v. v.deep ≤ max self.now.deep other.now.deep) }
     {
         let mut strands = Vec::new(alloc);
         put_all(&mut strands, &self.flow().strands)?;
@@ -469,7 +484,8 @@ impl Value {
     ) -> Result<Value, NoMemory>
         requires known { lambda < length nodes.value.terms }
         requires function { IsFunction (term_at nodes.value.terms lambda) }
-        ensures { IfOk result (λ v. v.means ≡ function_of (term_at nodes.value.terms lambda) scope.means) }
+        ensures means { IfOk result (λ v. v.means ≡ function_of (term_at nodes.value.terms lambda) scope.means) }
+        ensures deep { IfOk result (λ v. v.deep ≡ suc scope.deep) }
     {
         match Rc::new(
             alloc,
@@ -542,7 +558,8 @@ impl Value {
     /// The first half of a pair.
     pub fn first(&self) -> Result<Value, NoMemory>
         requires { IsPair self.now.means }
-        ensures { IfOk result (λ v. v.means ≡ first_in self.now.means) }
+        ensures means { IfOk result (λ v. v.means ≡ first_in self.now.means) }
+        ensures deep { IfOk result (λ v. v.deep ≤ self.now.deep) }
     {
         match &self.form {
             Form::Pair(rc) => rc.first.copy(),
@@ -554,7 +571,8 @@ impl Value {
     /// The second half of a pair.
     pub fn second(&self) -> Result<Value, NoMemory>
         requires { IsPair self.now.means }
-        ensures { IfOk result (λ v. v.means ≡ second_in self.now.means) }
+        ensures means { IfOk result (λ v. v.means ≡ second_in self.now.means) }
+        ensures deep { IfOk result (λ v. v.deep ≤ self.now.deep) }
     {
         match &self.form {
             Form::Pair(rc) => rc.second.copy(),
@@ -566,7 +584,8 @@ impl Value {
     /// What a bang holds.
     pub fn banged(&self) -> Result<Value, NoMemory>
         requires { IsBangValue self.now.means }
-        ensures { IfOk result (λ v. v.means ≡ banged_in self.now.means) }
+        ensures means { IfOk result (λ v. v.means ≡ banged_in self.now.means) }
+        ensures deep { IfOk result (λ v. v.deep ≤ self.now.deep) }
     {
         match &self.form {
             Form::Bang(rc) => rc.copy(),
@@ -591,7 +610,8 @@ impl Value {
     /// What an injection holds.
     pub fn side(&self) -> Result<Value, NoMemory>
         requires { IsSum self.now.means }
-        ensures { IfOk result (λ v. v.means ≡ side_in self.now.means) }
+        ensures means { IfOk result (λ v. v.means ≡ side_in self.now.means) }
+        ensures deep { IfOk result (λ v. v.deep ≤ self.now.deep) }
     {
         match &self.form {
             Form::Truth(_) => Ok(Value::unit()),
@@ -605,6 +625,7 @@ impl Value {
         requires { IsBag self.now.means }
         ensures is { self.now.means ≡ BagV (flow_of result.now.strands.items) }
         ensures walked { IsFlow result.now.strands.items }
+        ensures deep { self.now.deep ≡ suc (strands_deep result.now.strands.items) }
     {
         match &self.form {
             Form::Bag(rc) => rc,
@@ -617,7 +638,8 @@ impl Value {
     /// A row of a table.
     pub fn row(table: &Rc<Table>, i: usize) -> Result<Value, NoMemory>
         requires { i < length table.now.value }
-        ensures { IfOk result (λ v. v.means ≡ value_of (row_at table.now.value i)) }
+        ensures means { IfOk result (λ v. v.means ≡ value_of (row_at table.now.value i)) }
+        ensures deep { IfOk result (λ v. v.deep ≡ 0) }
     {
         part(table, i, 0)
     }
@@ -629,6 +651,7 @@ impl Value {
         requires { IsClosure self.now.means }
         ensures is { self.now.means ≡ closure_value result.now.value }
         ensures known { IsKnown result.now.value }
+        ensures deep { result.now.value.scope.deep < self.now.deep }
     {
         match &self.form {
             Form::Fun(rc) => rc,
@@ -641,6 +664,7 @@ impl Value {
         requires { IsClosure self.now.means }
         ensures is { self.now.means ≡ closure_value result.now }
         ensures known { IsKnown result.now }
+        ensures deep { result.now.scope.deep < self.now.deep }
     {
         match &self.form {
             Form::Fun(rc) => rc,

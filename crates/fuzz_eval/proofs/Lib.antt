@@ -1,5 +1,6 @@
 pub mod Datasets
 pub mod Steps
+pub mod Depths
 pub mod Staged
 pub mod Applying
 pub mod Forms

@@ -1,9 +1,10 @@
 -- Stages at work, and what a walk makes of a table's rows.
-use Rattle.std.specs.Prelude.{List, None, Option, Some, [], length, ◌<◌, ◌≡◌, ◌∷◌, ⊤}
+use Rattle.std.specs.Prelude.{List, None, Option, Some, [], length, max, ℕ, ◌+◌, ◌<◌, ◌≡◌, ◌∷◌, ⊤}
 use Rattle.fz_ast.specs.TermNodes.{term_at}
 use Rattle.metric_values.specs.Values.{Flat, Value, value_of}
 use Rattle.run_values.specs.Flats.{IsFlat, flat_of}
 use Rattle.run_values.specs.Parts.{IsNum}
+use Rattle.flow_values.specs.Depths.{added}
 use Rattle.flow_values.specs.Held.{Held}
 use Rattle.flow_values.specs.Steps.{AllGo, Answers, Goes, Step, all_through}
 use Rattle.row_kernels.specs.declared.gather.Gather.{Gather}
@@ -18,6 +19,14 @@ worker_step w = record { function = function_inside w.body.arrow w.inner.means (
 abbrev pub worker_steps : List Worker → List Step
 worker_steps [] = []
 worker_steps (w ∷ ws) = worker_step w ∷ worker_steps ws
+
+-- how deep an element may be held behind a stage, and behind stages, that is held d deep before them
+abbrev pub worker_deep : ℕ → Worker → ℕ
+worker_deep d w = max w.inner.deep (d + 3) + added w.left
+
+abbrev pub workers_deep : ℕ → List Worker → ℕ
+workers_deep d [] = d
+workers_deep d (w ∷ ws) = workers_deep (worker_deep d w) ws
 
 -- the body is one of the nodes, and the height is one that can be said
 abbrev pub IsKnownWorker : Worker → Type 0

@@ -1,5 +1,5 @@
 //! Nodes by their numbers.
-ghost use Rattle.std.specs.Prelude.{◌≡◌, ◌<◌, IfOk, OnOk, length};
+ghost use Rattle.std.specs.Prelude.{◌≡◌, ◌<◌, ◌≤◌, ◌+◌, IfOk, OnOk, length, max};
 ghost use Rattle.fz_ast.specs.Limits.{TermLimits};
 ghost use Rattle.fz_ast.specs.Names.{name_of};
 ghost use Rattle.fz_ast.specs.TermNodes.{IsKnown, term_of, term_at};
@@ -55,7 +55,8 @@ pub fn element_scope(
     body: Body,
 ) -> Result<Scope, NoMemory>
     requires { body.term < length nodes.now.value.terms }
-    ensures { IfOk result (λ s. s.means ≡ Bind (name_of body.name) UnitV scope.now.means) }
+    ensures means { IfOk result (λ s. s.means ≡ Bind (name_of body.name) UnitV scope.now.means) }
+    ensures deep { IfOk result (λ s. s.deep ≡ scope.now.deep + 2) }
 {
     match &look(nodes, body.term).form {
         Form::LetPair(x, y, _, _) => { scope.with_element(alloc, &body.name, x, y, Value::unit()) }
@@ -70,7 +71,8 @@ pub fn bind_element(
     inner: &mut Scope,
     x: Value,
 ) -> Result<(), NoMemory>
-    ensures { OnOk result (inner.new.means ≡ rebound inner.old.means (bound_element arrow x.means)) }
+    ensures means { OnOk result (inner.new.means ≡ rebound inner.old.means (bound_element arrow x.means)) }
+    ensures deep { OnOk result (inner.new.deep ≤ max inner.old.deep (x.deep + 3)) }
 {
     match arrow {
         Arrow::Fun => {

@@ -1,5 +1,5 @@
 //! Terms that need no evaluation: operands of signs are compared and added in their places, and no value is made of them.
-ghost use Rattle.std.specs.Prelude.{◌<◌, IfOk, IfSome, length};
+ghost use Rattle.std.specs.Prelude.{◌≡◌, ◌<◌, ◌≤◌, ◌+◌, IfOk, IfSome, length};
 ghost use Rattle.fz_ast.specs.Names.{name_of};
 ghost use Rattle.fz_ast.specs.TermNodes.{term_at};
 ghost use Rattle.metric_values.specs.Values.{NumV, TextV};
@@ -27,7 +27,8 @@ fn operand<'a>(nodes: &'a Rc<Nodes>, scope: &'a Scope, i: u32) -> Plain<'a>
 
 // What a sign gives for two numbers.
 fn of_numbers(form: Binary, y: i64, z: i64) -> Option<Value>
-    ensures { IfSome result (λ v. GivesSign form (NumV y) (NumV z) v.means) }
+    ensures gives { IfSome result (λ v. GivesSign form (NumV y) (NumV z) v.means) }
+    ensures deep { IfSome result (λ v. v.deep ≡ 0) }
 {
     match form {
         Binary::AtMost => Some(Value::truth(y <= z)),
@@ -40,7 +41,8 @@ fn of_numbers(form: Binary, y: i64, z: i64) -> Option<Value>
 
 // What a sign gives for two texts.
 fn of_texts(form: Binary, s: &[u8], t: &[u8]) -> Option<Value>
-    ensures { IfSome result (λ v. GivesSign form (TextV s.now) (TextV t.now) v.means) }
+    ensures gives { IfSome result (λ v. GivesSign form (TextV s.now) (TextV t.now) v.means) }
+    ensures deep { IfSome result (λ v. v.deep ≡ 0) }
 {
     match form {
         Binary::Equal => Some(Value::truth(s == t)),
@@ -52,7 +54,8 @@ fn of_texts(form: Binary, s: &[u8], t: &[u8]) -> Option<Value>
 pub fn at_once(nodes: &Rc<Nodes>, scope: &Scope, form: Binary, a: u32, b: u32) -> Option<Value>
     requires a_known { a < length nodes.now.value.terms }
     requires b_known { b < length nodes.now.value.terms }
-    ensures { IfSome result (λ v. GivesAtOnce scope.now.means form (term_at nodes.now.value.terms a) (term_at nodes.now.value.terms b) v.means) }
+    ensures gives { IfSome result (λ v. GivesAtOnce scope.now.means form (term_at nodes.now.value.terms a) (term_at nodes.now.value.terms b) v.means) }
+    ensures deep { IfSome result (λ v. v.deep ≡ 0) }
 {
     match operand(nodes, scope, a) {
         Plain::Num(y) => match operand(nodes, scope, b) {
@@ -76,7 +79,8 @@ pub fn taken_apart(
     e: u32,
 ) -> Result<Option<Scope>, NoMemory>
     requires { e < length nodes.now.value.terms }
-    ensures { IfOk result (λ o. IfSome o (λ s. TakesApart scope.now.means (name_of x.now) (name_of y.now) (term_at nodes.now.value.terms e) s.means)) }
+    ensures apart { IfOk result (λ o. IfSome o (λ s. TakesApart scope.now.means (name_of x.now) (name_of y.now) (term_at nodes.now.value.terms e) s.means)) }
+    ensures deep { IfOk result (λ o. IfSome o (λ s. s.deep ≤ scope.now.deep + 4)) }
 {
     match &look(nodes, e).form {
         Form::Var(name) => scope.opened(name, x, y),

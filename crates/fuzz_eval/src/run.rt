@@ -37,14 +37,13 @@ fn value_of(
     root: u32,
     scope: &Scope,
     depth: u32,
-    walks: u32,
 ) -> Result<Value, NoMemory>
     requires known { root < length nodes.now.terms }
     requires has { HasNumber depth scope.now.means (term_at nodes.now.terms root) }
     ensures { IfOk result (λ v. MeansIn depth scope.now.means (term_at nodes.now.terms root) v.means) }
 {
     let places = shared(alloc, nodes)?;
-    eval(alloc, &places, scope, root, depth, walks)
+    eval(alloc, &places, scope, root, depth)
 }
 
 // The number of a term that has one by a derivation at most `depth` high.
@@ -54,13 +53,12 @@ fn number_of(
     root: u32,
     scope: &Scope,
     depth: u32,
-    walks: u32,
 ) -> Result<i64, NoMemory>
     requires known { root < length nodes.now.terms }
     requires has { HasNumber depth scope.now.means (term_at nodes.now.terms root) }
     ensures { IfOk result (λ z. MeansIn depth scope.now.means (term_at nodes.now.terms root) (NumV z)) }
 {
-    let value = value_of(alloc, nodes, root, scope, depth, walks)?;
+    let value = value_of(alloc, nodes, root, scope, depth)?;
     Ok(value.number())
 }
 
@@ -95,5 +93,5 @@ pub fn run(alloc: Global, checked: &Checked, plan: &Plan, tables: &Tables) -> Re
 {
     let scope = scope_of(alloc, checked.sig, tables)?;
     let (nodes, root) = checked.term.parts();
-    number_of(alloc, nodes, root, &scope, plan.depth, plan.walks)
+    number_of(alloc, nodes, root, &scope, plan.depth)
 }

@@ -1,5 +1,5 @@
 //! Words and signs whose parts have values, but for those that give elements to a function.
-ghost use Rattle.std.specs.Prelude.{◌≡◌, bytes_eq, IfOk};
+ghost use Rattle.std.specs.Prelude.{◌≡◌, ◌≤◌, bytes_eq, max, suc, IfOk};
 ghost use Rattle.fz_ast.specs.Names.{text_of};
 ghost use Rattle.metric_law.specs.Means.{MeansIn};
 ghost use Rattle.metric_values.specs.Numbers.{clamp};
@@ -21,7 +21,8 @@ use std::alloc::Global;
 pub fn unary(form: Unary, u: &Value) -> Result<Value, NoMemory>
     requires walks { WalksNot form }
     requires can { Can1 form u.now.means }
-    ensures { IfOk result (λ v. Gives1 form u.now.means v.means) }
+    ensures gives { IfOk result (λ v. Gives1 form u.now.means v.means) }
+    ensures deep { IfOk result (λ v. v.deep ≤ u.now.deep) }
 {
     match form {
         Unary::Fst => u.first(),
@@ -34,13 +35,15 @@ pub fn unary(form: Unary, u: &Value) -> Result<Value, NoMemory>
 
 pub fn scale(k: i64, u: &Value) -> Value
     requires { CanTimes k u.now.means }
-    ensures { GivesTimes k u.now.means result.means }
+    ensures gives { GivesTimes k u.now.means result.means }
+    ensures deep { result.deep ≡ 0 }
 {
     Value::num(times(k, u.number()))
 }
 
 pub fn inject(alloc: Global, side: Side, u: Value) -> Result<Value, NoMemory>
-    ensures { IfOk result (λ v. v.means ≡ injected side u.means) }
+    ensures means { IfOk result (λ v. v.means ≡ injected side u.means) }
+    ensures deep { IfOk result (λ v. v.deep ≡ suc u.deep) }
 {
     match side {
         Side::Inl => Value::inl(alloc, u),
@@ -51,7 +54,8 @@ pub fn inject(alloc: Global, side: Side, u: Value) -> Result<Value, NoMemory>
 fn add(u: &Value, w: &Value) -> Value
     requires u_num { IsNum u.now.means }
     requires w_num { IsNum w.now.means }
-    ensures { result.means ≡ NumV (clamp (number_in u.now.means +ℤ number_in w.now.means)) }
+    ensures means { result.means ≡ NumV (clamp (number_in u.now.means +ℤ number_in w.now.means)) }
+    ensures deep { result.deep ≡ 0 }
 {
     Value::num(plus(u.number(), w.number()))
 }
@@ -59,7 +63,8 @@ fn add(u: &Value, w: &Value) -> Value
 fn subtract(u: &Value, w: &Value) -> Value
     requires u_num { IsNum u.now.means }
     requires w_num { IsNum w.now.means }
-    ensures { result.means ≡ NumV (clamp (number_in u.now.means -ℤ number_in w.now.means)) }
+    ensures means { result.means ≡ NumV (clamp (number_in u.now.means -ℤ number_in w.now.means)) }
+    ensures deep { result.deep ≡ 0 }
 {
     Value::num(minus(u.number(), w.number()))
 }
@@ -91,7 +96,8 @@ pub fn is_text(u: &Value, quoted: &Text) -> bool
 pub fn plain(alloc: Global, form: Binary, u: Value, w: Value, left: u32) -> Result<Value, NoMemory>
     requires plain { AppliesNoFunction form }
     requires can { Can2 left form u.means w.means }
-    ensures { IfOk result (λ v. Gives2 (MeansIn left) form u.means w.means v.means) }
+    ensures gives { IfOk result (λ v. Gives2 (MeansIn left) form u.means w.means v.means) }
+    ensures deep { IfOk result (λ v. v.deep ≤ suc (max u.deep w.deep)) }
 {
     match form {
         Binary::Pair => Value::pair(alloc, u, w),
@@ -108,7 +114,8 @@ pub fn plain(alloc: Global, form: Binary, u: Value, w: Value, left: u32) -> Resu
 /// A number within bounds.
 pub fn clip(lo: i64, hi: i64, u: &Value) -> Value
     requires { CanRanged Clip lo hi u.now.means }
-    ensures { GivesRanged Clip lo hi u.now.means result.means }
+    ensures gives { GivesRanged Clip lo hi u.now.means result.means }
+    ensures deep { result.deep ≡ 0 }
 {
     Value::num(clipped(lo, hi, u.number()))
 }

@@ -1,9 +1,9 @@
 //! Stages at work: each with the scope inside its function's name, which is one for all elements.
-ghost use Rattle.std.specs.Prelude.{◌≡◌, ◌++◌, ◌∷◌, [], IfOk, OnOk};
+ghost use Rattle.std.specs.Prelude.{◌≡◌, ◌≤◌, ◌+◌, ◌++◌, ◌∷◌, [], IfOk, OnOk};
 ghost use Rattle.run_values.specs.Parts.{IsSum};
 ghost use Rattle.flow_values.specs.Computed.{agree, is_true};
-ghost use Rattle.flow_values.specs.Views.{AllKnown, IsKnown, step_of, steps_of};
-ghost use Rattle.fuzz_eval.specs.Walks.{AllKnownWorkers, IsKnownWorker, worker_step, worker_steps};
+ghost use Rattle.flow_values.specs.Views.{AllKnown, IsKnown, stages_deep, step_of, steps_of};
+ghost use Rattle.fuzz_eval.specs.Walks.{AllKnownWorkers, IsKnownWorker, worker_step, worker_steps, workers_deep};
 
 use crate::nodes::{Body, body_of, element_scope};
 use flow_values::{Scope, Stage, Value};
@@ -26,6 +26,7 @@ fn worker_of(alloc: Global, stage: &Stage) -> Result<Worker, NoMemory>
     requires { IsKnown stage.now.function.value }
     ensures is { IfOk result (λ w. worker_step w ≡ step_of stage.now) }
     ensures known { IfOk result (λ w. IsKnownWorker w) }
+    ensures deep { IfOk result (λ w. w.inner.deep ≡ stage.now.function.value.scope.deep + 2) }
 {
     let function = &stage.function;
     let body = body_of(&function.nodes, function.lambda);
@@ -67,6 +68,7 @@ pub fn workers_of(alloc: Global, stages: &[Stage]) -> Result<Vec<Worker>, NoMemo
     requires { AllKnown stages.now }
     ensures are { IfOk result (λ ws. worker_steps ws.items ≡ steps_of stages.now) }
     ensures known { IfOk result (λ ws. AllKnownWorkers ws.items) }
+    ensures deep { IfOk result (λ ws. workers_deep 0 ws.items ≤ stages_deep 0 stages.now) }
 {
     let mut out = Vec::new(alloc);
     for i in 0..stages.len() {

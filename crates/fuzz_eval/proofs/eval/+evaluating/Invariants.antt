@@ -1,69 +1,75 @@
-use Rattle.std.proofs.Common.{◌+◌, ◌*◌, ◌≡◌}
-use Rattle.std.specs.Prelude.{take}
-use Rattle.flow_values.specs.Views.{flow_of, steps_of}
+use Rattle.std.proofs.Common.{◌+◌, ◌*◌, ◌≡◌, ◌≤◌}
+use Rattle.std.specs.Prelude.{max, take}
+use Rattle.flow_values.specs.Depths.{added}
+use Rattle.flow_values.specs.Views.{flow_of, scope_deep, stages_deep, steps_of}
 use Rattle.row_kernels.specs.Gathers.{gathered}
 use Rattle.row_kernels.specs.Flows.{IsFlatTotal}
+use Rattle.fuzz_eval.specs.Walks.{worker_deep, workers_deep}
+use Rattle.fuzz_eval.proofs.Depths.{AreNoDeeper}
 use Rattle.fuzz_eval.proofs.Walked.{AreAtWork, Remains}
 use Rattle.fuzz_eval.proofs.eval.+evaluating.Given as goal
 
--- as many walks as are left, and then as high as a derivation may be
-
+-- how deep what it can make is held; a bag's stages are held less deep than the bag
 abbrev pub decreases-eval : goal.decreases-eval
-decreases-eval l = 1099511627776 * l.walks + 8 * l.left + 2
+decreases-eval l = 16 * (l.scope.deep + added l.left) + 2
 
 abbrev pub decreases-eval_two : goal.decreases-eval_two
-decreases-eval_two l = 1099511627776 * l.walks + 8 * l.left + 7
+decreases-eval_two l = 16 * (l.scope.deep + added l.left + added l.left) + 50
 
 abbrev pub decreases-eval_equal : goal.decreases-eval_equal
-decreases-eval_equal l = 1099511627776 * l.walks + 8 * l.left + 3
+decreases-eval_equal l = 16 * (l.scope.deep + added l.left) + 3
 
 abbrev pub decreases-eval_pair : goal.decreases-eval_pair
-decreases-eval_pair l = 1099511627776 * l.walks + 8 * l.left + 4
+decreases-eval_pair l = 16 * (l.scope.deep + added l.left + added l.left) + 70
 
 abbrev pub decreases-eval_other : goal.decreases-eval_other
-decreases-eval_other l = 1099511627776 * l.walks + 8 * l.left
+decreases-eval_other l = 16 * (l.scope.deep + added l.left)
 
 abbrev pub decreases-eval_under : goal.decreases-eval_under
-decreases-eval_under l = 1099511627776 * l.walks + 8 * l.left + 3
+decreases-eval_under l = 16 * (scope_deep l.value.deep l.scope.deep + added l.left) + 3
 
 abbrev pub decreases-apply : goal.decreases-apply
-decreases-apply l = 1099511627776 * l.walks + 8 * l.left + 4
-
-abbrev pub decreases-apply_to_element : goal.decreases-apply_to_element
-decreases-apply_to_element l = 1099511627776 * l.walks + 8 * l.left + 4
+decreases-apply l = 16 * (scope_deep l.c.deep l.u.deep + added l.left) + 4
 
 abbrev pub decreases-combine : goal.decreases-combine
-decreases-combine l = 1099511627776 * l.walks + 8 * l.left + 6
+decreases-combine l = 16 * (scope_deep l.u.deep l.w.deep + added l.left) + 6
 
-abbrev pub decreases-word : goal.decreases-word
-decreases-word l = 1099511627776 * l.walks + 2
-
-abbrev pub decreases-bounded : goal.decreases-bounded
-decreases-bounded l = 1099511627776 * l.walks + 2
-
-abbrev pub decreases-tally : goal.decreases-tally
-decreases-tally l = 1099511627776 * l.walks + 1
+abbrev pub decreases-apply_to_element : goal.decreases-apply_to_element
+decreases-apply_to_element l = 16 * (max l.inner.deep (l.x.deep + 3) + added l.left) + 6
 
 abbrev pub decreases-step : goal.decreases-step
-decreases-step l = 1099511627776 * l.walks + 68719476736
+decreases-step l = 16 * worker_deep l.x.deep l.worker + 7
 
 abbrev pub decreases-pass : goal.decreases-pass
-decreases-pass l = 1099511627776 * l.walks + 68719476737
+decreases-pass l = 16 * workers_deep l.x.deep l.workers.items + 8
 
 abbrev pub decreases-walk_rows : goal.decreases-walk_rows
-decreases-walk_rows l = 1099511627776 * l.walks + 68719476738
+decreases-walk_rows l = 16 * stages_deep 0 l.branch.stages.items + 9
 
 abbrev pub decreases-walk_strand : goal.decreases-walk_strand
-decreases-walk_strand l = 1099511627776 * l.walks + 68719476739
+decreases-walk_strand l = 16 * l.strand.chain.deep + 10
 
 abbrev pub decreases-walk : goal.decreases-walk
-decreases-walk l = 1099511627776 * l.walks + 68719476740
+decreases-walk l = 16 * l.b.deep + 11
+
+abbrev pub decreases-tally : goal.decreases-tally
+decreases-tally l = 16 * l.b.deep + 12
+
+abbrev pub decreases-word : goal.decreases-word
+decreases-word l = 16 * l.u.deep + 13
+
+abbrev pub decreases-bounded : goal.decreases-bounded
+decreases-bounded l = 16 * l.u.deep + 13
 
 abbrev pub invariant-pass-loop-i : goal.invariant-pass-loop-i
-invariant-pass-loop-i l = Remains l.fn.workers.items l.workers.items l.fn.x.means l.i l.at.means
+invariant-pass-loop-i l =
+    Remains l.fn.workers.items l.workers.items l.fn.x.means l.i l.at.means × AreNoDeeper l.fn.x.deep l.fn.workers.items l.workers.items
+    × (l.at.deep ≤ workers_deep l.fn.x.deep (take l.i l.fn.workers.items))
 
 abbrev pub invariant-walk_rows-loop-i : goal.invariant-walk_rows-loop-i
-invariant-walk_rows-loop-i l = AreAtWork l.workers.items (steps_of l.branch.stages.items) × IsFlatTotal l.gather (steps_of l.branch.stages.items) l.branch.table.value l.i l.total
+invariant-walk_rows-loop-i l =
+    AreAtWork l.workers.items (steps_of l.branch.stages.items) × IsFlatTotal l.gather (steps_of l.branch.stages.items) l.branch.table.value l.i l.total
+    × (workers_deep 0 l.workers.items ≤ stages_deep 0 l.branch.stages.items)
 
 abbrev pub invariant-walk-loop-i : goal.invariant-walk-loop-i
 invariant-walk-loop-i l = l.total ≡ gathered l.gather (flow_of (take l.i l.strands))

@@ -21,7 +21,7 @@ loop-i-preserved c =
     record {
       below = let h = c.loop-i.invariant.below in omega (arith, h);
       bound =
-          c.in_ok-scope.ensures ∙ ap (λ v. Bind name v c.loop-i.scope.means) (c.in_ok-rows.ensures ∙ ap BagV c.table.ensures)
+          c.in_ok-scope.ensures.means ∙ ap (λ v. Bind name v c.loop-i.scope.means) (c.in_ok-rows.ensures ∙ ap BagV c.table.ensures)
           ∙ ap (λ γ. Bind name (BagV (get_or X (i - 1) [])) γ) (c.loop-i.invariant.bound ∙ ap (λ n. rows_of (drop n ts) (drop n X)) (sym e))
           ∙ rows_of_more ts X c.requires (i - 1) (table_of c.table-in-loop-i-2.result.now) c.table-in-loop-i-2.ensures.is;
       signature = λ l. c.table-in-loop-i-2.ensures.signature;
