@@ -186,13 +186,13 @@ module _ {D : Type 0} (trace : D → Option Trace) (faults : D → ℕ) (header 
           → IsOpenedCopy header (Shows disk) (Holding (version_of journal) own) (copy_on trace faults records new)
       opened_read (half.Gone other) went = absurd went
       opened_read (half.Kept side) went = (
-          trace (disk_of journal),
-          read.found,
-          subst (λ (n : ℕ). HeldWent (record { trace = trace (disk_of journal); faults = n }) (Shows (disk_of side.journal)) (record { header = here; has = own; closed = None })
-              (held_on trace faults records side)) read.passed
-              (subst (λ (rs : List Record). HeldWent (Shows (disk_of journal)) (Shows (disk_of side.journal)) (record { header = here; has = rs; closed = None })
-              (held_on trace faults records side)) (ap (take (length own)) first_ones ∙ all_own) went),
-        )
+        trace (disk_of journal),
+        read.found,
+        subst (λ (n : ℕ). HeldWent (record { trace = trace (disk_of journal); faults = n }) (Shows (disk_of side.journal)) (record { header = here; has = own; closed = None })
+            (held_on trace faults records side)) read.passed
+            (subst (λ (rs : List Record). HeldWent (Shows (disk_of journal)) (Shows (disk_of side.journal)) (record { header = here; has = rs; closed = None })
+            (held_on trace faults records side)) (ap (take (length own)) first_ones ∙ all_own) went),
+      )
 
   -- ---- two disks that were read
 
@@ -208,9 +208,9 @@ module _ {D : Type 0} (trace : D → Option Trace) (faults : D → ℕ) (header 
   begin_both (sight.Gone now empty) (sight.Unfit other fault) version records made = absurd made
   begin_both (sight.Has journal own) (sight.Gone other empty) version records made = (first_begins (version_of journal) own.items (Missing empty) version records made, tt)
   begin_both (sight.Has journal own) (sight.Has k others) version records made = (
-      first_begins (version_of journal) own.items (Holding (version_of k) others.items) version records made,
-      second_begins (version_of k) others.items (Holding (version_of journal) own.items) version records made,
-    )
+    first_begins (version_of journal) own.items (Holding (version_of k) others.items) version records made,
+    second_begins (version_of k) others.items (Holding (version_of journal) own.items) version records made,
+  )
   begin_both (sight.Has journal own) (sight.Unfit other fault) version records made = absurd made
   begin_both (sight.Unfit now fault) t version records made = absurd made
 
@@ -319,9 +319,9 @@ module _ {D : Type 0} (trace : D → Option Trace) (faults : D → ℕ) (header 
       (first : one ≡ disk_under s) (second : other ≡ disk_under t) (fault : BothFault) where
     pub both_left : AreLeft (twins_of trace faults d e) (twins_of trace faults one other)
     both_left = (
-        subst (λ (x : D). IsLeft (Shows d) (Shows x)) (sym first) (sight_left d s is),
-        subst (λ (x : D). IsLeft (Shows e) (Shows x)) (sym second) (sight_left e t at),
-      )
+      subst (λ (x : D). IsLeft (Shows d) (Shows x)) (sym first) (sight_left d s is),
+      subst (λ (x : D). IsLeft (Shows e) (Shows x)) (sym second) (sight_left e t at),
+    )
 
     pub both_refused : MakeNone (reading_in s) (reading_in t) fault
         ⊎ ((version : ℕ) × (records : List Record) × Make (reading_in s) (reading_in t) version records × AreUnfit (record entry { version = version }) records fault)

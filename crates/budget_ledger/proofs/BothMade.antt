@@ -91,8 +91,10 @@ module _ (header : Header) where
       let there = init.there n refl in (
         there.0,
         untouched other now asked_too,
-        inl (subst (λ (o : Option Trace). IfSome o (λ t. n ≡ length (seen_of t))) asked.same (told_long mid.trace n there.2),
-            record { same = there.1 ∙ asked.same; later = omega (arith, init.later, asked.still) }),
+        inl (
+          subst (λ (o : Option Trace). IfSome o (λ t. n ≡ length (seen_of t))) asked.same (told_long mid.trace n there.2),
+          record { same = there.1 ∙ asked.same; later = omega (arith, init.later, asked.still) },
+        ),
       )
 
   -- the second wasn't, once the first was
@@ -106,9 +108,11 @@ module _ (header : Header) where
       let there = init.there n refl in (
         there.0,
         record { same = there.1 ∙ asked.same; later = omega (arith, init.later, asked.still) },
-        inr (empty_by before.trace j long zero,
-            subst (λ (o : Option Trace). IfSome o (λ t. n ≡ length (seen_of t))) asked.same (told_long now.trace n there.2),
-            none_such other.trace long_too (λ t told. there.2 t (asked.same ∙ told)) there.0),
+        inr (
+          empty_by before.trace j long zero,
+          subst (λ (o : Option Trace). IfSome o (λ t. n ≡ length (seen_of t))) asked.same (told_long now.trace n there.2),
+          none_such other.trace long_too (λ t told. there.2 t (asked.same ∙ told)) there.0,
+        ),
       )
     where
       none_such : (o : Option Trace) → IfSome o (λ t. k ≡ length (seen_of t)) → ((t : Trace) → o ≡ Some t → n ≡ length (seen_of t)) → (n ≡ 0 → ⊥)

@@ -128,12 +128,7 @@ fn kept<D: Disk>(journal: Journal<D>, has: u32, header: &Header) -> Half<D>
 }
 
 // Why two journals make no list, if they differ.
-fn differ(
-    version: u8,
-    records: &[Record],
-    other: u8,
-    others: &[Record],
-) -> Option<BothFault>
+fn differ(version: u8, records: &[Record], other: u8, others: &[Record]) -> Option<BothFault>
     requires { length records.now < 2 ^ 32 }
     ensures differ { IfSome result (MakeNone (Holding version records.now) (Holding other others.now)) }
     ensures along { IfNone result (AgreeOnCost version other × (IsPrefix records.now others.now ⊎ IsPrefix others.now records.now)) }
@@ -381,11 +376,7 @@ impl<D: Disk> Book<D> {
 
 /// Makes a journal of no records on each of two empty disks, in the header's version, which isn't the first. The lengths of both are looked
 /// at before anything is written; then the first is made, and the second.
-pub fn init_both<D: Disk>(
-    first: &mut D,
-    second: &mut D,
-    header: &Header,
-) -> Result<(), InitFault>
+pub fn init_both<D: Disk>(first: &mut D, second: &mut D, header: &Header) -> Result<(), InitFault>
     requires valid { IsHeader header.now }
     requires grown { 2 ≤ header.now.version }
     ensures first { OnOk result (HasMade header.now (shown_on D.trace D.faults first.old) (shown_on D.trace D.faults first.new)) }
