@@ -1,8 +1,8 @@
 -- Why journals aren't made on two disks, and what is made.
-use Rattle.std.proofs.Common.{◌≡◌, ◌≢◌, ◌⊎◌, ℕ, ◌≤◌, List, [], length, refl, sym, ◌∙◌, ap, subst, arith, inl, inr, Option, Some, None, Err}
-use Rattle.std.specs.Prelude.{IfSome, IsErrOf}
+use Rattle.std.proofs.Common.{◌≡◌, ◌≢◌, ℕ, ◌≤◌, [], length, refl, sym, ◌∙◌, subst, arith, inl, inr, Option, Some, None, Result, Ok, Err}
+use Rattle.std.specs.Prelude.{IfSome, IfErr, IsErrAnd}
 use Rattle.std.proofs.lemmas.List.{nil_from_length}
-use Rattle.fz_outside.specs.Faults.{HasCause, HasRisen}
+use Rattle.fz_outside.specs.Faults.{HasRisen}
 use Rattle.outside_disks.specs.Disks.{Trace, Shown, WhereTold, seen_of}
 use Rattle.outside_disks.specs.Stored.{Twins}
 use Rattle.journal_records.specs.declared.records.Header.{Header}
@@ -11,7 +11,7 @@ use Rattle.budget_journal.specs.declared.making.InitFault.TheVariants.{DiskFault
 use Rattle.budget_journal.specs.Journals.{IsAtRest, TellsSome}
 use Rattle.budget_journal.specs.Making.{MakesJournal, BeginsSome, AddsSteps}
 use Rattle.budget_journal.proofs.Made.{told-nothing}
-use Rattle.budget_ledger.specs.Both.{HoldsBytes, HasMade, HasBroken, IsUntouched, IsBothInitFault}
+use Rattle.budget_ledger.specs.Both.{HasMade, HasBroken, IsUntouched, IsBothInitFault}
 
 -- A disk whose length was asked for.
 pub record IsAsked (before after : Shown) : Type 0 where
@@ -35,6 +35,12 @@ pub record IsInit (header : Header) (before after : Shown) (fault : InitFault) :
   pub there : (n : ℕ) → fault ≡ AlreadyThere n → (n ≢ 0) × (after.trace ≡ before.trace) × ((t : Trace) → before.trace ≡ Some t → n ≡ length (seen_of t))
   pub later : before.faults ≤ after.faults
   pub failed : fault ≡ DiskFault → HasRisen before.faults after.faults
+
+-- A call of a disk failed.
+pub stop_failed : {T : Type 0} (header : Header) (before now : Twins) (r : Result T InitFault) → IsErrAnd r (λ e. e ≡ DiskFault)
+    → IsBothInitFault header before now DiskFault → IfErr r (IsBothInitFault header before now)
+stop_failed header before now (Ok value) wrong holds = tt
+stop_failed header before now (Err fault) same holds = subst (IsBothInitFault header before now) (sym same) holds
 
 module _ (header : Header) where
   -- the call that asks for a disk's length failed
@@ -85,8 +91,10 @@ module _ (header : Header) where
       let there = init.there n refl in (
         there.0,
         untouched other now asked_too,
-        inl (subst (λ (o : Option Trace). IfSome o (λ t. n ≡ length (seen_of t))) asked.same (told_long mid.trace n there.2),
-            record { same = there.1 ∙ asked.same; later = omega (arith, init.later, asked.still) }),
+        inl (
+          subst (λ (o : Option Trace). IfSome o (λ t. n ≡ length (seen_of t))) asked.same (told_long mid.trace n there.2),
+          record { same = there.1 ∙ asked.same; later = omega (arith, init.later, asked.still) },
+        ),
       )
 
   -- the second wasn't, once the first was
@@ -100,9 +108,11 @@ module _ (header : Header) where
       let there = init.there n refl in (
         there.0,
         record { same = there.1 ∙ asked.same; later = omega (arith, init.later, asked.still) },
-        inr (empty_by before.trace j long zero,
-            subst (λ (o : Option Trace). IfSome o (λ t. n ≡ length (seen_of t))) asked.same (told_long now.trace n there.2),
-            none_such other.trace long_too (λ t told. there.2 t (asked.same ∙ told)) there.0),
+        inr (
+          empty_by before.trace j long zero,
+          subst (λ (o : Option Trace). IfSome o (λ t. n ≡ length (seen_of t))) asked.same (told_long now.trace n there.2),
+          none_such other.trace long_too (λ t told. there.2 t (asked.same ∙ told)) there.0,
+        ),
       )
     where
       none_such : (o : Option Trace) → IfSome o (λ t. k ≡ length (seen_of t)) → ((t : Trace) → o ≡ Some t → n ≡ length (seen_of t)) → (n ≡ 0 → ⊥)

@@ -1,6 +1,5 @@
 -- What the parts of an opening of two disks give one another.
-use Rattle.std.specs.Prelude.{◌≡◌, ◌≢◌, ◌⊎◌, ℕ, ◌≤◌, true, false, List, [], length, take, Option, Some, None, IfSome, ⊤, All}
-use Rattle.fz_outside.specs.Faults.{HasRisen}
+use Rattle.std.specs.Prelude.{◌≡◌, ◌⊎◌, ℕ, ◌≤◌, false, List, length, take, Option, None, IfSome, ⊤, All}
 use Rattle.outside_disks.specs.Disks.{Trace, WhereTold}
 use Rattle.journal_records.specs.Encoding.{IsValid}
 use Rattle.journal_records.specs.declared.records.Record.{Record}
@@ -109,14 +108,16 @@ module _ {D : Type 0} (trace : D → Option Trace) (faults : D → ℕ) where
     pub room : length joined.records.items ≤ header.capacity
     pub valid : All IsValid joined.records.items
 
-  -- One of two disks from before it got what it lacked to afterwards.
+  -- A journal from before it got what it lacked to afterwards, as far as its disk went along.
+  abbrev pub SideLevelled : List Record → (old new : Side D) → Type 0
+  SideLevelled records old new = HeldWent (shown_on trace faults (disk_of old.journal)) (shown_on trace faults (disk_of new.journal))
+      (held_on trace faults (take old.has records) old) (held_on trace faults records new)
+
   abbrev pub HalfLevelled : List Record → (old new : Half D) → Type 0
   HalfLevelled records (half.Gone disk) (half.Gone still) = still ≡ disk
   HalfLevelled records (half.Gone disk) (half.Kept side) = ⊥
   HalfLevelled records (half.Kept side) (half.Gone disk) = ⊥
-  HalfLevelled records (half.Kept old) (half.Kept new) =
-      HeldWent (shown_on trace faults (disk_of old.journal)) (shown_on trace faults (disk_of new.journal))
-      (held_on trace faults (take old.has records) old) (held_on trace faults records new)
+  HalfLevelled records (half.Kept old) (half.Kept new) = SideLevelled records old new
 
   -- the book of what two disks make
   pub record IsJudged (entry : Entry) (header : Header) (joined : Joined D) (book : Account) : Type 0 where
