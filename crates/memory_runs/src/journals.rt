@@ -146,9 +146,13 @@ impl<B: Bay + Drop> Journals<B> {
 
     /// The disks of owners 0 and 1, where each has one and the bay gives them.
     pub fn into_disks(self) -> Option<(B::D, B::D)> {
-        match self.into_homes()? {
-            (Disks::One(first), Disks::One(second)) => Some((first, second)),
-            _ => None,
+        let (first, second) = self.into_homes()?;
+        match first {
+            Disks::One(first) => match second {
+                Disks::One(second) => Some((first, second)),
+                Disks::Both(_, _) => None,
+            },
+            Disks::Both(_, _) => None,
         }
     }
 }

@@ -302,28 +302,42 @@ fn left_of(alloc: Global, disk: &MemDisk<'_>, torn: Option<Torn>) -> Result<Vec<
     }
 }
 
-// The bytes that are left on the disks. Where owners have one, mirrors have what they had.
+// The bytes that are left on an owner's disk and mirror. A mirror that the owner doesn't have is as it was.
+fn left_at(
+    alloc: Global,
+    home: &Home<MemDisk<'_>>,
+    torn: Option<Torn>,
+    mirror_torn: Option<Torn>,
+    mirror: &[u8],
+) -> Result<(Vec<u8>, Vec<u8>), AllocError> {
+    match home {
+        Home::One(disk) => Ok((left_of(alloc, disk, torn)?, mirror.to_vec(alloc)?)),
+        Home::Both(disk, other) => Ok((
+            left_of(alloc, disk, torn)?,
+            left_of(alloc, other, mirror_torn)?,
+        )),
+    }
+}
+
+// The bytes that are left on the disks of these journals.
 fn left_on(
     alloc: Global,
     journals: MemJournals<'_>,
     faults: &Faults,
     before: &Disks,
 ) -> Result<Disks, AllocError> {
-    match journals.into_homes() {
-        Some((Home::One(first), Home::One(second))) => Ok(Disks {
-            first: left_of(alloc, &first, faults.torn)?,
-            second: second.bytes().to_vec(alloc)?,
-            first_mirror: before.first_mirror.to_vec(alloc)?,
-            second_mirror: before.second_mirror.to_vec(alloc)?,
-        }),
-        Some((Home::Both(first, of_first), Home::Both(second, of_second))) => Ok(Disks {
-            first: left_of(alloc, &first, faults.torn)?,
-            second: second.bytes().to_vec(alloc)?,
-            first_mirror: left_of(alloc, &of_first, faults.mirror_torn)?,
-            second_mirror: of_second.bytes().to_vec(alloc)?,
-        }),
-        _ => Err(AllocError),
-    }
+    let Some((home, other)) = journals.into_homes() else {
+        return Err(AllocError);
+    };
+    let (torn, mirror_torn) = (faults.torn, faults.mirror_torn);
+    let (first, first_mirror) = left_at(alloc, &home, torn, mirror_torn, &before.first_mirror)?;
+    let (second, second_mirror) = left_at(alloc, &other, None, None, &before.second_mirror)?;
+    Ok(Disks {
+        first,
+        second,
+        first_mirror,
+        second_mirror,
+    })
 }
 
 // Whether the first of the commands wants two disks for each owner.

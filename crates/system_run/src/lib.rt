@@ -2,7 +2,7 @@
 //! input and standard output, and the ports of an address.
 #![tactic(auto)]
 
-ghost use Rattle.std.specs.Prelude.{◌≡◌, ℕ, ◌<◌, length, Some, map, string_bytes, IfOk};
+ghost use Rattle.std.specs.Prelude.{◌≡◌, ℕ, ◌<◌, length, is_some, Some, map, string_bytes, IfOk};
 ghost use Rattle.std.specs.Process.{exit_status};
 ghost use Rattle.command_words.specs.Mirrored.{is_mirrored};
 ghost use Rattle.outside_disks.specs.Stored.{Stored, is_two};
@@ -49,7 +49,19 @@ fn without_memory<K: Sink>(sink: &mut K) -> Status {
     }
 }
 
+// The folder of mirrors, where a word says that there are some.
+fn mirrors_for(words: &[String]) -> Option<&'static str>
+    ensures { is_some result ≡ is_mirrored (map string_bytes words.now) }
+{
+    if is_mirrored(words) {
+        Some("mirrors")
+    } else {
+        None
+    }
+}
+
 // The bay of the journals. Each is kept on two disks where a word says so.
+#[tactic(auto, using(crate::proofs::Homes::homes_as_said, crate::proofs::Homes::twins_as_said))]
 fn bay_for<'a>(
     rt: &'a HostRuntime,
     alloc: Global,
@@ -61,12 +73,7 @@ fn bay_for<'a>(
     ensures twins { IfOk result (λ bay. (n : ℕ) → n < OWNERS → (stored : Stored) × (⟦<RealBay<'a, HostRuntime> as Bay>⟧.shelf bay n ≡ Some stored)
         × (is_two stored.twins ≡ is_mirrored (map string_bytes words.now))) }
 {
-    let mirrors = if is_mirrored(words) {
-        Some("mirrors")
-    } else {
-        None
-    };
-    RealBay::new(alloc, rt, "journals", mirrors, OWNERS)
+    RealBay::new(alloc, rt, "journals", mirrors_for(words), OWNERS)
 }
 
 // A door for each worker that there may be.
