@@ -1,7 +1,7 @@
 -- Journals made up to one that isn't.
 use Rattle.std.proofs.Common.{◌≡◌, ◌<◌, ◌≤◌, ◌∙◌, ℕ, List, [], length, Option, Some, None, refl, ap, subst, sym, arith}
 use Rattle.std.proofs.lemmas.Bool.{cases_order}
-use Rattle.std.specs.Prelude.{◌≢◌, Err, IfErr, IfSome, IsErrAnd, IsSome, Ok, Result, option_map, ⊤}
+use Rattle.std.specs.Prelude.{◌≢◌, Err, IfErr, IfSome, IsErrAnd, IsSome, Ok, OnOk, Result, option_map, ⊤}
 use mathlib.Core.Logic.{◌⊎◌, inl, inr}
 use Rattle.fz_outside.specs.Faults.{HasCause, HasRisen}
 use Rattle.outside_disks.specs.Disks.{Shown, Trace, seen_of}
@@ -132,18 +132,24 @@ bytes_same n P None same is = tt
 bytes_same n P (Some t) same is = same (seen_of t) is
 
 pub two_unmade : (header : Header) (fault : InitFault) (before after : Twins) → IsBothInitFault header before after fault → IsUnmade fault (two_stored before) (two_stored after)
-two_unmade header (AlreadyThere n) before after (some, second, inl (long, first)) =
-    (grind (arith, some), (tt, inl (bytes_same n (λ bytes. length bytes ≡ n) before.first.trace (λ bytes is. sym is) long)), record {
-      synced = inl refl;
-      counts = omega arith;
-      twins = (second, told before.second.trace (IsUntouched before.first after.first) first);
-    })
-two_unmade header (AlreadyThere n) before after (some, second, inr (empty, long, first)) =
-    (grind (arith, some), (tt, inr (empty, bytes_same n (λ bytes. length bytes ≡ n) before.second.trace (λ bytes is. sym is) long)), record {
-      synced = inl refl;
-      counts = omega arith;
-      twins = (second, first);
-    })
+two_unmade header (AlreadyThere n) before after (some, second, inl (long, first)) = (
+  grind (arith, some),
+  (tt, inl (bytes_same n (λ bytes. length bytes ≡ n) before.first.trace (λ bytes is. sym is) long)),
+  record {
+    synced = inl refl;
+    counts = omega arith;
+    twins = (second, told before.second.trace (IsUntouched before.first after.first) first);
+  },
+)
+two_unmade header (AlreadyThere n) before after (some, second, inr (empty, long, first)) = (
+  grind (arith, some),
+  (tt, inr (empty, bytes_same n (λ bytes. length bytes ≡ n) before.second.trace (λ bytes is. sym is) long)),
+  record {
+    synced = inl refl;
+    counts = omega arith;
+    twins = (second, first);
+  },
+)
 two_unmade header DiskFault before after (inl (broken, second)) = (omega arith, inr (inr (inl broken.risen)), tt)
 two_unmade header DiskFault before after (inr (broken, first)) = (omega arith, inr (inr (inr broken.risen)), tt)
 
@@ -152,9 +158,11 @@ two_risen header (AlreadyThere n) before after unmade is = cc is
 two_risen header DiskFault before after (inl (broken, second)) is = inr (inl broken.risen)
 two_risen header DiskFault before after (inr (broken, first)) is = inr (inr broken.risen)
 
-pub one_made : (header : Header) (t u : Option Trace) (m n : ℕ) → ((x : Trace) → t ≡ Some x → (seen_of x ≡ []) × TellsSome (IsAtRest header []) u) → n ≡ m
-    → IsMade header (one_stored (shown_as t m)) (one_stored (shown_as u n))
-one_made header t u m n made same = record { made = made; counts = same; twins = tt }
+pub one_made : {T E : Type 0} (header : Header) (t u : Option Trace) (m n : ℕ) (result : Result T E)
+    → OnOk result ((x : Trace) → t ≡ Some x → (seen_of x ≡ []) × TellsSome (IsAtRest header []) u) → OnOk result (n ≡ m)
+    → OnOk result (IsMade header (one_stored (shown_as t m)) (one_stored (shown_as u n)))
+one_made header t u m n (Ok x) made same = record { made = made; counts = same; twins = tt }
+one_made header t u m n (Err e) made same = tt
 
 not_told : {P : Type 0} (t : Trace) → None ≡ Some t → P
 not_told t is = absurd (cc is)
