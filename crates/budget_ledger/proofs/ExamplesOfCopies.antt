@@ -1,10 +1,10 @@
 -- A book on two disks, on both sides of each choice.
-use Rattle.std.proofs.Common.{◌≡◌, ◌⊎◌, ℕ, ◌<◌, List, [], ◌∷◌, ◌++◌, length, refl, sym, ap, subst, arith, inl, inr, Option, Some, None}
+use Rattle.std.proofs.Common.{◌≡◌, ◌⊎◌, ℕ, ◌<◌, List, [], ◌∷◌, length, refl, sym, ap, subst, arith, inl, inr, Option, Some, None}
 use Rattle.outside_disks.specs.Disks.{Trace, Shown}
 use Rattle.outside_disks.specs.Stored.{one_stored, two_stored}
 use Rattle.journal_records.specs.declared.records.Outcome.TheVariants.{Lost}
 use Rattle.journal_records.specs.declared.records.Record.{Record}
-use Rattle.journal_records.specs.declared.records.Record.TheVariants.{Reserve, Settle, Grant}
+use Rattle.journal_records.specs.declared.records.Record.TheVariants.{Settle}
 use Rattle.journal_records.specs.Records.{settling}
 use Rattle.journal_records.specs.declared.records.Header.{Header}
 use Rattle.budget_ledger.specs.Account.{Failure, Held, Copy, Copies, Storage, with_closing, count_of, IsHeldCopy, AreCopies, HeldWent, CopyWent, EachCopyWent, stored_by}
@@ -87,7 +87,7 @@ lags_by_none = lags (lost ∷ []) (Some fell) (inl refl) refl
 lags_in_use : IsHeldCopy wide two None (shown 0) (record in_use { has = lost ∷ [] }) → ⊥
 lags_in_use copy = let same : 1 ≡ 2 = ap (λ (rs : List Record). length rs) (copy.whole refl) in omega (arith, same)
 
-number_in : List Record → ℕ
+abbrev number_in : List Record → ℕ
 number_in (first ∷ Settle settlement ∷ rest) = settlement.number
 number_in records = 7
 

@@ -8,7 +8,7 @@ use Rattle.journal_records.specs.declared.records.Record.{Record}
 use Rattle.journal_records.specs.declared.records.Header.{Header}
 use Rattle.budget_journal.specs.Journals.{Stands, IsAtRest, IsBeforeOrAfter}
 use Rattle.budget_journal.proofs.One.{stands-one}
-use Rattle.budget_ledger.specs.Account.{Failure, Held, Copies, Storage, IsKeptNow, IsMoment, IsHeldCopy, IsInUse, AreCopies, HeldWent, with_closing}
+use Rattle.budget_ledger.specs.Account.{Failure, Held, IsKeptNow, IsMoment, IsHeldCopy, HeldWent, with_closing}
 use Rattle.budget_ledger.specs.Laws.{ASoundSideHasAll, IsOpenByOne, SidesNeverFork}
 use Rattle.budget_ledger.proofs.Wents.{prefix_self, prefix_by, prefix_then, held_alone, storage_on}
 use Rattle.budget_ledger.proofs.Opens.{alone_from_rest}

@@ -68,6 +68,8 @@ module _ {D : Type 0} (trace : D → Option Trace) (faults : D → ℕ) where
       let one = side_went next mid new answer written stopped in
       let on = half_on trace faults common records next (Kept mid) (Kept new) one.0 holds ready one.1 in
       subst (λ (rs : List Record). HoldsSide trace faults common rs None new
-          × HeldWent (shown_on trace faults (disk_of start.journal)) (shown_on trace faults (disk_of new.journal)) (held_on trace faults found start) (held_on trace faults rs new)) (sym is)
-      (on.0, held_then (shown_on trace faults (disk_of start.journal)) (shown_on trace faults (disk_of mid.journal)) (shown_on trace faults (disk_of new.journal))
-          (held_on trace faults found start) (held_on trace faults records mid) (held_on trace faults (records ++ next ∷ []) new) went on.1)
+      × HeldWent (shown_on trace faults (disk_of start.journal)) (shown_on trace faults (disk_of new.journal)) (held_on trace faults found start) (held_on trace faults rs new)) (sym is) (
+        on.0,
+        held_then (shown_on trace faults (disk_of start.journal)) (shown_on trace faults (disk_of mid.journal)) (shown_on trace faults (disk_of new.journal))
+            (held_on trace faults found start) (held_on trace faults records mid) (held_on trace faults (records ++ next ∷ []) new) went on.1,
+      )

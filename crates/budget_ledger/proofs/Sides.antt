@@ -1,5 +1,5 @@
 -- What an append makes of a journal on one of two disks.
-use Rattle.std.proofs.Common.{◌≡◌, ◌⊎◌, ℕ, ◌+◌, ◌<◌, ◌≤◌, take, List, [], ◌∷◌, ◌++◌, length, length-append, refl, sym, ◌∙◌, ap, subst, arith, inl, inr, Bool, true, false, Option, Some, None, Result, Ok, Err, IsOk}
+use Rattle.std.proofs.Common.{◌≡◌, ℕ, ◌<◌, ◌≤◌, take, List, [], ◌∷◌, ◌++◌, length, length-append, refl, sym, ◌∙◌, ap, subst, arith, Bool, true, false, Option, Some, None, Result, Ok, Err, IsOk}
 use Rattle.std.specs.Prelude.{IfSome, IsSome, ⊤}
 use Rattle.std.proofs.lemmas.List.{take_all, take-append-le}
 use Rattle.std.proofs.lemmas.Bool.{ltb-true, ltb-false}
@@ -9,13 +9,13 @@ use Rattle.fz_outside.specs.Faults.{HasRisen, last_count}
 use Rattle.outside_disks.specs.Disks.{Trace, WhereTold}
 use Rattle.journal_records.specs.declared.records.Record.{Record}
 use Rattle.journal_records.specs.declared.records.Header.{Header}
-use Rattle.budget_journal.specs.Journals.{IsAtRest, IsMarked, disk_of, used, capacity_of, mark_of}
-use Rattle.budget_ledger.specs.Account.{Failure, Held, HasPassed, IsKeptNow, IsHeldCopy, IsCopy, IsInUse, HasShut, HeldWent, CopyWent, with_closing}
-use Rattle.budget_ledger.specs.Kept.{IsReadySide, IsReadyHalf, shown_on, held_on, held_in, copy_on, disk_in, HoldsSide, HoldsHalf, HasWrittenOn, HasFailedOn, HalfWent}
+use Rattle.budget_journal.specs.Journals.{IsAtRest, IsMarked, disk_of, mark_of}
+use Rattle.budget_ledger.specs.Account.{Failure, Held, HasPassed, IsKeptNow, IsHeldCopy, IsInUse, HasShut, HeldWent, CopyWent, with_closing}
+use Rattle.budget_ledger.specs.Kept.{IsReadySide, IsReadyHalf, shown_on, held_on, copy_on, HoldsSide, HoldsHalf, HasWrittenOn, HasFailedOn, HalfWent}
 use Rattle.budget_ledger.specs.declared.halves.Side.{Side}
 use Rattle.budget_ledger.specs.declared.halves.Half.{Half}
 use Rattle.budget_ledger.specs.declared.halves.Half.TheVariants.{Gone, Kept}
-use Rattle.budget_ledger.proofs.Wents.{prefix_self, prefix_by, prefix_then, not_both, held_self, copy_self}
+use Rattle.budget_ledger.proofs.Wents.{prefix_self, prefix_by, prefix_then, not_both, held_self}
 use Rattle.budget_ledger.proofs.Told.{told_added, told_failed}
 
 pub same_failure : (x y : Failure) → Some x ≡ Some y → x ≡ y

@@ -1,5 +1,5 @@
 -- What a disk's steps in an append make of a journal.
-use Rattle.std.proofs.Common.{◌≡◌, ◌⊎◌, ℕ, ◌<◌, List, [], ◌∷◌, ◌++◌, refl, inl, inr, Option, Some, None}
+use Rattle.std.proofs.Common.{◌⊎◌, ℕ, ◌<◌, List, [], ◌∷◌, ◌++◌, refl, inl, inr, Option, Some, None}
 use Rattle.std.specs.Prelude.{IfSome}
 use Rattle.outside_disks.specs.Disks.{Trace, IsImageOf, moment, WhereTold}
 use Rattle.outside_disks.proofs.Images.{now-was, passes-weaker}

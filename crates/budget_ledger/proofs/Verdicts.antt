@@ -1,13 +1,16 @@
 -- What a book's verdict says of the verdict on its records.
-use Rattle.std.proofs.Common.{◌≡◌, ℕ, Bool, true, false, [], ◌∷◌, ◌++◌, Option, None, Some, Result, Ok, Err, refl, sym, ◌∙◌, ap}
+use Rattle.std.proofs.Common.{◌≡◌, ℕ, Bool, true, false, [], ◌∷◌, ◌++◌, Option, None, Some, Result, Ok, Err, IsErrAnd, refl, sym, ◌∙◌, ap, subst}
+use Rattle.journal_records.specs.declared.records.Outcome.{Outcome}
+use Rattle.journal_records.specs.declared.records.Settlement.{Settlement}
+use Rattle.journal_records.specs.declared.records.Record.TheVariants.{Settle}
 use Rattle.budget_core.specs.declared.entry.Ask.{Ask}
 use Rattle.budget_core.specs.declared.entry.Grant.{Grant}
 use Rattle.budget_core.specs.declared.entry.ReserveFault.{ReserveFault}
 use Rattle.budget_core.specs.declared.entry.ReserveFault.TheVariants.{OverBudget, Full, OverShare}
 use Rattle.budget_core.specs.Bars.{first_bar}
-use Rattle.budget_core.specs.Ledger.{start_of, reservation_for, money_verdict, IsUnsettled}
+use Rattle.budget_core.specs.Ledger.{start_of, reservation_for, settlement_of, settlement_for, money_verdict, IsUnsettled}
 use Rattle.budget_ledger.specs.Account.{Failure, Account}
-use Rattle.budget_ledger.specs.Booked.{shut_bars, book_verdict, HasVerdict, HasGained, IsUnwritten, IsReserved}
+use Rattle.budget_ledger.specs.Booked.{shut_bars, book_verdict, HasVerdict, HasGained, IsUnwritten, IsReserved, IsSettlementOf}
 use Rattle.budget_ledger.specs.Kept.{refusal_with}
 use Rattle.budget_ledger.specs.declared.book.AppendFault.{AppendFault}
 use Rattle.budget_ledger.specs.declared.book.AppendFault.TheVariants.{Closed, DiskFault}
@@ -124,3 +127,14 @@ module _ (account : Account) (ask : Ask) where
 
   pub says-shut : (at : ℕ) → HasVerdict account ask (Err (Unwritten (Closed at))) → (failure : Failure) × (account.storage.closed ≡ Some failure) × (at ≡ failure.failed_at)
   says-shut at is = shut_back _ _ _ _ _ _ _ _ _ _ _ _ account.storage.closed _ _ _ at is
+
+-- ---- a settlement
+
+-- one that isn't written is answered so
+pub is-unsettled : (old new : Account) (number : ℕ) (outcome : Outcome) (settlement : Settlement) (fault : AppendFault) (answer : Result ℕ AppendFault)
+    → settlement ≡ settlement_of old.ledger.entry old.ledger.records number outcome → IsUnwritten old (Settle settlement) fault new → IsErrAnd answer (λ e. e ≡ fault)
+    → IsSettlementOf old number outcome answer new
+is-unsettled old new number outcome settlement fault (Ok seen) is unwritten passed = absurd passed
+is-unsettled old new number outcome settlement fault (Err other) is unwritten passed =
+    subst (λ (e : AppendFault). IsUnwritten old (settlement_for old.ledger.entry old.ledger.records number outcome) e new) (sym passed)
+    (subst (λ (s : Settlement). IsUnwritten old (Settle s) fault new) is unwritten)

@@ -121,7 +121,7 @@ module _ {D : Type 0} (trace : D → Option Trace) (faults : D → ℕ) (ledger 
         → capacity_of new ≡ capacity_of old → Grown (One old) (One new)
     grown_one old new holds sound written capacity =
         let told = told_added header ledger.records next (mark_of old) (mark_of new) (trace (disk_of old)) (trace (disk_of new))
-            (omega (arith, holds.disks.counted refl, room, holds.book.capacity, holds.disks.room)) (rest_before old holds) (holds.disks.marked refl) written.appended in (
+        (omega (arith, holds.disks.counted refl, room, holds.book.capacity, holds.disks.room)) (rest_before old holds) (holds.disks.marked refl) written.appended in (
           grown_book (One old) (One new) holds sound told.0 tt (record {
             room = capacity ∙ holds.disks.room;
             counted = λ none. omega (arith, written.counted, holds.disks.counted refl, length-append ledger.records (next ∷ []));
@@ -202,8 +202,11 @@ module _ {D : Type 0} (trace : D → Option Trace) (faults : D → ℕ) (ledger 
       counts = later;
       shut = λ other closed. absurd (not_both None other refl closed);
       «open» = λ none. absurd (not_both (Some failure) failure none refl);
-      failed = λ other none closed. (risen, subst (λ (f : Failure). f.failed_at ≡ faults_in faults new (Some failure)) (same_failure failure other closed)
-          (ap (λ (f : Failure). f.failed_at) is));
+      failed = λ other none closed. (
+        risen,
+        subst (λ (f : Failure). f.failed_at ≡ faults_in faults new (Some failure)) (same_failure failure other closed)
+            (ap (λ (f : Failure). f.failed_at) is),
+      );
       copies = copies;
     }
 
@@ -215,17 +218,19 @@ module _ {D : Type 0} (trace : D → Option Trace) (faults : D → ℕ) (ledger 
     shut_one old new closed holds may failed capacity =
         let here : Failure = record { failed_at = faults (disk_of new); pending = next } in
         let told = told_failed header ledger.records next (faults (disk_of new)) (mark_of old) (trace (disk_of old)) (trace (disk_of new))
-            (omega (arith, holds.disks.counted refl, room, holds.book.capacity, holds.disks.room)) (rest_before old holds) (holds.disks.marked refl) failed.refused in (
+        (omega (arith, holds.disks.counted refl, room, holds.book.capacity, holds.disks.room)) (rest_before old holds) (holds.disks.marked refl) failed.refused in (
           here,
           failed.closed,
-          (shut_book (One old) (One new) here holds may refl told.0 tt (record {
-            room = capacity ∙ holds.disks.room;
-            counted = λ none. absurd (not_both (Some here) here none refl);
-            marked = λ none. absurd (not_both (Some here) here none refl);
-            ready = λ none. absurd (not_both (Some here) here none refl);
-          }),
-          shut_went (One old) (One new) here refl told.1 failed.later failed.risen tt,
-          refl),
+          (
+            shut_book (One old) (One new) here holds may refl told.0 tt (record {
+              room = capacity ∙ holds.disks.room;
+              counted = λ none. absurd (not_both (Some here) here none refl);
+              marked = λ none. absurd (not_both (Some here) here none refl);
+              ready = λ none. absurd (not_both (Some here) here none refl);
+            }),
+            shut_went (One old) (One new) here refl told.1 failed.later failed.risen tt,
+            refl,
+          ),
         )
 
     -- the failure that closed it, by one of two disks
@@ -268,7 +273,7 @@ module _ {D : Type 0} (trace : D → Option Trace) (faults : D → ℕ) (ledger 
         (failure, is, shut_by first second first' second' (Some failure) None failure holds may one two fell.0 fell.1 (inl fell.2))
     shut_two first second first' second' None None closed holds may one two is =
         absurd (⊎_elim (half_was_out trace faults header ledger.records next first first' one) (half_was_out trace faults header ledger.records next second second' two)
-            (holds.book.copies.in_use refl))
+        (holds.book.copies.in_use refl))
 
     shut_store : (old new : Store D) (closed : Option Failure) → Holds ledger old None → MayFollow ledger.entry ledger.records next
         → IsUnappendedTo trace faults next old new None closed DiskFault → Closing old new closed

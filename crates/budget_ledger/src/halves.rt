@@ -6,7 +6,7 @@ ghost use Rattle.journal_records.specs.Encoding.{IsValid};
 ghost use Rattle.budget_journal.specs.Journals.{disk_of, capacity_of};
 ghost use Rattle.budget_ledger.specs.Account.{HeldWent};
 ghost use Rattle.budget_ledger.specs.Kept.{IsReadySide, IsReadyHalf, MayAppend, HoldsSide, shown_on, held_on, disk_in, disks_in, faults_in};
-ghost use Rattle.budget_ledger.specs.Kept.{HasWrittenOn, HasFailedOn, IsUnappendedOn, HalfWent, HasWrittenBoth, IsUnappendedBoth, HasWrittenTo, IsUnappendedTo};
+ghost use Rattle.budget_ledger.specs.Kept.{HasWrittenOn, IsUnappendedOn, HalfWent, HasWrittenBoth, IsUnappendedBoth, HasWrittenTo, IsUnappendedTo};
 
 use crate::book::{AppendFault, write_down};
 use crate::failure::Failure;
@@ -49,6 +49,7 @@ fn append_to_side<D: Disk>(side: &mut Side<D>, next: &Record) -> Result<(), Appe
     ensures stopped { IfErr result (λ fault. IsUnappendedOn D.trace D.faults next.now side.old side.new fault) }
     ensures room { capacity_of side.new.journal ≡ capacity_of side.old.journal }
 {
+    // The look at a field tells the proof how large it may be.
     let _capacity = side.header.capacity;
     write_down(&mut side.journal, &mut side.failure, next)?;
     side.has += 1;

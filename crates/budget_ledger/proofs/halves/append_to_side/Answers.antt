@@ -1,4 +1,4 @@
-use Rattle.std.proofs.Common.{◌≡◌, ◌<◌, ◌+◌, arith}
+use Rattle.std.proofs.Common.{arith}
 use Rattle.budget_ledger.proofs.halves.append_to_side.Goals as goal
 
 pub overflow_add-side : goal.overflow_add-side

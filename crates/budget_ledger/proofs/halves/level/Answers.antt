@@ -1,4 +1,4 @@
-use Rattle.std.proofs.Common.{◌≡◌, ◌+◌, List, take, None, refl, arith, ◌∙◌, sym, subst}
+use Rattle.std.proofs.Common.{◌+◌, List, take, None, refl, arith, ◌∙◌, subst}
 use Rattle.std.proofs.lemmas.List.{take_all}
 use Rattle.journal_records.specs.declared.records.Record.{Record}
 use Rattle.budget_journal.specs.Journals.{disk_of}
@@ -24,11 +24,11 @@ append_to_side-told-requires-clause-ready g c =
 pub loop-slot-preserved : goal.loop-slot-preserved
 loop-slot-preserved g c =
     let ready = level_ready g.D.Disk.trace g.D.Disk.faults c.args.side.now.header c.args.records.now c.loop-slot.slot c.loop-slot.side c.loop-slot.invariant.holds
-        c.loop-slot-test.true (omega (arith, c.loop-slot.invariant.room, c.requires.room)) in
+    c.loop-slot-test.true (omega (arith, c.loop-slot.invariant.room, c.requires.room)) in
     let next = level_step g.D.Disk.trace g.D.Disk.faults c.args.side.now.header (take c.args.side.now.has c.args.records.now) (take c.loop-slot.slot c.args.records.now)
-        (take (c.loop-slot.slot + 1) c.args.records.now) _ c.args.side.now c.loop-slot.side c.append_to_side-told.new.side c.append_to_side-told.result
-        (take_next c.args.records.now c.loop-slot.slot _ c.loop-slot-test.true) c.loop-slot.invariant.holds ready
-        c.loop-slot.invariant.went c.append_to_side-told.ensures.written c.append_to_side-told.ensures.stopped in
+    (take (c.loop-slot.slot + 1) c.args.records.now) _ c.args.side.now c.loop-slot.side c.append_to_side-told.new.side c.append_to_side-told.result
+    (take_next c.args.records.now c.loop-slot.slot _ c.loop-slot-test.true) c.loop-slot.invariant.holds ready
+    c.loop-slot.invariant.went c.append_to_side-told.ensures.written c.append_to_side-told.ensures.stopped in
     record { holds = next.0; went = next.1; room = c.append_to_side-told.ensures.room ∙ c.loop-slot.invariant.room }
 
 pub returns : goal.returns

@@ -1,4 +1,4 @@
-use Rattle.std.proofs.Common.{◌≡◌, ◌≤◌, length, take, None}
+use Rattle.std.proofs.Common.{◌≡◌, take, None}
 use Rattle.budget_journal.specs.Journals.{disk_of, capacity_of}
 use Rattle.budget_ledger.specs.Account.{HeldWent}
 use Rattle.budget_ledger.specs.Kept.{HoldsSide, shown_on, held_on}
