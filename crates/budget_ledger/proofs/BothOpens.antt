@@ -181,13 +181,12 @@ one_of_both v w a b version records (agree, inl (begins, is, are)) = inl are
 one_of_both v w a b version records (agree, inr (begins, less, is, are)) = inr are
 
 pub both_longer : BothFindTheLonger
-both_longer entry header before book copies v w a b opened shows on_first on_second =
-    (
-      λ still. first_begins v a opened.second _ _ (subst (λ (r : Reading). Make r opened.second _ book.ledger.found) (one still) opened.made),
-      λ still. second_begins w b opened.first _ _ (subst (λ (s : Reading). Make opened.first s _ book.ledger.found) (other still) opened.made),
-      λ still still_too. one_of_both v w a b _ _
-          (subst (λ (s : Reading). Make (Holding v a) s _ book.ledger.found) (other still_too) (subst (λ (r : Reading). Make r opened.second _ book.ledger.found) (one still) opened.made)),
-    )
+both_longer entry header before book copies v w a b opened shows on_first on_second = (
+  λ still. first_begins v a opened.second _ _ (subst (λ (r : Reading). Make r opened.second _ book.ledger.found) (one still) opened.made),
+  λ still. second_begins w b opened.first _ _ (subst (λ (s : Reading). Make opened.first s _ book.ledger.found) (other still) opened.made),
+  λ still still_too. one_of_both v w a b _ _
+      (subst (λ (s : Reading). Make (Holding v a) s _ book.ledger.found) (other still_too) (subst (λ (r : Reading). Make r opened.second _ book.ledger.found) (one still) opened.made)),
+)
   where
     the_copies : copies ≡ opened.copies
     the_copies = same_some (sym shows ∙ ap (λ s. s.copies) opened.storage)

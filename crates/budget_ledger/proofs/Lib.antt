@@ -1,4 +1,5 @@
 pub mod BothJoins
+pub mod BothMade
 pub mod BothOpens
 mod Examples
 mod ExamplesOfBoth

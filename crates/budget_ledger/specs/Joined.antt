@@ -109,14 +109,16 @@ module _ {D : Type 0} (trace : D → Option Trace) (faults : D → ℕ) where
     pub room : length joined.records.items ≤ header.capacity
     pub valid : All IsValid joined.records.items
 
-  -- One of two disks from before it got what it lacked to afterwards.
+  -- A journal from before it got what it lacked to afterwards, as far as its disk went along.
+  abbrev pub SideLevelled : List Record → (old new : Side D) → Type 0
+  SideLevelled records old new = HeldWent (shown_on trace faults (disk_of old.journal)) (shown_on trace faults (disk_of new.journal))
+      (held_on trace faults (take old.has records) old) (held_on trace faults records new)
+
   abbrev pub HalfLevelled : List Record → (old new : Half D) → Type 0
   HalfLevelled records (half.Gone disk) (half.Gone still) = still ≡ disk
   HalfLevelled records (half.Gone disk) (half.Kept side) = ⊥
   HalfLevelled records (half.Kept side) (half.Gone disk) = ⊥
-  HalfLevelled records (half.Kept old) (half.Kept new) =
-      HeldWent (shown_on trace faults (disk_of old.journal)) (shown_on trace faults (disk_of new.journal))
-      (held_on trace faults (take old.has records) old) (held_on trace faults records new)
+  HalfLevelled records (half.Kept old) (half.Kept new) = SideLevelled records old new
 
   -- the book of what two disks make
   pub record IsJudged (entry : Entry) (header : Header) (joined : Joined D) (book : Account) : Type 0 where

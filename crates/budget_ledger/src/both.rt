@@ -13,8 +13,8 @@ ghost use Rattle.budget_ledger.specs.Both.{twins_of, AgreeOnCost, IsFork, Make, 
 ghost use Rattle.budget_ledger.specs.Both.{IsOpenedBoth, BothOpenWhatStands, BothFindTheLonger, HasMade, IsBothInitFault};
 ghost use Rattle.budget_ledger.specs.Both.Reading.{Missing, Holding};
 ghost use Rattle.budget_ledger.specs.Joined.{IsSight, HasRoom, reading_in, disk_under, half_of, side_of, unfit_by};
-ghost use Rattle.budget_ledger.specs.Joined.{IsHalfOf, IsFreshHalf, IsWholeHalf, HalfLevelled, IsJudged, AreFresh};
-ghost use Rattle.budget_ledger.specs.Kept.{HoldsHalf, disk_in, shown_on};
+ghost use Rattle.budget_ledger.specs.Joined.{IsHalfOf, IsFresh, IsFreshHalf, IsWholeHalf, SideLevelled, HalfLevelled, IsJudged, AreFresh};
+ghost use Rattle.budget_ledger.specs.Kept.{HoldsSide, HoldsHalf, disk_in, shown_on};
 
 use crate::book::Book;
 use crate::halves::{Half, Side, Store, level};
@@ -91,6 +91,13 @@ fn agree_on_cost(version: u8, other: u8) -> bool
     (version == NEWEST_VERSION) == (other == NEWEST_VERSION)
 }
 
+// Whether two records are the same.
+fn are_same(one: &Record, other: &Record) -> bool
+    ensures { IsTrue result ↔ (one.now ≡ other.now) }
+{
+    one == other
+}
+
 // The least slot below both lengths where the records differ.
 fn fork(records: &[Record], others: &[Record]) -> Option<u32>
     requires { length records.now < 2 ^ 32 }
@@ -98,7 +105,7 @@ fn fork(records: &[Record], others: &[Record]) -> Option<u32>
     ensures along { IfNone result (IsPrefix records.now others.now ⊎ IsPrefix others.now records.now) }
 {
     for slot in 0..records.len().min(others.len()) {
-        if records[slot] != others[slot] {
+        if !are_same(&records[slot], &others[slot]) {
             return Some(slot as u32);
         }
     }
@@ -121,12 +128,7 @@ fn kept<D: Disk>(journal: Journal<D>, has: u32, header: &Header) -> Half<D>
 }
 
 // Why two journals make no list, if they differ.
-fn differ(
-    version: u8,
-    records: &[Record],
-    other: u8,
-    others: &[Record],
-) -> Option<BothFault>
+fn differ(version: u8, records: &[Record], other: u8, others: &[Record]) -> Option<BothFault>
     requires { length records.now < 2 ^ 32 }
     ensures differ { IfSome result (MakeNone (Holding version records.now) (Holding other others.now)) }
     ensures along { IfNone result (AgreeOnCost version other × (IsPrefix records.now others.now ⊎ IsPrefix others.now records.now)) }
@@ -270,6 +272,20 @@ fn join<D: Disk>(
 }
 
 // Brings a journal that has the first ones of these records up to all of them, unless its disk fails.
+fn level_side<D: Disk>(side: &mut Side<D>, records: &[Record])
+    requires fresh { IsFresh D.trace D.faults records.now side.old }
+    requires valid { All IsValid records.now }
+    ensures holds { HoldsSide D.trace D.faults side.old.header records.now None side.new }
+    ensures levelled { SideLevelled D.trace D.faults records.now side.old side.new }
+    ensures whole { side.old.has ≡ length records.now → side.new ≡ side.old }
+{
+    if records.len() <= side.has as usize {
+        return;
+    }
+    level(side, records);
+}
+
+// The same of one of two disks, unless it is gone.
 fn level_half<D: Disk>(half: &mut Half<D>, records: &[Record])
     requires fresh { IsFreshHalf D.trace D.faults records.now half.old }
     requires valid { All IsValid records.now }
@@ -277,10 +293,9 @@ fn level_half<D: Disk>(half: &mut Half<D>, records: &[Record])
     ensures levelled { HalfLevelled D.trace D.faults records.now half.old half.new }
     ensures whole { IsWholeHalf records.now half.old → half.new ≡ half.old }
 {
-    if let Half::Kept(side) = half {
-        if (side.has as usize) < records.len() {
-            level(side, records);
-        }
+    match half {
+        Half::Gone(_) => (),
+        Half::Kept(side) => level_side(side, records),
     }
 }
 
@@ -361,11 +376,7 @@ impl<D: Disk> Book<D> {
 
 /// Makes a journal of no records on each of two empty disks, in the header's version, which isn't the first. The lengths of both are looked
 /// at before anything is written; then the first is made, and the second.
-pub fn init_both<D: Disk>(
-    first: &mut D,
-    second: &mut D,
-    header: &Header,
-) -> Result<(), InitFault>
+pub fn init_both<D: Disk>(first: &mut D, second: &mut D, header: &Header) -> Result<(), InitFault>
     requires valid { IsHeader header.now }
     requires grown { 2 ≤ header.now.version }
     ensures first { OnOk result (HasMade header.now (shown_on D.trace D.faults first.old) (shown_on D.trace D.faults first.new)) }
