@@ -18,6 +18,7 @@ from places import TOP  # noqa: E402
 
 PROGRAM = os.path.abspath(os.environ.get("PROGRAM", f"{TOP}/out/hitchseason"))
 DATA = f"{TOP}/crates/run_cases/data"
+FOLDERS = ("journals", "mirrors")
 ENDS = {"n": b"\n", "r": b"\r"}
 
 
@@ -82,26 +83,28 @@ def told(port, sent):
 
 class Case:
     def __init__(self, room):
-        self.room, self.disks, self.kept = room, [b"", b""], ([b"", b""], False)
+        # the journals of owners 0 and 1, and then their mirrors
+        self.room, self.disks, self.kept = room, [b""] * 4, ([b""] * 4, False)
         self.commands, self.done, self.astray, self.same, self.tried, self.passed_over = [], False, False, True, 0, 0
 
-    def path(self, owner):
-        return f"{self.room}/journals/{owner}.bud"
+    def path(self, disk):
+        return f"{self.room}/{FOLDERS[disk // 2]}/{disk % 2}.bud"
 
     def lay(self):
-        os.makedirs(f"{self.room}/journals", exist_ok=True)
-        for name in os.listdir(f"{self.room}/journals"):
-            os.remove(f"{self.room}/journals/{name}")
-        for owner, data in enumerate(self.disks):
+        for folder in FOLDERS:
+            os.makedirs(f"{self.room}/{folder}", exist_ok=True)
+            for name in os.listdir(f"{self.room}/{folder}"):
+                os.remove(f"{self.room}/{folder}/{name}")
+        for disk, data in enumerate(self.disks):
             if data:
-                with open(self.path(owner), "wb") as file:
+                with open(self.path(disk), "wb") as file:
                     file.write(data)
 
     def left(self):
         found = []
-        for owner in range(2):
+        for disk in range(4):
             try:
-                with open(self.path(owner), "rb") as file:
+                with open(self.path(disk), "rb") as file:
                     found.append(file.read())
             except FileNotFoundError:
                 found.append(b"")
@@ -150,7 +153,9 @@ class Case:
         elif word == "back":
             self.disks, self.astray = list(self.kept[0]), self.kept[1]
         elif word == "new":
-            self.disks, self.astray = [b"", b""], False
+            self.disks, self.astray = [b""] * 4, False
+        elif word == "swap":
+            self.disks[0], self.disks[2] = self.disks[2], self.disks[0]
         elif word == "fail":
             self.astray = True
 

@@ -1,10 +1,11 @@
 -- Words without a fault are a command, and its workers are in range.
-use Rattle.std.proofs.Common.{◌≡◌, ◌≤◌, ◌<◌, ℕ, Bool, cond, true, false, refl, sym, ap, subst, List, [], ◌∷◌, ◌++◌, ◌∙◌, length, Option, Some, None, is_some, arith, codes}
-use Rattle.std.specs.Prelude.{◌||◌, ◌&&◌, ◌^◌, ⊤, if◌then◌else◌, not, slice_get, option_and_then, option_map}
+use Rattle.std.proofs.Common.{◌≡◌, ◌≤◌, ◌<◌, ℕ, suc, Bool, cond, true, false, refl, sym, ap, subst, List, [], ◌∷◌, ◌++◌, ◌∙◌, length, Option, Some, None, is_some, arith, codes}
+use Rattle.std.specs.Prelude.{◌||◌, ◌&&◌, ◌==◌, ◌^◌, ⊤, if◌then◌else◌, not, slice_get, option_and_then, option_map}
 use Rattle.std.specs.List.{find}
 use Rattle.std.specs.Option.{option_map_or}
 use Rattle.std.specs.Str.{bytes_eq}
 use Rattle.std.specs.Str.Parse.{ParsesUnsigned}
+use Rattle.std.proofs.lemmas.Bool.{eqb-true}
 use Rattle.std.proofs.lemmas.Slice.Eq.{bytes_eq-Decides}
 use Rattle.clap.specs.Lexer.{without_minus}
 use Rattle.clap.specs.Values.{reading_of}
@@ -23,7 +24,7 @@ use Rattle.clap.specs.declared.error.kind.ErrorKind.{ErrorKind}
 use Rattle.clap.specs.declared.error.kind.ErrorKind.TheVariants as kind
 use Rattle.clap.proofs.CallerReads.{signed_reads}
 use Rattle.clap.proofs.ValueTestLemmas.{accepts-Accepts}
-use Rattle.command_words.specs.Program.{address_option, from_to, audit_app, check_app, gap_app, gen_app, grant_app, greatest_amount, greatest_asks, greatest_each, greatest_port, greatest_seed, greatest_workers, init_app, number_rule, program_app, run_app, required_word, serve_app}
+use Rattle.command_words.specs.Program.{address_option, from_to, audit_app, check_app, gap_app, gen_app, grant_app, greatest_amount, greatest_asks, greatest_each, greatest_port, greatest_seed, greatest_workers, init_app, mirror_option, number_rule, program_app, run_app, required_word, serve_app}
 use Rattle.command_words.specs.Command.{Command, check, init, run, audit, grant, gap, serve, gen, audit_found_in, audit_of, check_found_in, check_of, command_met, command_of, gap_found_in, gap_of, gen_found_in, gen_of, grant_found_in, grant_of, init_found_in, init_of, number_of_bits, run_found_in, run_of, serve_found_in, serve_of}
 use Rattle.command_words.proofs.Kept.{both_empty, holds_of_found, AllFine, DefaultKeeps, UseKeeps, level_keeps}
 use Rattle.command_words.proofs.Numbers.{number_reads}
@@ -42,11 +43,17 @@ number_at i name long range required defaults =
 abbrev address_at : ℕ → Rule
 address_at i = with_index i (filled address_option)
 
+abbrev mirror_at : ℕ → Rule
+mirror_at i = with_index i (filled mirror_option)
+
 abbrev subs : List Shape
 subs = (built program_app).subs
 
 abbrev pub WORKERS : Text
 WORKERS = codes "workers"
+
+abbrev MIRROR : Text
+MIRROR = codes "mirror"
 
 abbrev pub workers_parser : ValueParser
 workers_parser = from_to 1 greatest_workers
@@ -150,6 +157,17 @@ address_use i (v ∷ vs) rows fine e =
     added_keeps (codes "addr") (more_values CommandLine (v ∷ vs)) _ rows (unrepeated (has_row (codes "addr") rows) free.0) fine
     (v, refl, λ p is. unnamed (codes "addr") refl p v _ is)
 
+-- the flag takes no value, and stands for one
+mirror_use : (i : ℕ) → UseKeeps Fine false (mirror_at i)
+mirror_use i [] rows fine e =
+    let free = both_empty (repeat_fault false MIRROR rows) _ e in
+    added_keeps MIRROR (more_values CommandLine (codes "true" ∷ [])) _ rows (unrepeated (has_row MIRROR rows) free.0) fine
+    (codes "true", refl, λ p is. unnamed MIRROR refl p (codes "true") _ is)
+mirror_use i (v ∷ vs) rows fine e =
+    let counted = both_empty (range_kinds 0 0 (length (v ∷ vs))) _ e in
+    let none : 0 ≡ suc (length vs) = eqb-true 0 (suc (length vs)) (passed (0 == suc (length vs)) kind.WrongNumberOfValues counted.0) in
+    absurd (omega (arith, none))
+
 number_use : (i : ℕ) (name : Text) (long : Option Text) (range : ValueParser) (required : Bool) (defaults : List Text)
     → parser_named name ≡ Some range → UseKeeps Fine false (number_at i name long range required defaults)
 number_use i name None range required defaults named [] rows fine e = cc e
@@ -211,6 +229,10 @@ workers_default i (Some long) rows fine = with_row_keeps WORKERS workers_parser 
 address_default : (i : ℕ) → DefaultKeeps Fine (address_at i)
 address_default i rows fine = with_row_keeps (codes "addr") parser.String (codes "127.0.0.1") rows fine
     (codes "127.0.0.1", refl, λ p is. unnamed (codes "addr") refl p (codes "127.0.0.1") _ is)
+
+mirror_default : (i : ℕ) → DefaultKeeps Fine (mirror_at i)
+mirror_default i rows fine = with_row_keeps MIRROR parser.Bool (codes "false") rows fine
+    (codes "false", refl, λ p is. unnamed MIRROR refl p (codes "false") _ is)
 
 -- ---- what is found
 
@@ -419,8 +441,8 @@ check_accepted words e =
 init_accepted : (words : List Text) → level_fault init_shape [] nothing_held words false [] ≡ [] → IsMet (init_found_in (rows_after init_shape.rules [] words))
 init_accepted words e =
     let rows = rows_after init_shape.rules [] words in
-    let fine = level_keeps Fine init_shape [] (word_use 1 (codes "catalog") refl, (word_use 2 (codes "key") refl, tt)) (λ x. refl)
-    words false [] (word_default 1 (codes "catalog"), (word_default 2 (codes "key"), tt)) e in
+    let fine = level_keeps Fine init_shape [] (word_use 1 (codes "catalog") refl, (word_use 2 (codes "key") refl, (mirror_use 3, tt))) (λ x. refl)
+    words false [] (word_default 1 (codes "catalog"), (word_default 2 (codes "key"), (mirror_default 3, tt))) e in
     let first = given_first (is_given (codes "catalog") rows) _ (none_missing _ (checked init_shape words e)) in
     let second = given_first (is_given (codes "key") rows) _ first.1 in
     let catalog = given_has (codes "catalog") rows fine first.0 in
@@ -430,21 +452,23 @@ init_accepted words e =
 run_accepted : (words : List Text) → level_fault run_shape [] nothing_held words false [] ≡ [] → IsMet (run_found_in (rows_after run_shape.rules [] words))
 run_accepted words e =
     let rows = rows_after run_shape.rules [] words in
-    let fine = level_keeps Fine run_shape [] (word_use 1 (codes "catalog") refl, (word_use 2 (codes "key") refl, (number_use 3 WORKERS (Some WORKERS) workers_parser false (codes "1" ∷ []) refl, tt))) (λ x. refl)
-    words false [] (word_default 1 (codes "catalog"), (word_default 2 (codes "key"), (workers_default 3 (Some WORKERS), tt))) e in
+    let fine = level_keeps Fine run_shape [] (word_use 1 (codes "catalog") refl, (word_use 2 (codes "key") refl, (number_use 3 WORKERS (Some WORKERS) workers_parser false (codes "1" ∷ []) refl, (mirror_use 3, tt)))) (λ x. refl)
+    words false [] (word_default 1 (codes "catalog"), (word_default 2 (codes "key"), (workers_default 3 (Some WORKERS), (mirror_default 3, tt)))) e in
     let first = given_first (is_given (codes "catalog") rows) _ (none_missing _ (checked run_shape words e)) in
     let second = given_first (is_given (codes "key") rows) _ first.1 in
     let catalog = given_has (codes "catalog") rows fine first.0 in
     let key = given_has (codes "key") rows fine second.0 in
     let named = with_default (with_default (settled run_shape.rules (walk run_shape.rules [] nothing_held words).held).rows (word_at 1 (codes "catalog"))) (word_at 2 (codes "key")) in
-    let workers = number_there 32 WORKERS 1 greatest_workers (omega arith) refl rows fine (with_row_there WORKERS workers_parser (codes "1") named refl) in
+    let worked = with_row WORKERS workers_parser (codes "1") named in
+    let workers = number_there 32 WORKERS 1 greatest_workers (omega arith) refl rows fine
+    (with_row_stays WORKERS MIRROR parser.Bool (codes "false") worked (with_row_there WORKERS workers_parser (codes "1") named refl)) in
     run_met _ _ _ catalog.0 key.0 workers.0 catalog.1 key.1 workers.1 workers.2
 
 audit_accepted : (words : List Text) → level_fault audit_shape [] nothing_held words false [] ≡ [] → IsMet (audit_found_in (rows_after audit_shape.rules [] words))
 audit_accepted words e =
     let rows = rows_after audit_shape.rules [] words in
-    let fine = level_keeps Fine audit_shape [] (word_use 1 (codes "catalog") refl, (word_use 2 (codes "key") refl, tt)) (λ x. refl)
-    words false [] (word_default 1 (codes "catalog"), (word_default 2 (codes "key"), tt)) e in
+    let fine = level_keeps Fine audit_shape [] (word_use 1 (codes "catalog") refl, (word_use 2 (codes "key") refl, (mirror_use 3, tt))) (λ x. refl)
+    words false [] (word_default 1 (codes "catalog"), (word_default 2 (codes "key"), (mirror_default 3, tt))) e in
     let first = given_first (is_given (codes "catalog") rows) _ (none_missing _ (checked audit_shape words e)) in
     let second = given_first (is_given (codes "key") rows) _ first.1 in
     let catalog = given_has (codes "catalog") rows fine first.0 in
@@ -458,14 +482,14 @@ grant_accepted words e =
       word_use 1 (codes "catalog") refl,
       (
         word_use 2 (codes "key") refl,
-        (word_use 3 (codes "owner") refl, (number_use 4 (codes "amount") None amount_parser true [] refl, tt)),
+        (word_use 3 (codes "owner") refl, (number_use 4 (codes "amount") None amount_parser true [] refl, (mirror_use 5, tt))),
       ),
     ) (λ x. refl)
     words false [] (
       word_default 1 (codes "catalog"),
       (
         word_default 2 (codes "key"),
-        (word_default 3 (codes "owner"), (number_default 4 (codes "amount") None amount_parser, tt)),
+        (word_default 3 (codes "owner"), (number_default 4 (codes "amount") None amount_parser, (mirror_default 5, tt))),
       ),
     ) e in
     let first = given_first (is_given (codes "catalog") rows) _ (none_missing _ (checked grant_shape words e)) in
@@ -507,7 +531,7 @@ serve_accepted words e =
             number_use 3 (codes "port") (Some (codes "port")) port_parser true [] refl,
             (
               number_use 3 WORKERS (Some WORKERS) workers_parser false (codes "1" ∷ []) refl,
-              (number_use 3 (codes "each") (Some (codes "each")) each_parser true [] refl, tt),
+              (number_use 3 (codes "each") (Some (codes "each")) each_parser true [] refl, (mirror_use 3, tt)),
             ),
           ),
         ),
@@ -523,7 +547,7 @@ serve_accepted words e =
             number_default 3 (codes "port") (Some (codes "port")) port_parser,
             (
               workers_default 3 (Some WORKERS),
-              (number_default 3 (codes "each") (Some (codes "each")) each_parser, tt),
+              (number_default 3 (codes "each") (Some (codes "each")) each_parser, (mirror_default 3, tt)),
             ),
           ),
         ),
@@ -541,11 +565,13 @@ serve_accepted words e =
     let addressed = with_row (codes "addr") parser.String (codes "127.0.0.1") named in
     let ported = cond (has_row (codes "port") addressed) addressed addressed in
     let worked = with_row WORKERS workers_parser (codes "1") ported in
+    let eached = cond (has_row (codes "each") worked) worked worked in
     let address = there_has (codes "addr") rows fine
-    (either_there (codes "addr") (has_row (codes "each") worked) worked (with_row_stays (codes "addr") WORKERS workers_parser (codes "1") ported
-    (either_there (codes "addr") (has_row (codes "port") addressed) addressed (with_row_there (codes "addr") parser.String (codes "127.0.0.1") named refl)))) in
+    (with_row_stays (codes "addr") MIRROR parser.Bool (codes "false") eached (either_there (codes "addr") (has_row (codes "each") worked) worked (with_row_stays (codes "addr") WORKERS workers_parser (codes "1") ported
+    (either_there (codes "addr") (has_row (codes "port") addressed) addressed (with_row_there (codes "addr") parser.String (codes "127.0.0.1") named refl))))) in
     let workers = number_there 32 WORKERS 1 greatest_workers (omega arith) refl rows fine
-    (either_there WORKERS (has_row (codes "each") worked) worked (with_row_there WORKERS workers_parser (codes "1") ported refl)) in
+    (with_row_stays WORKERS MIRROR parser.Bool (codes "false") eached
+    (either_there WORKERS (has_row (codes "each") worked) worked (with_row_there WORKERS workers_parser (codes "1") ported refl))) in
     serve_met _ _ _ _ _ _ catalog.0 key.0 address.0 port.0 workers.0 each.0 catalog.1 key.1 address.1 port.1 workers.1 each.1 (port.2, workers.2, each.2)
 
 gen_accepted : (words : List Text) → level_fault gen_shape [] nothing_held words false [] ≡ [] → IsMet (gen_found_in (rows_after gen_shape.rules [] words))

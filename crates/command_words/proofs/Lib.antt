@@ -5,5 +5,7 @@ pub mod Accepted
 pub mod Said
 pub mod Plain
 mod Examples
+mod MirrorExamples
 pub mod Workers
 mod Subcommands
+pub mod Tests

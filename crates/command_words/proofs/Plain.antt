@@ -375,7 +375,7 @@ check_is words plain = named (codes "check") words refl refl ∙ left_to check_s
 init_is : (words : List Text) → ArePlain words → command_of (codes "init" ∷ words) ≡ plain_command (codes "init" ∷ words)
 unfolding walked defaults_fault
 init_is words plain = named (codes "init") words refl refl ∙ left_to init_shape (level_fault init_shape [] nothing_held words false []) words
-    ∙ leaf_is init_shape ((refl, refl), ((refl, refl), tt)) words plain ∙ init_leaf words
+    ∙ leaf_is init_shape ((refl, refl), ((refl, refl), ((refl, refl), tt))) words plain ∙ init_leaf words
 
 -- the words after `run` are its own
 pub run_left : (words : List Text) → command_of (codes "run" ∷ words) ≡ leaf run_shape words
@@ -384,17 +384,17 @@ run_left words = named (codes "run") words refl refl ∙ left_to run_shape (leve
 
 run_is : (words : List Text) → ArePlain words → command_of (codes "run" ∷ words) ≡ plain_command (codes "run" ∷ words)
 run_is words plain = run_left words
-    ∙ leaf_is run_shape ((refl, refl), ((refl, refl), ((refl, refl), tt))) words plain ∙ run_leaf words
+    ∙ leaf_is run_shape ((refl, refl), ((refl, refl), ((refl, refl), ((refl, refl), tt)))) words plain ∙ run_leaf words
 
 audit_is : (words : List Text) → ArePlain words → command_of (codes "audit" ∷ words) ≡ plain_command (codes "audit" ∷ words)
 unfolding walked defaults_fault
 audit_is words plain = named (codes "audit") words refl refl ∙ left_to audit_shape (level_fault audit_shape [] nothing_held words false []) words
-    ∙ leaf_is audit_shape ((refl, refl), ((refl, refl), tt)) words plain ∙ audit_leaf words
+    ∙ leaf_is audit_shape ((refl, refl), ((refl, refl), ((refl, refl), tt))) words plain ∙ audit_leaf words
 
 grant_is : (words : List Text) → ArePlain words → command_of (codes "grant" ∷ words) ≡ plain_command (codes "grant" ∷ words)
 unfolding walked defaults_fault
 grant_is words plain = named (codes "grant") words refl refl ∙ left_to grant_shape (level_fault grant_shape [] nothing_held words false []) words
-    ∙ leaf_is grant_shape ((refl, refl), ((refl, refl), ((refl, refl), ((refl, refl), tt)))) words plain ∙ grant_leaf words plain
+    ∙ leaf_is grant_shape ((refl, refl), ((refl, refl), ((refl, refl), ((refl, refl), ((refl, refl), tt))))) words plain ∙ grant_leaf words plain
 
 gap_is : (words : List Text) → ArePlain words → command_of (codes "gap" ∷ words) ≡ plain_command (codes "gap" ∷ words)
 unfolding walked defaults_fault
@@ -404,7 +404,7 @@ gap_is words plain = named (codes "gap") words refl refl ∙ left_to gap_shape (
 serve_is : (words : List Text) → ArePlain words → command_of (codes "serve" ∷ words) ≡ plain_command (codes "serve" ∷ words)
 unfolding walked defaults_fault
 serve_is words plain = named (codes "serve") words refl refl ∙ left_to serve_shape (level_fault serve_shape [] nothing_held words false []) words
-    ∙ leaf_is serve_shape ((refl, refl), ((refl, refl), ((refl, refl), ((refl, refl), ((refl, refl), ((refl, refl), tt)))))) words plain ∙ serve_leaf words
+    ∙ leaf_is serve_shape ((refl, refl), ((refl, refl), ((refl, refl), ((refl, refl), ((refl, refl), ((refl, refl), ((refl, refl), tt))))))) words plain ∙ serve_leaf words
 
 gen_is : (words : List Text) → ArePlain words → command_of (codes "gen" ∷ words) ≡ plain_command (codes "gen" ∷ words)
 unfolding walked defaults_fault

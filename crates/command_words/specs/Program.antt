@@ -2,6 +2,7 @@
 use Rattle.std.specs.Prelude.{ℕ, ◌-◌, ◌^◌, [], ◌∷◌, true, Some, pos, codes}
 use Rattle.worker_pool.specs.Workers.{worker_limit}
 use Rattle.clap.specs.Words.{App, Rule, Text, new_app, new_rule, with_rule, with_subcommand}
+use Rattle.clap.specs.declared.builder.action.ArgAction.TheVariants.{SetTrue}
 use Rattle.clap.specs.declared.builder.value_parser.ValueParser.{ValueParser}
 use Rattle.clap.specs.declared.builder.value_parser.ValueParser.TheVariants as parser
 
@@ -61,6 +62,14 @@ workers_rule = number_rule (codes "workers") (from_to 1 greatest_workers)
 abbrev pub workers_option : Rule
 workers_option = or_else_is (as_option workers_rule) (codes "1")
 
+-- `--mirror`: each journal is kept on two disks
+abbrev pub mirror_option : Rule
+mirror_option = record (as_option (new_rule (codes "mirror"))) { action = Some SetTrue }
+
+-- the command may be told that
+abbrev pub with_mirror : App → App
+with_mirror app = with_rule app mirror_option
+
 -- the command with one more word, in this order
 abbrev pub with_word : App → Text → App
 with_word app name = with_rule app (required_word name)
@@ -73,17 +82,17 @@ abbrev pub files_app : (name : Text) → App
 files_app name = with_word (with_word (new_app name) (codes "catalog")) (codes "key")
 
 abbrev pub init_app : App
-init_app = files_app (codes "init")
+init_app = with_mirror (files_app (codes "init"))
 
 abbrev pub run_app : App
-run_app = with_rule (files_app (codes "run")) workers_option
+run_app = with_mirror (with_rule (files_app (codes "run")) workers_option)
 
 abbrev pub audit_app : App
-audit_app = files_app (codes "audit")
+audit_app = with_mirror (files_app (codes "audit"))
 
 -- its last word is a number
 abbrev pub grant_app : App
-grant_app = with_rule (with_word (files_app (codes "grant")) (codes "owner")) (required_number (codes "amount") (from_to 1 greatest_amount))
+grant_app = with_mirror (with_rule (with_word (files_app (codes "grant")) (codes "owner")) (required_number (codes "amount") (from_to 1 greatest_amount)))
 
 abbrev pub gap_app : App
 gap_app = with_word (with_word (with_word (with_word (new_app (codes "gap")) (codes "catalog")) (codes "owner"))
@@ -94,9 +103,9 @@ abbrev pub address_option : Rule
 address_option = or_else_is (as_option (new_rule (codes "addr"))) (codes "127.0.0.1")
 
 abbrev pub serve_app : App
-serve_app = with_rule (with_rule (with_rule (with_rule (files_app (codes "serve")) address_option)
+serve_app = with_mirror (with_rule (with_rule (with_rule (with_rule (files_app (codes "serve")) address_option)
     (required_option (codes "port") (from_to 1 greatest_port))) workers_option)
-    (required_option (codes "each") (from_to 1 greatest_each))
+    (required_option (codes "each") (from_to 1 greatest_each)))
 
 -- its numbers are words, the last one 1 where it isn't given
 abbrev pub gen_app : App

@@ -3,11 +3,12 @@
 ghost use Rattle.std.specs.Prelude.{◌≡◌, IfOk, codes, false};
 ghost use Rattle.clap.specs.Words.{App, Rule, app_of, rule_of, with_rule, with_subcommand};
 ghost use Rattle.command_words.specs.Made.{IsMadeAs};
-ghost use Rattle.command_words.specs.Program.{address_option, bare_program, check_app, files_app, gap_app, gen_app, grant_app, number_rule, or_else_is};
-ghost use Rattle.command_words.specs.Program.{program_app, required_number, required_option, required_word, run_app, serve_app, with_word, workers_option, workers_rule};
+ghost use Rattle.command_words.specs.Program.{address_option, audit_app, bare_program, check_app, files_app, gap_app, gen_app, grant_app, init_app, mirror_option};
+ghost use Rattle.command_words.specs.Program.{number_rule, or_else_is, program_app, required_number, required_option, required_word};
+ghost use Rattle.command_words.specs.Program.{run_app, serve_app, with_mirror, with_word, workers_option, workers_rule};
 
 use clap::builder::ValueParser;
-use clap::{Arg, Command};
+use clap::{Arg, ArgAction, Command};
 use std::alloc::{AllocError, Global};
 
 /// The most workers of a run, a service or a generated run.
@@ -132,20 +133,56 @@ fn address_option<'a>(alloc: Global) -> Arg<'a>
         .default_value("127.0.0.1")
 }
 
-/// `run CATALOG KEY --workers W`.
+/// `--mirror`.
+fn mirror_option<'a>(alloc: Global) -> Arg<'a>
+    ensures rule { rule_of result ≡ mirror_option }
+    ensures local { result.global ≡ false }
+{
+    Arg::new(alloc, "mirror")
+        .long("mirror")
+        .action(ArgAction::SetTrue)
+}
+
+/// A command that may be told to keep each journal on two disks, where it was made.
+fn with_mirror<'a>(
+    alloc: Global,
+    made: Result<Command<'a>, AllocError>,
+) -> Result<Command<'a>, AllocError>
+    ensures { (app : App) → IfOk made.entry (IsMadeAs app) → IfOk result (IsMadeAs (with_mirror app)) }
+{
+    with_arg(made, mirror_option(alloc))
+}
+
+/// `init CATALOG KEY --mirror`.
+fn init_command<'a>(alloc: Global) -> Result<Command<'a>, AllocError>
+    ensures { IfOk result (IsMadeAs init_app) }
+{
+    with_mirror(alloc, files_command(alloc, "init"))
+}
+
+/// `audit CATALOG KEY --mirror`.
+fn audit_command<'a>(alloc: Global) -> Result<Command<'a>, AllocError>
+    ensures { IfOk result (IsMadeAs audit_app) }
+{
+    with_mirror(alloc, files_command(alloc, "audit"))
+}
+
+/// `run CATALOG KEY --workers W --mirror`.
 fn run_command<'a>(alloc: Global) -> Result<Command<'a>, AllocError>
     ensures { IfOk result (IsMadeAs run_app) }
 {
-    with_arg(files_command(alloc, "run"), workers_option(alloc))
+    let command = with_arg(files_command(alloc, "run"), workers_option(alloc));
+    with_mirror(alloc, command)
 }
 
-/// `grant CATALOG KEY OWNER AMOUNT`.
+/// `grant CATALOG KEY OWNER AMOUNT --mirror`.
 fn grant_command<'a>(alloc: Global) -> Result<Command<'a>, AllocError>
     ensures { IfOk result (IsMadeAs grant_app) }
 {
     let amount = ValueParser::signed(1, GREATEST_AMOUNT);
     let command = with_word(alloc, files_command(alloc, "grant"), "owner");
-    with_arg(command, required_number(alloc, "amount", amount))
+    let command = with_arg(command, required_number(alloc, "amount", amount));
+    with_mirror(alloc, command)
 }
 
 /// `gap CATALOG OWNER CATALOG2 FILE`.
@@ -159,7 +196,7 @@ fn gap_command<'a>(alloc: Global) -> Result<Command<'a>, AllocError>
     with_word(alloc, command, "file")
 }
 
-/// `serve CATALOG KEY --addr A --port P --workers W --each N`.
+/// `serve CATALOG KEY --addr A --port P --workers W --each N --mirror`.
 fn serve_command<'a>(alloc: Global) -> Result<Command<'a>, AllocError>
     ensures { IfOk result (IsMadeAs serve_app) }
 {
@@ -168,7 +205,8 @@ fn serve_command<'a>(alloc: Global) -> Result<Command<'a>, AllocError>
     let command = with_arg(files_command(alloc, "serve"), address_option(alloc));
     let command = with_arg(command, required_option(alloc, "port", port));
     let command = with_arg(command, workers_option(alloc));
-    with_arg(command, required_option(alloc, "each", each))
+    let command = with_arg(command, required_option(alloc, "each", each));
+    with_mirror(alloc, command)
 }
 
 /// `gen SEED N WORKERS`.
@@ -217,9 +255,9 @@ pub fn program_command<'a>(alloc: Global) -> Result<Command<'a>, AllocError>
 {
     let program = Ok(bare_program(alloc));
     let program = with_command(program, check_command(alloc));
-    let program = with_command(program, files_command(alloc, "init"));
+    let program = with_command(program, init_command(alloc));
     let program = with_command(program, run_command(alloc));
-    let program = with_command(program, files_command(alloc, "audit"));
+    let program = with_command(program, audit_command(alloc));
     let program = with_command(program, grant_command(alloc));
     let program = with_command(program, gap_command(alloc));
     let program = with_command(program, serve_command(alloc));

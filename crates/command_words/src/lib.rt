@@ -3,6 +3,7 @@
 
 mod commands;
 mod laws;
+mod mirror;
 mod words;
 
 pub use crate::laws::{
@@ -10,4 +11,5 @@ pub use crate::laws::{
     plain_words_are_a_table, services_are_in_range, workers_are_in_range,
     workers_are_said_by_a_number,
 };
+pub use crate::mirror::is_mirrored;
 pub use crate::words::{Command, WordsFault, read_words};

@@ -227,6 +227,8 @@ fn command_found<'a>(matches: &ArgMatches<'a>) -> Option<Command<'a>>
 ///   and A is 127.0.0.1 where it isn't given.
 /// - `gen SEED N`, perhaps with WORKERS behind them, 1 where they aren't given: SEED is below 2^32, and N from 1 to 100,000.
 ///
+/// `init`, `run`, `audit`, `grant` and `serve` may have the flag `--mirror`, once. `is_mirrored` says whether it is there.
+///
 /// `Usage` comes exactly where clap's parse of the words answers a fault, and `NoMemory` may come at any words.
 #[tactic(auto, using(crate::proofs::Parses::command_taken, crate::proofs::Parses::command_refused))]
 pub fn read_words<'a>(alloc: Global, words: &'a [String]) -> Result<Command<'a>, WordsFault>

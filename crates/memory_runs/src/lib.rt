@@ -5,8 +5,9 @@ pub mod doors;
 pub mod journals;
 
 use crate::journals::empty_journals;
+pub use command_words::is_mirrored;
 use fz_outside::files::MemFile;
-pub use query_server::{Status, run_server};
+pub use query_server::Status;
 use std::alloc::{AllocError, Global};
 use std::sync::Wait;
 use std::thread::Threads;

@@ -1,8 +1,8 @@
 //! Words of each kind that pass, and each kind of fault.
 
 use command_words::{
-    Command, WordsFault, faults_alone_are_no_command, grants_are_in_range, plain_words_are_a_table,
-    read_words, workers_are_in_range, workers_are_said_by_a_number,
+    Command, WordsFault, faults_alone_are_no_command, grants_are_in_range, is_mirrored,
+    plain_words_are_a_table, read_words, workers_are_in_range, workers_are_said_by_a_number,
 };
 use std::alloc::{AllocError, Global};
 
@@ -16,7 +16,7 @@ fn words_of(alloc: Global, texts: &[&str]) -> Result<Vec<String>, AllocError> {
 
 // Words, and the command that they are.
 #[rattlefmt::skip]
-const COMMANDS: [(&[&str], Command<'static>); 18] = [
+const COMMANDS: [(&[&str], Command<'static>); 23] = [
     // each command
     (&["check", "c", "o", "f"], Command::Check { catalog: "c", owner: "o", file: "f" }),
     (&["init", "c", "k"], Command::Init { catalog: "c", key: "k" }),
@@ -37,6 +37,12 @@ const COMMANDS: [(&[&str], Command<'static>); 18] = [
     (&["run", "c", "k", "--workers", "+1"], RUN),
     // the most workers
     (&["run", "c", "k", "--workers", "16"], Command::Run { catalog: "c", key: "k", workers: 16 }),
+    // the flag, of each command of journals
+    (&["init", "--mirror", "c", "k"], Command::Init { catalog: "c", key: "k" }),
+    (&["run", "c", "k", "--mirror"], RUN),
+    (&["audit", "c", "--mirror", "k"], Command::Audit { catalog: "c", key: "k" }),
+    (&["grant", "c", "k", "o", "5", "--mirror"], Command::Grant { catalog: "c", key: "k", owner: "o", amount: 5 }),
+    (&["serve", "c", "k", "--mirror", "--port", "1", "--each", "1"], SERVE),
     // names that begin with a hyphen, or are empty
     (&["run", "--", "-c", "--workers"], Command::Run { catalog: "-c", key: "--workers", workers: 1 }),
     (&["run", "-", ""], Command::Run { catalog: "-", key: "", workers: 1 }),
@@ -48,11 +54,24 @@ const RUN: Command<'static> = Command::Run {
     workers: 1,
 };
 
+const SERVE: Command<'static> = Command::Serve {
+    catalog: "c",
+    key: "k",
+    address: "127.0.0.1",
+    port: 1,
+    workers: 1,
+    each: 1,
+};
+
 #[test]
 fn reads_commands(rt: HostRuntime) -> Result<(), AllocError> {
     for (texts, command) in &COMMANDS {
         let words = words_of(rt.alloc(), texts)?;
         assert!(rt; read_words(rt.alloc(), &words) == Ok(*command), "{texts:?}");
+        assert!(rt;
+            is_mirrored(&words) == texts.contains(&"--mirror"),
+            "{texts:?}"
+        );
     }
     Ok(())
 }

@@ -3,12 +3,15 @@
 use crate::escapes::bytes_of;
 use crate::runs::Disks;
 use std::alloc::{AllocError, Global};
+use std::mem;
 
-/// Nothing on either disk.
+/// Nothing on any disk.
 pub fn empty(alloc: Global) -> Disks {
     Disks {
         first: Vec::new(alloc),
         second: Vec::new(alloc),
+        first_mirror: Vec::new(alloc),
+        second_mirror: Vec::new(alloc),
     }
 }
 
@@ -17,7 +20,14 @@ pub fn copied(alloc: Global, disks: &Disks) -> Result<Disks, AllocError> {
     Ok(Disks {
         first: disks.first.to_vec(alloc)?,
         second: disks.second.to_vec(alloc)?,
+        first_mirror: disks.first_mirror.to_vec(alloc)?,
+        second_mirror: disks.second_mirror.to_vec(alloc)?,
     })
+}
+
+/// Owner 0's disk and its mirror change places.
+pub fn swap(disks: &mut Disks) {
+    mem::swap(&mut disks.first, &mut disks.first_mirror);
 }
 
 /// Cuts owner 0's disk to a size or fills it up to it with zeros, or puts a text over its bytes at a place.
@@ -43,6 +53,8 @@ pub fn change(
 pub fn are_same(one: &Disks, other: &Disks) -> bool {
     one.first.as_slice() == other.first.as_slice()
         && one.second.as_slice() == other.second.as_slice()
+        && one.first_mirror.as_slice() == other.first_mirror.as_slice()
+        && one.second_mirror.as_slice() == other.second_mirror.as_slice()
 }
 
 /// Prints whether the disks stayed as they were.

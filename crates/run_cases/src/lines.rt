@@ -3,20 +3,24 @@
 //!
 //! - `file NAME TEXT`: a file, which the commands find from here on;
 //! - `new`, `keep`, `back`: empty disks; keep the disks, and go back to them;
-//! - `size BYTES`, `put PLACE TEXT`: owner 0's disk is cut or filled up with zeros, or gets a text over its bytes;
-//! - `fail WHAT CALL ..`: which calls fail in the next command, from 0 on: of `0` or `1`, an owner's disk, `bay`, `files`, `source`, `sink` or `link`;
-//!   `fail from CALL`: all of owner 0's disk from this one on;
+//! - `size BYTES`, `put PLACE TEXT`, `swap`: owner 0's disk is cut or filled up with zeros, gets a text over its bytes, or changes places with its
+//!   mirror;
+//! - `fail WHAT CALL ..`: which calls fail in the next command, from 0 on: of `0` or `1`, an owner's disk, `mirror`, owner 0's mirror, `bay`, `files`,
+//!   `source`, `sink` or `link`; `fail from CALL`, `fail mirror_from CALL`: all of owner 0's disk or mirror from this one on;
 //! - `piece BYTES`: how many bytes a call of source, sink, files or a connection passes;
 //! - `$ WORD ..`: a command. `> TEXT` adds a line to its input, `>> TEXT` a text, and `--` begins a connection's input;
 //! - `= STATUS` and `< LINE`: how the commands since the last one ended, and what they wrote;
 //! - `? TEXT`: a row: the commands are done once more and leave the disks as they were. `@` in their input, and the file `row`, are the text;
 //! - `each KIND LEFT FROM TO`: the commands are done once for each call of owner 0's disk of which the first command's fails (`fault`), or all from it
-//!   on (`stop`); or each call of a connection (`link`), or each number of bytes that it takes (`room`). `at CALL` stands where they come to something
-//!   else than before. A stop after the first command leaves what wasn't synced `old`, `new`, as `ones` or as `gates`; `kept` is no stop;
+//!   on (`stop`), and so of its mirror (`mirror_fault`, `mirror_stop`); or each call of a connection (`link`), or each number of bytes that it takes (`room`). `at CALL` stands where they come to something
+//!   else than before. A stop after the first command leaves what wasn't synced on that disk `old`, `new`, as `ones` or as `gates`; `kept` is no stop;
 //! - `same` and `bytes`: whether the last commands left the disks as they were; what is on owner 0's disk;
 //! - any other, as `# TEXT`: nothing.
+//!
+//! A command with the word `--mirror` finds two disks for each owner. Others find one, and leave mirrors as they are. Of those behind the first of
+//! a group all want one, or all want two.
 
-use crate::disks::{are_same, change, copied, empty, push_same, push_slots};
+use crate::disks::{are_same, change, copied, empty, push_same, push_slots, swap};
 use crate::escapes::bytes_of;
 use crate::runs::{Command, Disks, Faults, Held, Outside, run_all};
 use outside_disks::memory::Torn;
@@ -93,14 +97,21 @@ fn add_line(
     add_input(alloc, commands, end, false)
 }
 
-// Lists the calls that are to fail, or says how many calls owner 0's disk takes.
+// Lists the calls that are to fail, or says how many calls owner 0's disk or mirror takes.
 fn set_failing(faults: &mut Faults, which: &str, calls: &str) -> Result<(), AllocError> {
-    if which == "from" {
-        faults.calls = number(calls);
-        return Ok(());
+    match which {
+        "from" => faults.calls = number(calls),
+        "mirror_from" => faults.mirror_calls = number(calls),
+        _ => list_failing(faults, which, calls)?,
     }
+    Ok(())
+}
+
+// Lists the calls that are to fail.
+fn list_failing(faults: &mut Faults, which: &str, calls: &str) -> Result<(), AllocError> {
     let listed = match which {
         "0" => &mut faults.first,
+        "mirror" => &mut faults.mirror,
         "1" => &mut faults.second,
         "bay" => &mut faults.bay,
         "files" => &mut faults.files,
@@ -124,13 +135,18 @@ fn torn_of(word: &str) -> Option<Torn> {
     }
 }
 
-// The faults of a trial: this call of owner 0's disk fails, or at a stop all from it on; or this one of a connection, or a connection takes so
-// many bytes. A stop after the command leaves the disk so.
+// The faults of a trial: this call of owner 0's disk or mirror fails, or at a stop all from it on; or this one of a connection, or a connection
+// takes so many bytes. A stop after the command leaves that disk so.
 fn faults_at(alloc: Global, kind: &str, torn: &str, call: u32) -> Result<Faults, AllocError> {
     let mut faults = Faults::new(alloc);
-    faults.torn = torn_of(torn);
+    match kind {
+        "mirror_fault" | "mirror_stop" => faults.mirror_torn = torn_of(torn),
+        _ => faults.torn = torn_of(torn),
+    }
     match kind {
         "stop" => faults.calls = call,
+        "mirror_stop" => faults.mirror_calls = call,
+        "mirror_fault" => faults.mirror.push(u64::from(call))?,
         "room" => faults.room = call as usize,
         "link" => faults.link.push(u64::from(call))?,
         _ => faults.first.push(u64::from(call))?,
@@ -314,6 +330,7 @@ impl Case {
             "keep" => self.kept = copied(alloc, &self.disks)?,
             "back" => self.disks = copied(alloc, &self.kept)?,
             "size" | "put" => change(alloc, &mut self.disks, word, name, text)?,
+            "swap" => swap(&mut self.disks),
             _ => {}
         }
         Ok(())

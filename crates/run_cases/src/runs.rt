@@ -7,8 +7,9 @@ use fz_outside::flaky::{Flaky, Schedule};
 use fz_outside::sink::MemSink;
 use fz_outside::source::MemSource;
 use memory_runs::doors::{DOORS, ROOM_OF_LINK, doors_behind};
-use memory_runs::journals::{LARGE, MemJournals, journals_on};
-use memory_runs::{ROOM, Status, words_of};
+use memory_runs::journals::{LARGE, MemJournals, journals_on, mirrored_journals_on};
+use memory_runs::{ROOM, Status, is_mirrored, words_of};
+use outside_disks::disks::Disks as Home;
 use outside_disks::memory::{Limits, MemDisk, Torn};
 use outside_doors::memory::MemDoors;
 use outside_links::memory::MemLink;
@@ -31,20 +32,25 @@ pub struct Command {
     pub inputs: Vec<Vec<u8>>,
 }
 
-/// The bytes of the journals of owners 0 and 1.
+/// The bytes of the journals of owners 0 and 1, and of their mirrors.
 #[derive(Drop)]
 pub struct Disks {
     pub first: Vec<u8>,
     pub second: Vec<u8>,
+    pub first_mirror: Vec<u8>,
+    pub second_mirror: Vec<u8>,
 }
 
-/// Which calls fail, how many calls owner 0's disk takes, what a stop makes of it then, and how many bytes a connection takes.
+/// Which calls fail, how many calls owner 0's disk and its mirror take, what a stop makes of them then, and how many bytes a connection takes.
 #[derive(Drop)]
 pub struct Faults {
     pub calls: u32,
+    pub mirror_calls: u32,
     pub torn: Option<Torn>,
+    pub mirror_torn: Option<Torn>,
     pub room: usize,
     pub first: Vec<u64>,
+    pub mirror: Vec<u64>,
     pub second: Vec<u64>,
     pub bay: Vec<u64>,
     pub files: Vec<u64>,
@@ -58,9 +64,12 @@ impl Faults {
     pub fn new(alloc: Global) -> Faults {
         Faults {
             calls: LARGE.calls,
+            mirror_calls: LARGE.calls,
             torn: None,
+            mirror_torn: None,
             room: ROOM_OF_LINK,
             first: Vec::new(alloc),
+            mirror: Vec::new(alloc),
             second: Vec::new(alloc),
             bay: Vec::new(alloc),
             files: Vec::new(alloc),
@@ -253,19 +262,36 @@ fn run_one<R: Threads + Wait + Sync>(
     push_outcome(out, alloc, status, sink.inner.bytes(), &doors, before)
 }
 
-// The journals on disks of these bytes, which fail so.
+// A disk of these bytes, which takes so many calls and fails these.
+fn disk_of<'a>(
+    alloc: Global,
+    bytes: &[u8],
+    calls: u32,
+    failing: &'a [u64],
+) -> Result<MemDisk<'a>, AllocError> {
+    MemDisk::new(alloc, bytes, Limits { calls, ..LARGE }, failing)
+}
+
+// The journals on disks of these bytes, which fail so: one for each owner, or two.
 fn journals_of<'a>(
     alloc: Global,
     disks: &Disks,
     faults: &'a Faults,
+    mirrored: bool,
 ) -> Result<MemJournals<'a>, AllocError> {
-    let limits = Limits {
-        calls: faults.calls,
-        ..LARGE
-    };
-    let first = MemDisk::new(alloc, &disks.first, limits, &faults.first)?;
-    let second = MemDisk::new(alloc, &disks.second, LARGE, &faults.second)?;
-    journals_on(alloc, first, second, &faults.bay)
+    let first = disk_of(alloc, &disks.first, faults.calls, &faults.first)?;
+    let second = disk_of(alloc, &disks.second, LARGE.calls, &faults.second)?;
+    if !mirrored {
+        return journals_on(alloc, first, second, &faults.bay);
+    }
+    let of_first = disk_of(
+        alloc,
+        &disks.first_mirror,
+        faults.mirror_calls,
+        &faults.mirror,
+    )?;
+    let of_second = disk_of(alloc, &disks.second_mirror, LARGE.calls, &[])?;
+    mirrored_journals_on(alloc, (first, of_first), (second, of_second), &faults.bay)
 }
 
 // The bytes of a disk, or those that a stop leaves of it.
@@ -273,6 +299,52 @@ fn left_of(alloc: Global, disk: &MemDisk<'_>, torn: Option<Torn>) -> Result<Vec<
     match torn {
         Some(torn) => disk.after_stop(alloc, torn)?.bytes().to_vec(alloc),
         None => disk.bytes().to_vec(alloc),
+    }
+}
+
+// The bytes that are left on an owner's disk and mirror. A mirror that the owner doesn't have is as it was.
+fn left_at(
+    alloc: Global,
+    home: &Home<MemDisk<'_>>,
+    torn: Option<Torn>,
+    mirror_torn: Option<Torn>,
+    mirror: &[u8],
+) -> Result<(Vec<u8>, Vec<u8>), AllocError> {
+    match home {
+        Home::One(disk) => Ok((left_of(alloc, disk, torn)?, mirror.to_vec(alloc)?)),
+        Home::Both(disk, other) => Ok((
+            left_of(alloc, disk, torn)?,
+            left_of(alloc, other, mirror_torn)?,
+        )),
+    }
+}
+
+// The bytes that are left on the disks of these journals.
+fn left_on(
+    alloc: Global,
+    journals: MemJournals<'_>,
+    faults: &Faults,
+    before: &Disks,
+) -> Result<Disks, AllocError> {
+    let Some((home, other)) = journals.into_homes() else {
+        return Err(AllocError);
+    };
+    let (torn, mirror_torn) = (faults.torn, faults.mirror_torn);
+    let (first, first_mirror) = left_at(alloc, &home, torn, mirror_torn, &before.first_mirror)?;
+    let (second, second_mirror) = left_at(alloc, &other, None, None, &before.second_mirror)?;
+    Ok(Disks {
+        first,
+        second,
+        first_mirror,
+        second_mirror,
+    })
+}
+
+// Whether the first of the commands wants two disks for each owner.
+fn wants_mirrors(alloc: Global, commands: &[Command]) -> Result<bool, AllocError> {
+    match commands.first() {
+        Some(command) => Ok(is_mirrored(&split_words(alloc, &command.words)?)),
+        None => Ok(false),
     }
 }
 
@@ -287,7 +359,8 @@ fn run_on<R: Threads + Wait + Sync>(
     before: &[u8],
     out: &mut Vec<u8>,
 ) -> Result<Disks, AllocError> {
-    let mut journals = journals_of(alloc, disks, faults)?;
+    let mirrored = wants_mirrors(alloc, commands)?;
+    let mut journals = journals_of(alloc, disks, faults, mirrored)?;
     for command in commands {
         run_one(
             rt,
@@ -300,13 +373,7 @@ fn run_on<R: Threads + Wait + Sync>(
             out,
         )?;
     }
-    match journals.into_disks() {
-        Some((first, second)) => Ok(Disks {
-            first: left_of(alloc, &first, faults.torn)?,
-            second: second.bytes().to_vec(alloc)?,
-        }),
-        None => Err(AllocError),
-    }
+    left_on(alloc, journals, faults, disks)
 }
 
 /// Does the first command with these faults, and the others without, and leaves the bytes that are on the disks then.

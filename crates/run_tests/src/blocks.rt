@@ -5,7 +5,7 @@ use fz_outside::sink::MemSink;
 use fz_outside::source::MemSource;
 use memory_runs::doors::{door_with, doors_behind};
 use memory_runs::journals::empty_journals;
-use memory_runs::{KEY, Status, TABLE, census_files, run_server, words_of};
+use memory_runs::{KEY, Status, TABLE, census_files, words_of};
 use outside_doors::memory::MemDoors;
 use outside_links::gate::Gate;
 use std::alloc::{AllocError, Global};
@@ -59,7 +59,6 @@ fn served<R: Threads + Wait + Sync>(
     let held = census_files(TABLE, "key", &KEY);
     let mut journals = empty_journals(alloc)?;
     journals.ran(rt, alloc, &["init", "cat.json", "key"], &held, b"")?;
-    let mut bay = journals.into_bay();
     let words = words_of(
         alloc,
         &[
@@ -81,12 +80,11 @@ fn served<R: Threads + Wait + Sync>(
     let mut source = MemSource::new(b"");
     let mut sink = MemSink::<64>::new(alloc)?;
     let mut doors = doors_behind(alloc, first)?;
-    let status = run_server(
+    let status = journals.ran_behind(
         rt,
         alloc,
         &words,
         &mut files,
-        &mut bay,
         &mut source,
         &mut sink,
         &mut doors,

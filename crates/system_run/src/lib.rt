@@ -2,13 +2,18 @@
 //! input and standard output, and the ports of an address.
 #![tactic(auto)]
 
-ghost use Rattle.std.specs.Prelude.{◌≡◌, length, IfOk};
+ghost use Rattle.std.specs.Prelude.{◌≡◌, ℕ, ◌<◌, length, is_some, Some, map, string_bytes, IfOk};
 ghost use Rattle.std.specs.Process.{exit_status};
+ghost use Rattle.command_words.specs.Mirrored.{is_mirrored};
+ghost use Rattle.outside_disks.specs.Stored.{Stored, is_two};
+ghost use Rattle.outside_bays.specs.Places.{fresh_home};
 ghost use Rattle.query_server.specs.Status.{status_code};
 ghost use Rattle.query_server.specs.declared.end.Status.{Status as Ended};
 
+use command_words::is_mirrored;
 use fz_outside::real::{RealFiles, RealSink, RealSource};
 use fz_outside::sink::{Sink, put};
+use outside_bays::bay::Bay;
 use outside_bays::real::RealBay;
 use outside_doors::real::RealDoors;
 use outside_links::gate::FreeGate;
@@ -21,7 +26,7 @@ use std::thread::Threads;
 use std::{env, fs, io};
 use worker_pool::MOST_WORKERS;
 
-/// The most owners of a catalog. The journal of owner N is `journals/N.bud`.
+/// The most owners of a catalog. The journal of owner N is `journals/N.bud`, and its mirror, where there is one, `mirrors/N.bud`.
 const OWNERS: u32 = 64;
 
 /// Each worker of a service has a door.
@@ -42,6 +47,33 @@ fn without_memory<K: Sink>(sink: &mut K) -> Status {
         Ok(()) => Status::NoMemory,
         Err(_) => Status::Fault,
     }
+}
+
+// The folder of mirrors, where a word says that there are some.
+fn mirrors_for(words: &[String]) -> Option<&'static str>
+    ensures { is_some result ≡ is_mirrored (map string_bytes words.now) }
+{
+    if is_mirrored(words) {
+        Some("mirrors")
+    } else {
+        None
+    }
+}
+
+// The bay of the journals. Each is kept on two disks where a word says so.
+#[tactic(auto, using(crate::proofs::Homes::homes_as_said, crate::proofs::Homes::twins_as_said))]
+fn bay_for<'a>(
+    rt: &'a HostRuntime,
+    alloc: Global,
+    words: &[String],
+) -> Result<RealBay<'a, HostRuntime>, AllocError>
+    ensures owners { IfOk result (λ bay. ⟦<RealBay<'a, HostRuntime> as Bay>⟧.owners bay ≡ OWNERS) }
+    ensures home { IfOk result (λ bay. (n : ℕ) → n < OWNERS →
+        ⟦<RealBay<'a, HostRuntime> as Bay>⟧.shelf bay n ≡ Some (fresh_home (is_mirrored (map string_bytes words.now)))) }
+    ensures twins { IfOk result (λ bay. (n : ℕ) → n < OWNERS → (stored : Stored) × (⟦<RealBay<'a, HostRuntime> as Bay>⟧.shelf bay n ≡ Some stored)
+        × (is_two stored.twins ≡ is_mirrored (map string_bytes words.now))) }
+{
+    RealBay::new(alloc, rt, "journals", mirrors_for(words), OWNERS)
 }
 
 // A door for each worker that there may be.
@@ -70,7 +102,7 @@ fn do_command<R: Threads + Wait + Sync, K: Sink>(
     sink: &mut K,
 ) -> Result<Status, AllocError> {
     let words = words_of(rt, alloc)?;
-    let mut bay = RealBay::new(alloc, rt, "journals", OWNERS)?;
+    let mut bay = bay_for(rt, alloc, &words)?;
     let mut doors = doors_of(rt, alloc)?;
     let mut files = RealFiles::new(rt);
     let mut source = RealSource::new(rt.reader());

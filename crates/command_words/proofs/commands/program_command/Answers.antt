@@ -10,4 +10,4 @@ returns c =
     c.with_command-program-4.ensures _ audit_app (
     c.with_command-program-3.ensures _ run_app (
     c.with_command-program-2.ensures _ init_app (
-    c.with_command-program.ensures _ check_app c.bare_program.ensures c.check_command.ensures) c.files_command.ensures) c.run_command.ensures) c.files_command-2.ensures) c.grant_command.ensures) c.gap_command.ensures) c.serve_command.ensures) c.gen_command.ensures
+    c.with_command-program.ensures _ check_app c.bare_program.ensures c.check_command.ensures) c.init_command.ensures) c.run_command.ensures) c.audit_command.ensures) c.grant_command.ensures) c.gap_command.ensures) c.serve_command.ensures) c.gen_command.ensures

@@ -4,6 +4,6 @@ use Rattle.memory_runs.proofs.journals.cut_journals.Given as goal
 
 abbrev pub invariant-loop : goal.invariant-loop
 invariant-loop l = record {
-  count : length l.disks.items ≡ l.counter;
-  there : AreThere l.disks.items;
+  count : length l.homes.items ≡ l.counter;
+  there : AreThere l.homes.items;
 }
