@@ -6,7 +6,7 @@ use Rattle.fz_outside.specs.Faults.{HasRisen}
 use Rattle.outside_disks.specs.Disks.{Shown}
 use Rattle.outside_disks.specs.Stored.{ATwinRose, EachTwin, HasCountRisen, Stored, Twins}
 use Rattle.budget_ledger.specs.Both.{IsLeft}
-use Rattle.owner_books.specs.Shelves.{AreGone, AreLost, AreSynced, BothGo, EachDisk, IsOnlySynced, IsStanding, IsUnwritten, NothingWritten, OneDisk, OneStands, Shelf, StandsStill}
+use Rattle.owner_books.specs.Shelves.{AreGone, AreLost, AreSynced, BothGo, EachDisk, IsOnlySynced, IsStanding, IsUnwritten, NothingWritten, OneDisk, OneStands, Shelf, SomeRose, StandsStill}
 
 pub left_same : (shown : Shown) → IsLeft shown shown
 left_same shown = record { synced = inl refl; counts = omega arith }
@@ -97,3 +97,6 @@ gone_rose None after gone = absurd gone
 pub lost_rose : (before after : Stored) → AreLost before after → HasCountRisen before after
 lost_rose before after (inl one) = inl one
 lost_rose before after (inr gone) = inr (gone_rose before.twins after.twins gone)
+
+pub some_rose : (o : ℕ) (before after : Stored) (old new : Shelf) → old o ≡ Some before → new o ≡ Some after → AreLost before after → SomeRose old new
+some_rose o before after old new was is lost = (o, before, after, was, is, lost_rose before after lost)

@@ -1,5 +1,5 @@
 -- What becomes of two disks, worked out on empty ones and on ones of a byte.
-use Rattle.std.proofs.Common.{◌≡◌, ℕ, zero, suc, ◌≤◌, List, [], ◌∷◌, length, Option, Some, None, true, false, refl, sym, ◌∙◌, ap, arith}
+use Rattle.std.proofs.Common.{◌≡◌, ℕ, ◌<◌, ◌≤◌, List, [], ◌∷◌, length, Option, Some, None, true, false, refl, sym, ◌∙◌, ap, arith, lit<}
 use Rattle.std.specs.Prelude.{codes, ⊤}
 use Rattle.std.specs.Fmt.{digits}
 use mathlib.Core.Logic.{◌⊎◌, inl, inr}
@@ -27,7 +27,7 @@ use Rattle.owner_books.specs.declared.refusals.JournalRefusal.TheVariants.{Chang
 
 -- ---- the line
 
-forked_at : journal_text (codes "census") (Forked 0) ≡ codes "journal census forked 0\n"
+pub forked_at : journal_text (codes "census") (Forked 0) ≡ codes "journal census forked 0\n"
 unfolding digits
 forked_at = refl
 
@@ -88,7 +88,7 @@ beside_an_empty_one = inr (inr (inl (λ low. omega arith, refl)))
 
 the_other_is_left : AreLost (two (disk (7 ∷ []) 0) (disk (7 ∷ []) 0)) (two (disk (7 ∷ []) 1) (disk (7 ∷ []) 0)) → ⊥
 the_other_is_left (inl (none, rose)) = cc none
-the_other_is_left (inr (inl (first, second))) = let wrong : 1 ≤ 0 = second (omega arith) in omega (arith, wrong)
+the_other_is_left (inr (inl (first, second))) = let wrong : 0 < 0 = second (lit< tt) in omega (arith, wrong)
 the_other_is_left (inr (inr (inl (first, empty)))) = cc empty
 the_other_is_left (inr (inr (inr (empty, second)))) = cc empty
 
@@ -143,7 +143,7 @@ module _ (entry : Entry) (header : Header) where
 
   nothing_on : (reading : Reading) → IsReading header (disk [] 0) (synced []) reading → IsNothing reading
   nothing_on (Missing true) is = tt
-  nothing_on (Missing false) is = let rose : 1 ≤ 0 = is (omega arith) in absurd (omega (arith, rose))
+  nothing_on (Missing false) is = let rose : 0 < 0 = is (lit< tt) in absurd (omega (arith, rose))
   nothing_on (Holding v records) is = let long : 128 ≤ 0 = journal-long (record header { version = v }) records [] is in absurd (omega (arith, long))
   nothing_on (Unfit open_fault.DiskFault) is = absurd is.0
   nothing_on (Unfit open_fault.NoMemory) is = tt
@@ -241,8 +241,8 @@ first_failed = (omega arith, inr (inr (inl (λ low. omega arith))), tt)
 none_failed : MayHaveFailed (two (disk [] 0) (disk [] 0)) (two (disk [] 0) (wrote [])) → ⊥
 none_failed (counts, inl is, stay) = let wrong : Wrote 0 (7 ∷ []) ∷ [] ≡ [] = ap steps_of is.twins.0.same in cc wrong
 none_failed (counts, inr (inl (none, rose)), stay) = cc none
-none_failed (counts, inr (inr (inl rose)), stay) = let wrong : 1 ≤ 0 = rose (omega arith) in omega (arith, wrong)
-none_failed (counts, inr (inr (inr rose)), stay) = let wrong : 1 ≤ 0 = rose (omega arith) in omega (arith, wrong)
+none_failed (counts, inr (inr (inl rose)), stay) = let wrong : 0 < 0 = rose (lit< tt) in omega (arith, wrong)
+none_failed (counts, inr (inr (inr rose)), stay) = let wrong : 0 < 0 = rose (lit< tt) in omega (arith, wrong)
 
 -- on both, and on none of the two alone
 one_made : (header : Header) (after : Shown) → IsMade header (two (disk [] 0) (disk (7 ∷ []) 0)) (two after (disk (7 ∷ []) 0)) → ⊥

@@ -1,7 +1,7 @@
 -- Journals made up to one that isn't.
 use Rattle.std.proofs.Common.{◌≡◌, ◌<◌, ◌≤◌, ◌∙◌, ℕ, List, [], length, Option, Some, None, refl, ap, subst, sym, arith}
 use Rattle.std.proofs.lemmas.Bool.{cases_order}
-use Rattle.std.specs.Prelude.{◌≢◌, Err, IfErr, IfSome, IsErrAnd, IsSome, Ok, Result, option_map, ⊤}
+use Rattle.std.specs.Prelude.{◌≢◌, Err, IfErr, IfSome, IsErrAnd, IsSome, Ok, OnOk, Result, option_map, ⊤}
 use mathlib.Core.Logic.{◌⊎◌, inl, inr}
 use Rattle.fz_outside.specs.Faults.{HasCause, HasRisen}
 use Rattle.outside_disks.specs.Disks.{Shown, Trace, seen_of}
@@ -152,9 +152,11 @@ two_risen header (AlreadyThere n) before after unmade is = cc is
 two_risen header DiskFault before after (inl (broken, second)) is = inr (inl broken.risen)
 two_risen header DiskFault before after (inr (broken, first)) is = inr (inr broken.risen)
 
-pub one_made : (header : Header) (t u : Option Trace) (m n : ℕ) → ((x : Trace) → t ≡ Some x → (seen_of x ≡ []) × TellsSome (IsAtRest header []) u) → n ≡ m
-    → IsMade header (one_stored (shown_as t m)) (one_stored (shown_as u n))
-one_made header t u m n made same = record { made = made; counts = same; twins = tt }
+pub one_made : {T E : Type 0} (header : Header) (t u : Option Trace) (m n : ℕ) (result : Result T E)
+    → OnOk result ((x : Trace) → t ≡ Some x → (seen_of x ≡ []) × TellsSome (IsAtRest header []) u) → OnOk result (n ≡ m)
+    → OnOk result (IsMade header (one_stored (shown_as t m)) (one_stored (shown_as u n)))
+one_made header t u m n (Ok x) made same = record { made = made; counts = same; twins = tt }
+one_made header t u m n (Err e) made same = tt
 
 not_told : {P : Type 0} (t : Trace) → None ≡ Some t → P
 not_told t is = absurd (cc is)

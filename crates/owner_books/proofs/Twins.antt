@@ -13,7 +13,8 @@ use Rattle.journal_records.specs.declared.records.Record.{Record}
 use Rattle.budget_journal.specs.Journals.{Found, IsAtRest, Stands}
 use Rattle.budget_core.specs.Entries.{Entry}
 use Rattle.budget_core.specs.Ledger.{Ledger}
-use Rattle.budget_ledger.specs.Account.{Account, AreCopies, Copies, Copy, CopyWent, CopyWentBy, EachCopyWent, Failure, HasPassed, Held, HeldWent, IsBook, IsCopy, IsHeldCopy, IsInUse, IsKeptNow, IsMoment, Storage, Went, stored_by, stored_with}
+use Rattle.budget_ledger.specs.Account.{Account, AreCopies, Copies, Copy, CopyWent, CopyWentBy, EachCopyWent, HasPassed, Held, HeldWent, IsBook, IsCopy, IsHeldCopy, IsInUse, IsKeptNow, IsMoment, Storage, Went, stored_by, stored_with}
+use Rattle.budget_ledger.specs.declared.failure.Failure.{Failure}
 use Rattle.budget_ledger.specs.Both.{HoldsBytes, IsOpenedBoth, IsOpenedCopy, IsReading, Make, Reading}
 use Rattle.budget_ledger.specs.Both.Reading.{Holding, Missing, Unfit}
 use Rattle.budget_ledger.proofs.Wents.{not_both, prefix_by, prefix_self, prefix_then}

@@ -84,6 +84,7 @@ fn both_stop(alloc: Global, owner: &str, fault: &BothFault) -> Stop
 }
 
 /// Opens the book of this entry and header on a disk, or on both of two.
+#[tactic(auto, using(crate::proofs::Stops::one_book, crate::proofs::Stops::two_books))]
 fn open_disks<D: Disk>(
     alloc: Global,
     disks: Disks<D>,

@@ -23,6 +23,7 @@ use outside_disks::disks::Disks;
 use std::alloc::Global;
 
 /// Makes a journal on an owner's disk, or on both of two.
+#[tactic(auto, using(crate::proofs::Made::two_made, crate::proofs::Made::one_unmade, crate::proofs::Made::two_unmade, crate::proofs::Made::two_risen))]
 fn init_disks<D: Disk>(disks: &mut Disks<D>, header: &Header) -> Result<(), InitFault>
     requires header { IsHeader header.now }
     requires grown { 2 ≤ header.now.version }
