@@ -1,6 +1,6 @@
 -- The lines of owners and their records, one after another.
 use Rattle.std.proofs.Common.{◌≡◌, ◌<◌, ◌≤◌, ◌+◌, ◌∙◌, ◌++◌, ℕ, zero, suc, Bool, List, [], ◌∷◌, length, get_or, take, cond, Option, Some, None, Result, Ok, Err, refl, sym, ap, ap₂, subst, append_assoc, append-nil, arith}
-use Rattle.std.specs.Prelude.{◌⊎◌, if◌then◌else◌, nat_eq, IfErr, IfOk, IsErrAnd, IsSome}
+use Rattle.std.specs.Prelude.{◌⊎◌, if◌then◌else◌, nat_eq, IfErr, IfOk, IfSome, IsErrAnd, IsSome}
 use Rattle.std.specs.Result.{is_ok}
 use Rattle.std.specs.List.{enumerate_from, flat_map}
 use mathlib.Core.Logic.{inl, inr}
@@ -8,15 +8,20 @@ use Rattle.std.proofs.lemmas.Bool.{cases_eq, cases_lt, eq-eqb}
 use Rattle.std.proofs.lemmas.List.{length-take-le, take_more}
 use Rattle.std.proofs.lemmas.Grind.{flat_map-append}
 use Rattle.fz_outside.specs.Faults.{HasRisen}
-use Rattle.outside_disks.specs.Disks.{Shown}
+use mathlib.Core.List.{IsPrefix}
+use Rattle.outside_disks.specs.Disks.{Passes, Shown, Trace, WhereTold, noted, seen_of}
+use Rattle.outside_disks.specs.Disks.Step.{Synced}
 use Rattle.outside_disks.specs.Stored.{ATwinRose, HasCountRisen, Stored, Twins}
 use Rattle.outside_bays.proofs.Shelves.{not-equal}
 use Rattle.journal_records.specs.declared.records.Header.{Header}
 use Rattle.journal_records.specs.declared.records.Record.{Record}
+use Rattle.budget_journal.specs.Journals.{IsAtRest, MayHaveSynced, Stands}
+use Rattle.budget_journal.proofs.Fills.{journal-long}
 use Rattle.budget_core.specs.Entries.{Entry}
+use Rattle.budget_ledger.specs.Both.{HaveFailed, HoldsBytes}
 use Rattle.owner_catalog.specs.Entries.{OwnerEntry}
 use Rattle.generated_run.specs.SessionCore.Transcript.{Journals}
-use Rattle.owner_books.specs.Shelves.{Shelf, AreSynced, BothGo, EachDisk, IsOnlySynced, IsTwinSynced, NoOtherRose, SomeRose, StandsStill}
+use Rattle.owner_books.specs.Shelves.{Shelf, AreGone, AreLost, AreSynced, BothGo, EachDisk, IsOnlySynced, IsTwinSynced, NoOtherRose, SomeLost, SomeRose, StandsStill}
 use Rattle.owner_books.specs.Opened.{AreOpened, IsOpened}
 use Rattle.query_server.specs.Audit.{counted_line, counted_text}
 use Rattle.owner_catalog.specs.Limits.{owner_limit}
@@ -249,6 +254,79 @@ rose_since o old mid new a b c first second home before left (inr (p, was, is, a
         let still : is ≡ was = let e : Some is ≡ Some was = sym now ∙ left.elsewhere p (λ q. omega (arith, less, q)) ∙ at in cc e in
         let synced : IsOnlySynced begun.0 was = subst (IsOnlySynced begun.0) same step.2 in
         (p, begun.0, is, begun.1, now, subst (HasCountRisen begun.0) (sym still) (still_rose begun.0 was synced (subst (HasCountRisen was) still rose)))
+    here (inr past) = (p, was, is, sym (before.others p past) ∙ at, now, rose)
+
+-- an empty disk was empty before it was synced
+empty_before : (other before after : Shown) → IsTwinSynced other before after → HoldsBytes (λ bytes. bytes ≡ []) after → HasRisen before.faults after.faults ⊎ HoldsBytes (λ bytes. bytes ≡ []) before
+empty_before other before after (inl left) empty = inr (here before.trace after.trace left.synced empty)
+  where
+    here : (t u : Option Trace) → MayHaveSynced t u → IfSome u (λ w. seen_of w ≡ []) → IfSome t (λ w. seen_of w ≡ [])
+    here None u synced is = tt
+    here (Some t) u (inl same) is = subst (λ (o : Option Trace). IfSome o (λ w. seen_of w ≡ [])) same is
+    here (Some t) u (inr synced) is = subst (λ (o : Option Trace). IfSome o (λ w. seen_of w ≡ [])) synced is
+empty_before other before after (inr levelled) empty = here levelled.kept
+  where
+    told : (t u : Option Trace) → WhereTold (Passes (λ bytes. (g : List Record) × IsPrefix levelled.has g × IsPrefix g levelled.all × Stands levelled.header g bytes)) (noted Synced t) u
+        → IfSome u (IsAtRest levelled.header levelled.all) → IfSome u (λ w. seen_of w ≡ []) → IfSome t (λ w. seen_of w ≡ [])
+    told None u passed rest is = tt
+    told (Some t) None passed rest is = absurd passed
+    told (Some t) (Some u) passed rest is =
+        let long : 128 ≤ length (seen_of u) = journal-long levelled.header levelled.all (seen_of u) rest.stands in
+        let none : length (seen_of u) ≡ 0 = ap length is in
+        absurd (omega (arith, long, none))
+
+    here : IfSome after.trace (IsAtRest levelled.header levelled.all) ⊎ HasRisen before.faults after.faults → HasRisen before.faults after.faults ⊎ HoldsBytes (λ bytes. bytes ≡ []) before
+    here (inl rest) = inr (told before.trace after.trace levelled.moments rest empty)
+    here (inr rose) = inl rose
+
+-- both were lost, and are so since before they were synced
+first_rose : (before after : Twins) → AreSynced before after → HasRisen after.first.faults after.first.faults → HasRisen before.first.faults after.first.faults
+first_rose before after synced rose =
+    risen_from before.first.faults after.first.faults after.first.faults after.first.faults (synced_counts before.second before.first after.first synced.0) (omega arith) (omega arith) rose
+
+second_rose : (before after : Twins) → AreSynced before after → HasRisen after.second.faults after.second.faults → HasRisen before.second.faults after.second.faults
+second_rose before after synced rose =
+    risen_from before.second.faults after.second.faults after.second.faults after.second.faults (synced_counts before.first before.second after.second synced.1) (omega arith) (omega arith) rose
+
+both_gone : (before after : Twins) → AreSynced before after → HaveFailed after after → HaveFailed before after
+both_gone before after synced (inl (first, second)) = inl (first_rose before after synced first, second_rose before after synced second)
+both_gone before after synced (inr (inl (first, empty))) = here (empty_before before.first before.second after.second synced.1 empty)
+  where
+    here : HasRisen before.second.faults after.second.faults ⊎ HoldsBytes (λ bytes. bytes ≡ []) before.second → HaveFailed before after
+    here (inl rose) = inl (first_rose before after synced first, rose)
+    here (inr is) = inr (inl (first_rose before after synced first, is))
+both_gone before after synced (inr (inr (empty, second))) = here (empty_before before.second before.first after.first synced.0 empty)
+  where
+    here : HasRisen before.first.faults after.first.faults ⊎ HoldsBytes (λ bytes. bytes ≡ []) before.first → HaveFailed before after
+    here (inl rose) = inl (rose, second_rose before after synced second)
+    here (inr is) = inr (inr (is, second_rose before after synced second))
+
+twins_gone : (before after : Option Twins) → BothGo AreSynced before after → AreGone after after → AreGone before after
+twins_gone None None went gone = gone
+twins_gone None (Some u) went gone = absurd went
+twins_gone (Some t) None went gone = absurd went
+twins_gone (Some t) (Some u) went gone = both_gone t u went gone
+
+still_lost : (before after : Stored) → IsOnlySynced before after → AreLost after after → AreLost before after
+still_lost before after synced (inl (one, rose)) = inl (
+  none_before before.twins (subst (λ (t : Option Twins). BothGo AreSynced before.twins t) one synced.twins),
+  risen_from before.faults after.faults after.faults after.faults synced.counts (omega arith) (omega arith) rose,
+)
+still_lost before after synced (inr gone) = inr (twins_gone before.twins after.twins synced.twins gone)
+
+pub lost_since : (o : ℕ) (old mid new : Shelf) (a b c : ℕ) → a ≤ b → b ≤ c → ((p : ℕ) → p < o → IsSome (old p)) → EachDisk o (λ _. IsOnlySynced) old mid → LeftDisk o mid new
+    → HasRisen b c ⊎ SomeLost mid new → HasRisen a c ⊎ SomeLost old new
+lost_since o old mid new a b c first second home before left (inl rose) = inl (risen_from a b c c first second (omega arith) rose)
+lost_since o old mid new a b c first second home before left (inr (p, was, is, at, now, rose)) = inr (here (cases_lt p o))
+  where
+    here : (p < o) ⊎ (o ≤ p) → SomeLost old new
+    here (inl less) =
+        let begun = some_of (old p) (home p less) in
+        let step = before.owned p begun.0 less begun.1 in
+        let same : step.0 ≡ was = let e : Some step.0 ≡ Some was = sym step.1 ∙ at in cc e in
+        let still : is ≡ was = let e : Some is ≡ Some was = sym now ∙ left.elsewhere p (λ q. omega (arith, less, q)) ∙ at in cc e in
+        let synced : IsOnlySynced begun.0 was = subst (IsOnlySynced begun.0) same step.2 in
+        (p, begun.0, is, begun.1, now, subst (AreLost begun.0) (sym still) (still_lost begun.0 was synced (subst (AreLost was) still rose)))
     here (inr past) = (p, was, is, sym (before.others p past) ∙ at, now, rose)
 
 pub opened_as : (entry : Entry) (header : Header) (before old now new : Option Stored) (found : List Record) → before ≡ old → now ≡ new → IsOpened entry header before now found → IsOpened entry header old new found

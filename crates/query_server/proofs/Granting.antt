@@ -29,7 +29,7 @@ use Rattle.query_server.specs.Grant.{IsGrantUnwritten, WentBy, entry_in, header_
 use Rattle.query_server.specs.Granted.{IsBookBy, IsGrantEnd, IsUnappendedGrant, book_verdict}
 use Rattle.owner_books.specs.Opened.{IsOpened}
 use Rattle.query_server.specs.Run.{WentOn}
-use Rattle.owner_books.specs.Shelves.{AreLost, NoOtherRose, OneDisk, IsOnlySynced, Shelf, SomeRose}
+use Rattle.owner_books.specs.Shelves.{AreLost, NoOtherRose, OneDisk, IsOnlySynced, Shelf, SomeLost, SomeRose}
 use Rattle.query_server.specs.Work.{to_grant}
 use Rattle.owner_books.proofs.Back.{changed_elsewhere, changed_here}
 use Rattle.owner_books.proofs.Disks.{same_still}
@@ -142,9 +142,9 @@ module _ (one : KeyedOwner) (amount version : ℕ) (old mid new : Shelf) (opened
   granted_end script (Err (Journal line)) wrong = absurd wrong
   granted_end script (Err Fault) wrong = absurd wrong
 
-  rose_here : (before : Stored) → old one.number ≡ Some before → IsUnappendedGrant opened amount later → SomeRose old new
-  rose_here before was (allowed, (Closed failed_at, (failure, shut, at, unchanged))) = not_closed failure shut
-  rose_here before was (allowed, (DiskFault, closed)) = (
+  lost_here : (before : Stored) → old one.number ≡ Some before → IsUnappendedGrant opened amount later → SomeLost old new
+  lost_here before was (allowed, (Closed failed_at, (failure, shut, at, unchanged))) = not_closed failure shut
+  lost_here before was (allowed, (DiskFault, closed)) = (
     one.number,
     before,
     shown_by later,
@@ -153,11 +153,16 @@ module _ (one : KeyedOwner) (amount version : ℕ) (old mid new : Shelf) (opened
     let fails = unwritten (allowed, (DiskFault, closed)) in
         let now = fails.disk.here before was in
         let shows : now.0 ≡ shown_by later = let e : Some now.0 ≡ Some (shown_by later) = sym now.1 ∙ changed_here one.number (Some (shown_by later)) mid new back in cc e in
-        lost_rose before (shown_by later) (subst (AreLost before) shows (now.2.failed fails.failure refl).0),
+        subst (AreLost before) shows (now.2.failed fails.failure refl).0,
   )
 
-  -- The line of the disk comes only where its count rose.
+  -- The line of the disk comes only where its count rose, or none of two is left.
+  pub granted_lost : (result : Ended) (line : Vec ℕ Global) → IsSome (old one.number) → result ≡ Err (Disk line) → IsGrantEnd opened (its_name one) amount result later → SomeLost old new
+  granted_lost result line home is_disk end =
+      let before = some_of (old one.number) home in
+      lost_here before.0 before.1 (subst (λ (r : Ended). IsGrantEnd opened (its_name one) amount r later) is_disk end).1
+
   pub granted_rose : (result : Ended) (line : Vec ℕ Global) → IsSome (old one.number) → result ≡ Err (Disk line) → IsGrantEnd opened (its_name one) amount result later → SomeRose old new
   granted_rose result line home is_disk end =
-      let before = some_of (old one.number) home in
-      rose_here before.0 before.1 (subst (λ (r : Ended). IsGrantEnd opened (its_name one) amount r later) is_disk end).1
+      let lost = granted_lost result line home is_disk end in
+      (lost.0, lost.1, lost.2, lost.3, lost.4, lost_rose lost.1 lost.2 lost.5)

@@ -65,6 +65,9 @@ IsOfDoors command = IsTrue (command_kind command).doors
 abbrev pub IsOfProgram : Option Command → Type 0
 IsOfProgram command = IsTrue (command_kind command).program
 
+abbrev pub IsOfMaking : Option Command → Type 0
+IsOfMaking command = (catalog key : List ℕ) × (command ≡ Some (init catalog key))
+
 abbrev pub IsOfGrant : Option Command → Type 0
 IsOfGrant command = (catalog key owner : List ℕ) × (amount : ℕ) × (command ≡ Some (grant catalog key owner amount))
 

@@ -6,7 +6,7 @@ ghost use Rattle.owner_catalog.specs.Entries.{owner_entry_at};
 ghost use Rattle.catalog_loading.specs.Loaded.{entry_in, header_in, in_versions, new_header, owners_in};
 ghost use Rattle.generated_run.specs.SessionCore.Transcript.{Journals};
 ghost use Rattle.owner_books.specs.Shelves.{AreAtHome, EachDisk, IsOnlySynced, StandsStill};
-ghost use Rattle.owner_books.specs.Bays.{HasDiskCause, KeepsBay};
+ghost use Rattle.owner_books.specs.Bays.{HasDiskCause, HasLostCause, KeepsBay};
 ghost use Rattle.owner_books.specs.Opened.{AreOpened, IsOpened};
 ghost use Rattle.query_server.specs.Audit.{counted_line, counted_text};
 ghost use Rattle.query_server.specs.Work.{to_count};
@@ -69,6 +69,7 @@ fn count_owner<B: Bay>(
     ensures stop { IfErr result (IsBookStop opened.now.loading opened.now.key (B.shelf bay.old) (B.shelf bay.new) owner) }
     ensures bay { KeepsBay B.shelf B.owners B.faults bay.old bay.new }
     ensures cause { HasDiskCause B.shelf B.owners B.faults bay.old bay.new result }
+    ensures lost { HasLostCause B.shelf B.owners B.faults bay.old bay.new result }
 {
     let book = open_book(alloc, bay, opened, header, owner)?;
     let counted = put_counted(lines, opened.catalog(), owner, &book);
@@ -87,6 +88,7 @@ fn count_all<B: Bay>(alloc: Global, bay: &mut B, opened: &OpenedTables) -> Resul
     ensures stop { IfErr result (IsOpenStop opened.now.loading opened.now.key (B.shelf bay.old) (B.shelf bay.new)) }
     ensures bay { KeepsBay B.shelf B.owners B.faults bay.old bay.new }
     ensures disk { HasDiskCause B.shelf B.owners B.faults bay.old bay.new result }
+    ensures lost { HasLostCause B.shelf B.owners B.faults bay.old bay.new result }
 {
     let headers = headers_of(alloc, opened)?;
     let mut lines = Vec::new(alloc);
@@ -114,6 +116,7 @@ pub(crate) fn list_counted<B: Bay>(
         (B.shelf bay.old) (B.shelf bay.new) script result }
     ensures bay { KeepsBay B.shelf B.owners B.faults bay.old bay.new }
     ensures disk { HasDiskCause B.shelf B.owners B.faults bay.old bay.new result }
+    ensures lost { HasLostCause B.shelf B.owners B.faults bay.old bay.new result }
     ensures sound { IsErrOf result Stop.Fault → ⊥ }
 {
     match count_all(alloc, bay, opened) {

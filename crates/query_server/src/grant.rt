@@ -5,7 +5,7 @@ ghost use Rattle.fz_outside.specs.Faults.{HasRisen};
 ghost use Rattle.budget_core.specs.Granting.{IsAmount};
 ghost use Rattle.budget_ledger.specs.Account.{IsBook, Went};
 ghost use Rattle.owner_books.specs.Shelves.{AreAtHome};
-ghost use Rattle.owner_books.specs.Bays.{HasDiskCause, KeepsBay};
+ghost use Rattle.owner_books.specs.Bays.{HasDiskCause, HasLostCause, KeepsBay};
 ghost use Rattle.query_server.specs.Outside.{KeepsFiles};
 ghost use Rattle.query_server.specs.Due.{ForContents};
 ghost use Rattle.query_server.specs.Ends.{IsEndOf, IsStepEnd};
@@ -85,6 +85,7 @@ fn grant<B: Bay>(alloc: Global, bay: &mut B, opened: &OpenedOwner, amount: u64) 
     ensures end { (script : List ℕ) → IsEndOf (to_grant amount opened.now) (B.shelf bay.old) (B.shelf bay.new) script result }
     ensures bay { KeepsBay B.shelf B.owners B.faults bay.old bay.new }
     ensures disk { HasDiskCause B.shelf B.owners B.faults bay.old bay.new result }
+    ensures lost { HasLostCause B.shelf B.owners B.faults bay.old bay.new result }
     ensures sound { IsErrOf result Stop.Fault → ⊥ }
 {
     let header = opened.header()?;
@@ -117,6 +118,7 @@ pub(crate) fn grant_budget<F: Files, B: Bay>(
     ensures bay { KeepsBay B.shelf B.owners B.faults bay.old bay.new }
     ensures cause { IsErrOf result Stop.Fault → HasRisen (F.faults files.old) (F.faults files.new) }
     ensures disk { HasDiskCause B.shelf B.owners B.faults bay.old bay.new result }
+    ensures lost { HasLostCause B.shelf B.owners B.faults bay.old bay.new result }
 {
     let opened = open_owner(alloc, files, catalog, key, owner)?;
     grant(alloc, bay, &opened, amount)

@@ -3,7 +3,7 @@
 ghost use Rattle.std.specs.Prelude.{◌≡◌, ◌<◌, ℕ, List, Option, IsErrOf};
 ghost use Rattle.catalog_loading.specs.Loaded.{with_house};
 ghost use Rattle.owner_books.specs.Shelves.{AreAtHome};
-ghost use Rattle.owner_books.specs.Bays.{HasDiskCause, KeepsBay};
+ghost use Rattle.owner_books.specs.Bays.{HasDiskCause, HasLostCause, KeepsBay};
 ghost use Rattle.query_server.specs.Outside.{KeepsFiles};
 ghost use Rattle.fz_outside.specs.Faults.{HasRisen};
 ghost use Rattle.query_server.specs.Due.{ForContents};
@@ -45,6 +45,7 @@ pub(crate) fn list_owners<F: Files, B: Bay>(
     ensures bay { KeepsBay B.shelf B.owners B.faults bay.old bay.new }
     ensures cause { IsErrOf result Stop.Fault → HasRisen (F.faults files.old) (F.faults files.new) }
     ensures disk { HasDiskCause B.shelf B.owners B.faults bay.old bay.new result }
+    ensures lost { listing ≡ Listing.Counted → HasLostCause B.shelf B.owners B.faults bay.old bay.new result }
 {
     let opened = open_tables(alloc, files, catalog, key)?;
     match listing {

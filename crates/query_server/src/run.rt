@@ -4,7 +4,7 @@ ghost use Rattle.std.specs.Prelude.{◌≡◌, ◌⊎◌, ℕ, List, ◌<◌, �
 ghost use Rattle.word_streams.specs.Draws.{draws_of};
 ghost use Rattle.fz_outside.specs.Faults.{HasCause, HasRisen};
 ghost use Rattle.owner_house.specs.House.{house_of};
-ghost use Rattle.owner_books.specs.Bays.{HasDiskCause, KeepsBay};
+ghost use Rattle.owner_books.specs.Bays.{HasDiskCause, HasLostCause, KeepsBay};
 ghost use Rattle.query_server.specs.Outside.{KeepsFiles};
 ghost use Rattle.owner_lock.specs.Known.{whole_share};
 ghost use Rattle.command_words.specs.Program.{greatest_workers};
@@ -95,6 +95,7 @@ fn answer<R: Threads + Wait + Sync, B: Bay, S: Source, G: Gate + Sync>(
     ensures bay { KeepsBay B.shelf B.owners B.faults bay.old bay.new }
     ensures cause { HasCause (S.faults source.old) (S.faults source.new) (IsErrOf result Stop.Fault) }
     ensures disk { HasDiskCause B.shelf B.owners B.faults bay.old bay.new result }
+    ensures lost { HasLostCause B.shelf B.owners B.faults bay.old bay.new result }
 {
     let Opening { desks, passes } = open_desks(alloc, bay, opened)?;
     let house = opened.house();
@@ -140,6 +141,7 @@ pub(crate) fn run_script<R: Threads + Wait + Sync, F: Files, B: Bay, S: Source, 
     ensures source { S.faults source.old ≤ S.faults source.new }
     ensures cause { IsErrOf result Stop.Fault → HasRisen (F.faults files.old) (F.faults files.new) ⊎ HasRisen (S.faults source.old) (S.faults source.new) }
     ensures disk { HasDiskCause B.shelf B.owners B.faults bay.old bay.new result }
+    ensures lost { HasLostCause B.shelf B.owners B.faults bay.old bay.new result }
 {
     let mut opened = open_house(alloc, files, catalog, key)?;
     answer(rt, alloc, &mut opened, bay, source, gate, workers)

@@ -11,7 +11,7 @@ ghost use Rattle.query_server.specs.Work.{ended, to_serve};
 ghost use Rattle.query_server.specs.Serve.{serve_steps};
 ghost use Rattle.owner_books.specs.Shelves.{AreAtHome};
 ghost use Rattle.query_server.specs.Outside.{DoorsStay, KeepsFiles, SomeDoorRose, doors_in};
-ghost use Rattle.owner_books.specs.Bays.{HasDiskCause, KeepsBay};
+ghost use Rattle.owner_books.specs.Bays.{HasDiskCause, HasLostCause, KeepsBay};
 ghost use Rattle.query_server.specs.Due.{ForContents};
 ghost use Rattle.query_server.specs.Service.{IsServiceAt, IsServiceEnd, IsServiceOn};
 ghost use Rattle.query_server.specs.Ends.{IsEndOf, IsStepEnd};
@@ -132,6 +132,7 @@ where
     ensures cause { IsErrOf result Stop.Fault →
         SomeDoorRose (doors_in O.coming O.served O.faults doors.old.items) (doors_in O.coming O.served O.faults doors.new.items) }
     ensures disk { HasDiskCause B.shelf B.owners B.faults bay.old bay.new result }
+    ensures lost { HasLostCause B.shelf B.owners B.faults bay.old bay.new result }
 {
     let Opening { desks, passes } = open_desks(alloc, bay, opened)?;
     let house = opened.house();
@@ -192,6 +193,7 @@ where
     ensures cause { IsErrOf result Stop.Fault → HasRisen (F.faults files.old) (F.faults files.new)
         ⊎ SomeDoorRose (doors_in O.coming O.served O.faults doors.old.items) (doors_in O.coming O.served O.faults doors.new.items) }
     ensures disk { HasDiskCause B.shelf B.owners B.faults bay.old bay.new result }
+    ensures lost { HasLostCause B.shelf B.owners B.faults bay.old bay.new result }
 {
     let mut opened = open_house(alloc, files, catalog, key)?;
     serve_house(rt, alloc, &mut opened, bay, doors, gate, post)

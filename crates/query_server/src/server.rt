@@ -6,10 +6,10 @@ ghost use Rattle.command_words.specs.Command.{command_of};
 ghost use Rattle.command_words.specs.Program.{greatest_workers};
 ghost use Rattle.std.specs.Io.KnownBytes.{append_known};
 ghost use Rattle.catalog_loading.specs.Files.{Contents, always};
-ghost use Rattle.owner_books.specs.Shelves.{AreAtHome, SomeRose};
-ghost use Rattle.owner_books.specs.Bays.{DisksFailed, KeepsBay, bay_in};
+ghost use Rattle.owner_books.specs.Shelves.{AreAtHome, SomeLost, SomeRose};
+ghost use Rattle.owner_books.specs.Bays.{DisksFailed, DisksLost, KeepsBay, bay_in};
 ghost use Rattle.query_server.specs.Outside.{DoorsStay, KeepsFiles, SomeDoorRose, doors_in};
-ghost use Rattle.query_server.specs.Due.{AreRead, ForContents, IfFinished, IsDue, IsOfDisks, IsOfDoors, IsOfRun, IsWrittenAt, work_of, files_of};
+ghost use Rattle.query_server.specs.Due.{AreRead, ForContents, IfFinished, IsDue, IsOfDisks, IsOfDoors, IsOfMaking, IsOfRun, IsWrittenAt, work_of, files_of};
 ghost use Rattle.query_server.specs.Promise.{IsRunLeft};
 ghost use Rattle.query_server.specs.Service.{IsServiceAt, IsServiceLeft};
 ghost use Rattle.query_server.specs.Valid.{IsValidFor, MayEndWell};
@@ -79,6 +79,8 @@ where
     ensures source { S.faults source.old ≤ S.faults source.new }
     ensures disk { (line : Vec ℕ Heap) → result ≡ Err (Stop.Disk line) → IsOfDisks (command_of (map string_bytes words.now))
         × DisksFailed (bay_in B.shelf B.owners B.faults bay.old) (bay_in B.shelf B.owners B.faults bay.new) }
+    ensures lost { (line : Vec ℕ Heap) → result ≡ Err (Stop.Disk line) → IsOfMaking (command_of (map string_bytes words.now))
+        ⊎ DisksLost (bay_in B.shelf B.owners B.faults bay.old) (bay_in B.shelf B.owners B.faults bay.new) }
     ensures idle { command_of (map string_bytes words.now) ≡ None → (files.new ≡ files.old)
         × ((result ≡ Err Stop.Usage) ⊎ (result ≡ Err Stop.NoMemory)) }
     ensures cause { result ≡ Err Stop.Fault →
@@ -269,6 +271,9 @@ where
     // DiskFault comes only where the bay's or a disk's count rose, of a command that takes the disks.
     ensures disk { result ≡ Status.DiskFault → IsOfDisks (command_of (map string_bytes words.now))
         × (HasRisen (B.faults bay.old) (B.faults bay.new) ⊎ SomeRose (B.shelf bay.old) (B.shelf bay.new)) }
+    // But for an `init`, an owner's two disks are both lost then: both counts rose, or that of one whose other is empty.
+    ensures lost { result ≡ Status.DiskFault → IsOfMaking (command_of (map string_bytes words.now))
+        ⊎ (HasRisen (B.faults bay.old) (B.faults bay.new) ⊎ SomeLost (B.shelf bay.old) (B.shelf bay.new)) }
 {
     let end = run_command(rt, alloc, words, files, bay, source, doors, gate);
     finish(sink, &end)

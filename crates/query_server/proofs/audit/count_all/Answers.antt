@@ -5,7 +5,7 @@ use Rattle.catalog_loading.specs.Loaded.{entry_in, header_in, owners_in}
 use Rattle.owner_books.specs.Opened.{IsOpened}
 use Rattle.owner_books.specs.Books.{IsOpenStop}
 use Rattle.owner_books.proofs.Disks.{same_still}
-use Rattle.query_server.proofs.Counted.{all_counted, counted_on, none_counted, one_counted, one_left, one_still, opened_as, rose_since, still_elsewhere, stop_passed}
+use Rattle.query_server.proofs.Counted.{all_counted, counted_on, none_counted, one_counted, one_left, one_still, lost_since, opened_as, rose_since, still_elsewhere, stop_passed}
 use Rattle.query_server.proofs.Ran.{passed_disk}
 use Rattle.owner_books.proofs.Stops.{book_stopped}
 use Rattle.query_server.proofs.audit.count_all.Goals as goal
@@ -80,3 +80,11 @@ returns-clause-counted g c =
     let all : c.loop-owner.owner ≡ owners_in loading = omega (arith, c.loop-owner-test.false, c.len-owner-end.ensures, c.in_ok-headers.ensures.count) in
     all_counted loading c.args.opened.now.key (g.B.Bay.shelf c.args.bay.now) (g.B.Bay.shelf c.loop-owner.bay) c.loop-owner.owner c.loop-owner.lines.items all
     (omega (arith, c.in_ok-headers.ensures.few, c.in_ok-headers.ensures.count)) c.loop-owner.invariant.counted
+
+pub returns-in_err-count_owner-clause-lost : goal.returns-in_err-count_owner-clause-lost
+returns-in_err-count_owner-clause-lost g c line is =
+    let few : c.loop-owner.owner < 64 = omega (arith, c.loop-owner-test.true, c.len-owner-end.ensures, c.in_ok-headers.ensures.few) in
+    let same = passed_disk c.in_err-count_owner.field-0.0 c.from_residual-in_err-count_owner.result line c.from_residual-in_err-count_owner.ensures.1 is in
+    lost_since c.loop-owner.owner (g.B.Bay.shelf c.args.bay.now) (g.B.Bay.shelf c.loop-owner.bay) (g.B.Bay.shelf c.count_owner.new.bay)
+    (g.B.Bay.faults c.args.bay.now) (g.B.Bay.faults c.loop-owner.bay) (g.B.Bay.faults c.count_owner.new.bay) c.loop-owner.invariant.faults c.in_err-count_owner.ensures.bay.1
+    (λ p less. (c.requires.home p (omega (arith, less, few))).1) c.loop-owner.invariant.disks c.in_err-count_owner.ensures.left (c.in_err-count_owner.ensures.lost line (ap Err same))

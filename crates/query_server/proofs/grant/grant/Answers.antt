@@ -11,7 +11,7 @@ use Rattle.owner_books.specs.Shelves.{OneDisk, IsOnlySynced}
 use Rattle.query_server.specs.Work.{to_grant}
 use Rattle.owner_books.proofs.Back.{changed_to}
 use Rattle.query_server.proofs.Ends.{end_passed}
-use Rattle.query_server.proofs.Granting.{granted_end, granted_rose, one_risen, unopened_end}
+use Rattle.query_server.proofs.Granting.{granted_end, granted_lost, granted_rose, one_risen, unopened_end}
 use Rattle.query_server.proofs.grant.grant.Goals as goal
 
 pub returns-in_err-book-clause-end : goal.returns-in_err-book-clause-end
@@ -61,6 +61,31 @@ returns-clause-disk g c = λ line is_disk.
     let back = changed_to _ _ _ _ _ _ c.number-owner.ensures.number c.into_disks.ensures.stored c.put_back.ensures.home in
     let lawful = c.number-owner.ensures.lawful in
     inr (granted_rose one c.args.amount version old mid new book later is took back c.grant_over-end.ensures.went c.grant_over-end.ensures.kept c.grant_over-end.result line
+    (c.requires.home one.number (omega (arith, lawful.known, lawful.catalog.few_owners))).1 is_disk
+    (subst (λ (n : List ℕ). IsGrantEnd book n c.args.amount c.grant_over-end.result later) c.name-2.ensures c.grant_over-end.ensures.end))
+
+-- The owner's disk is one of those that the bay has.
+pub open_on-requires-clause-known : goal.open_on-requires-clause-known
+open_on-requires-clause-known g c κs _ =
+    let one = c.number-owner.ensures.lawful in
+    (c.requires.home c.number-owner.result (omega (arith, c.number-owner.ensures.number, one.known, one.catalog.few_owners))).0
+
+pub returns-clause-lost : goal.returns-clause-lost
+returns-clause-lost g c = λ line is_disk.
+    let one = c.args.opened.now in
+    let old = g.B.Bay.shelf c.args.bay.now in
+    let mid = g.B.Bay.shelf c.open_on.new.bay in
+    let new = g.B.Bay.shelf c.put_back.new.self in
+    let book = c.in_ok-book.book in
+    let later = c.grant_over-end.new.book in
+    let version = book.storage.header.version in
+    let is = subst (λ (o : ℕ). IsNewBook (entry_in one version) (header_in one version) (old o) book) c.number-owner.ensures.number
+    (subst (λ (e : Entry). IsNewBook (record e { version = version }) (header_in one version) (old c.number-owner.result) book) c.in_ok-entry.ensures
+    (subst (λ (h : Header). IsNewBook (record c.in_ok-entry.entry { version = version }) (record h { version = version }) (old c.number-owner.result) book) c.in_ok-header.ensures.header c.in_ok-book.ensures.book)) in
+    let took = subst (λ (o : ℕ). TookDisk o old mid) c.number-owner.ensures.number c.in_ok-book.ensures.taken in
+    let back = changed_to _ _ _ _ _ _ c.number-owner.ensures.number c.into_disks.ensures.stored c.put_back.ensures.home in
+    let lawful = c.number-owner.ensures.lawful in
+    inr (granted_lost one c.args.amount version old mid new book later is took back c.grant_over-end.ensures.went c.grant_over-end.ensures.kept c.grant_over-end.result line
     (c.requires.home one.number (omega (arith, lawful.known, lawful.catalog.few_owners))).1 is_disk
     (subst (λ (n : List ℕ). IsGrantEnd book n c.args.amount c.grant_over-end.result later) c.name-2.ensures c.grant_over-end.ensures.end))
 

@@ -21,3 +21,9 @@ returns-in_err-opened-clause-disk g c = λ line is.
     let stop = c.in_err-opened.field-0.0 in
     step_no_disk _ _ _ (grant_steps c.args.catalog.now c.args.key.now c.args.owner.now c.args.amount) stop line
     (owner_stopped _ _ _ (to_grant c.args.amount) c.args.catalog.now c.args.key.now c.args.owner.now _ c.in_err-opened.ensures.step) (passed_disk stop c.from_residual.result line c.from_residual.ensures.1 is)
+
+pub returns-in_err-opened-clause-lost : goal.returns-in_err-opened-clause-lost
+returns-in_err-opened-clause-lost g c = λ line is.
+    let stop = c.in_err-opened.field-0.0 in
+    step_no_disk _ _ _ (grant_steps c.args.catalog.now c.args.key.now c.args.owner.now c.args.amount) stop line
+    (owner_stopped _ _ _ (to_grant c.args.amount) c.args.catalog.now c.args.key.now c.args.owner.now _ c.in_err-opened.ensures.step) (passed_disk stop c.from_residual.result line c.from_residual.ensures.1 is)

@@ -1,8 +1,9 @@
-use Rattle.std.proofs.Common.{sym, subst}
+use Rattle.std.proofs.Common.{◌≡◌, ◌∙◌, sym, subst}
 use Rattle.catalog_loading.specs.Loaded.{with_house}
 use Rattle.catalog_loading.proofs.Houses.{house_done, house_stopped}
 use Rattle.query_server.specs.Ends.{IsEndOf, listed_work}
 use Rattle.query_server.specs.declared.listing.Listing.{Listing}
+use Rattle.query_server.specs.declared.listing.Listing.TheVariants.{Counted, Made}
 use Rattle.query_server.proofs.Ends.{failed_end, passed_end}
 use Rattle.query_server.proofs.Ran.{passed_disk}
 use Rattle.owner_books.proofs.Stops.{step_no_disk}
@@ -34,3 +35,15 @@ returns-in_err-opened-clause-disk g c = λ line is.
     let stop = c.in_err-opened.field-0.0 in
     step_no_disk _ _ _ (with_house (listed_work c.args.listing) c.args.catalog.now c.args.key.now) stop line
     (house_stopped _ _ _ (listed_work c.args.listing) c.args.catalog.now c.args.key.now _ c.in_err-opened.ensures.step) (passed_disk stop c.from_residual.result line c.from_residual.ensures.1 is)
+
+pub returns-in_err-opened-clause-lost : goal.returns-in_err-opened-clause-lost
+returns-in_err-opened-clause-lost g c = λ counted line is.
+    let stop = c.in_err-opened.field-0.0 in
+    step_no_disk _ _ _ (with_house (listed_work c.args.listing) c.args.catalog.now c.args.key.now) stop line
+    (house_stopped _ _ _ (listed_work c.args.listing) c.args.catalog.now c.args.key.now _ c.in_err-opened.ensures.step) (passed_disk stop c.from_residual.result line c.from_residual.ensures.1 is)
+
+pub returns-in-Made-clause-lost : goal.returns-in-Made-clause-lost
+returns-in-Made-clause-lost g c = λ counted. let wrong : Made ≡ Counted = sym c.in-Made.is ∙ counted in cc wrong
+
+pub returns-clause-lost : goal.returns-clause-lost
+returns-clause-lost g c = λ counted. c.list_counted.ensures.lost

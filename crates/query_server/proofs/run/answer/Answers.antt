@@ -109,3 +109,11 @@ returns-clause-bay g c = (
 
 pub returns-clause-cause : goal.returns-clause-cause
 returns-clause-cause g c = c.answer_over-end.ensures.cause
+
+pub returns-clause-lost : goal.returns-clause-lost
+returns-clause-lost g c = λ line is.
+    let loading = c.open_desks.new.opened.loading in
+    let key = c.open_desks.new.opened.key in
+    let workers = c.args.workers in
+    let due = c.answer_over-end.ensures.end in
+    answered_no_disk loading key c.house-house.ensures.lawful.lawful (draws_of key) workers _ _ due.0 c.answer_over-end.result line (answered_in c.house-house.result.now loading.register c.key.result key workers due.0 _ _ c.answer_over-end.result c.house-house.ensures.house c.key.ensures due.2) is

@@ -22,3 +22,7 @@ returns-clause-end g c =
 pub returns-in_err-opened-clause-disk : goal.returns-in_err-opened-clause-disk
 returns-in_err-opened-clause-disk g c = λ line is.
     step_no_disk _ _ _ (run_steps c.args.catalog.now c.args.key.now 1) c.in_err-opened.field-0.0 line (house_stopped _ _ _ (to_answer 1) c.args.catalog.now c.args.key.now _ c.in_err-opened.ensures.step) (passed_disk c.in_err-opened.field-0.0 c.from_residual.result line c.from_residual.ensures.1 is)
+
+pub returns-in_err-opened-clause-lost : goal.returns-in_err-opened-clause-lost
+returns-in_err-opened-clause-lost g c = λ line is.
+    step_no_disk _ _ _ (run_steps c.args.catalog.now c.args.key.now 1) c.in_err-opened.field-0.0 line (house_stopped _ _ _ (to_answer 1) c.args.catalog.now c.args.key.now _ c.in_err-opened.ensures.step) (passed_disk c.in_err-opened.field-0.0 c.from_residual.result line c.from_residual.ensures.1 is)

@@ -51,3 +51,10 @@ returns-clause-doors g c =
     let post = c.args.post.now in
     let house = c.in_ok-opened.opened in
     on_stays house.loading house.key post.workers post.posting.each _ _ _ _ c.serve_house.result c.serve_house.ensures.service
+
+pub returns-in_err-opened-clause-lost : goal.returns-in_err-opened-clause-lost
+returns-in_err-opened-clause-lost g c = λ line is.
+    let post = c.args.post.now in
+    let stop = c.in_err-opened.field-0.0 in
+    step_no_disk _ _ _ (serve_steps c.args.catalog.now c.args.key.now post.workers post.posting.each) stop line
+    (house_stopped _ _ _ (to_serve post.workers post.posting.each) c.args.catalog.now c.args.key.now _ c.in_err-opened.ensures.step) (passed_disk stop c.from_residual.result line c.from_residual.ensures.1 is)

@@ -147,3 +147,10 @@ returns-clause-cause g c = λ is.
 
 pub returns-clause-disk : goal.returns-clause-disk
 returns-clause-disk g c = λ line is. served_no_disk _ _ _ _ _ _ _ _ c.serve_over-end.result line c.serve_over-end.ensures.end is
+
+pub returns-clause-lost : goal.returns-clause-lost
+returns-clause-lost g c = λ line is. served_no_disk _ _ _ _ _ _ _ _ c.serve_over-end.result line c.serve_over-end.ensures.end is
+
+pub returns-in_err-desks-clause-lost : goal.returns-in_err-desks-clause-lost
+returns-in_err-desks-clause-lost g c = λ line is.
+    c.in_err-desks.ensures.lost line (ap Err (passed_disk c.in_err-desks.field-0.0 c.from_residual.result line c.from_residual.ensures.1 is))

@@ -4,7 +4,7 @@ use Rattle.command_words.specs.Meant.{command_meant}
 use Rattle.command_words.proofs.Accepted.{in_range}
 use Rattle.query_server.proofs.Diskless.{command_no_disk}
 use Rattle.std.specs.Prelude.{None, Err}
-use mathlib.Core.Logic.{inr}
+use mathlib.Core.Logic.{inl, inr}
 use Rattle.catalog_loading.specs.declared.stops.Stop.TheVariants.{NoMemory}
 use Rattle.query_server.specs.Work.{to_generate}
 use Rattle.query_server.proofs.Outcomes.{command_end, faulty_end, fileless_end, unread_end, unread_taken}
@@ -176,3 +176,38 @@ returns-in-Ok-Serve-clause-cause g c = λ is.
     let r = c.in-Ok-Serve in
     serve_cause (listens _ (Some (serve r.catalog.now r.key.now r.address.now r.port r.workers r.each)) (r.ensures.read ∙ ap (λ command. Some (command_meant command)) r.field-0-is) refl)
     (c.serve_doors.ensures.cause is)
+
+pub returns-in-Ok-Check-clause-lost : goal.returns-in-Ok-Check-clause-lost
+returns-in-Ok-Check-clause-lost g c = λ line is.
+    let r = c.in-Ok-Check in
+    let due = c.check_file.ensures.end (g.S.Source.left c.args.source.now) (g.B.Bay.shelf c.args.bay.now) in
+    absurd (command_no_disk (Some (check r.catalog.now r.owner.now r.file.now)) _ _ _ _ _ _ c.check_file.result line (λ takes. cc takes) is due)
+
+pub returns-in-Ok-Gap-clause-lost : goal.returns-in-Ok-Gap-clause-lost
+returns-in-Ok-Gap-clause-lost g c = λ line is.
+    let r = c.in-Ok-Gap in
+    let due = c.compare_files.ensures.end (g.S.Source.left c.args.source.now) (g.B.Bay.shelf c.args.bay.now) in
+    absurd (command_no_disk (Some (gap r.catalog.now r.owner.now r.second_catalog.now r.file.now)) _ _ _ _ _ _ c.compare_files.result line (λ takes. cc takes) is due)
+
+pub returns-in-Ok-Gen-clause-lost : goal.returns-in-Ok-Gen-clause-lost
+returns-in-Ok-Gen-clause-lost g c = λ line is.
+    let r = c.in-Ok-Gen in
+    let shelf = g.B.Bay.shelf c.args.bay.now in
+    absurd (command_no_disk (Some (gen r.seed r.asks r.workers)) None None [] [] shelf shelf c.generate.result line (λ takes. cc takes) is
+    (fileless_end None None [] shelf (to_generate r.seed r.asks) c.generate.result (λ script. c.generate.ensures.end shelf script)))
+
+pub returns-in-Ok-Init-clause-lost : goal.returns-in-Ok-Init-clause-lost
+returns-in-Ok-Init-clause-lost g c = λ line is.
+    let r = c.in-Ok-Init in inl (r.catalog.now, r.key.now, r.ensures.read ∙ ap (λ command. Some (command_meant command)) r.field-0-is)
+
+pub returns-in-Ok-Audit-clause-lost : goal.returns-in-Ok-Audit-clause-lost
+returns-in-Ok-Audit-clause-lost g c = λ line is. inr (c.list_owners-in-Ok-Audit.ensures.lost refl line is)
+
+pub returns-in-Ok-Grant-clause-lost : goal.returns-in-Ok-Grant-clause-lost
+returns-in-Ok-Grant-clause-lost g c = λ line is. inr (c.grant_budget.ensures.lost line is)
+
+pub returns-in-Ok-Run-clause-lost : goal.returns-in-Ok-Run-clause-lost
+returns-in-Ok-Run-clause-lost g c = λ line is. inr (c.run_script.ensures.lost line is)
+
+pub returns-in-Ok-Serve-clause-lost : goal.returns-in-Ok-Serve-clause-lost
+returns-in-Ok-Serve-clause-lost g c = λ line is. inr (c.serve_doors.ensures.lost line is)

@@ -89,3 +89,9 @@ returns-clause-disk g c = λ is.
     let done = c.finish.ensures.written in
     let end = disk_status c.run_command-end.result c.finish.result done.0 done.2 is in
     c.run_command-end.ensures.disk end.0 end.1
+
+pub returns-clause-lost : goal.returns-clause-lost
+returns-clause-lost g c = λ is.
+    let done = c.finish.ensures.written in
+    let end = disk_status c.run_command-end.result c.finish.result done.0 done.2 is in
+    c.run_command-end.ensures.lost end.0 end.1
