@@ -1,7 +1,7 @@
 -- What an append makes of a book.
 use Rattle.std.proofs.Common.{◌≡◌, ◌⊎◌, ℕ, ◌<◌, ◌≤◌, List, [], ◌∷◌, ◌++◌, length, length-append, refl, sym, ◌∙◌, ap, subst, arith, inl, inr, ⊎_elim, Option, Some, None, Result, Err, IsOk}
 use Rattle.std.specs.Prelude.{IfSome, ⊤}
-use Rattle.core.specs.Option.{option_or}
+use Rattle.std.specs.Option.{option_or}
 use Rattle.fz_outside.specs.Faults.{HasRisen}
 use Rattle.outside_disks.specs.Disks.{Trace, WhereTold}
 use Rattle.outside_disks.specs.Stored.{stored_of}

@@ -1,6 +1,6 @@
 -- What a book's fields say of it.
 use Rattle.std.specs.Prelude.{◌≡◌, ◌⊎◌, ℕ, ◌+◌, ◌<◌, ◌≤◌, false, List, length, take, Option, None, Some, IfSome, IsSome, Result, Ok, Err, IsOk, ⊤}
-use Rattle.core.specs.Option.{option_or}
+use Rattle.std.specs.Option.{option_or}
 use Rattle.fz_outside.specs.Faults.{HasRisen}
 use Rattle.outside_disks.specs.Disks.{Trace, Shown, WhereTold}
 use Rattle.outside_disks.specs.declared.disks.Disks.{Disks}
