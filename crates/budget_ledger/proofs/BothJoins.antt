@@ -1,30 +1,28 @@
 -- What two disks that were read make, and the book of it.
-use Rattle.std.proofs.Common.{◌≡◌, ◌⊎◌, ℕ, suc, ◌+◌, ◌<◌, ◌≤◌, Bool, true, false, List, [], ◌∷◌, ◌++◌, length, length-append, take, drop, get_or, All, refl, sym, ◌∙◌, ap, subst, arith, inl, inr, Option, Some, None, Result, Ok, Err, min}
+use Rattle.std.proofs.Common.{◌≡◌, ◌⊎◌, ℕ, ◌+◌, ◌<◌, ◌≤◌, Bool, true, false, List, [], ◌∷◌, ◌++◌, length, length-append, take, drop, get_or, All, refl, sym, ◌∙◌, ap, subst, arith, inl, inr, Option, Some, None, Result, Ok, Err, min}
 use Rattle.std.specs.Prelude.{IfSome, IfOk, IfErr, IsErrAnd, ⊤}
 use Rattle.std.proofs.lemmas.List.{take_all, take-append-drop, take-append-le, nil_from_length, append-nil}
 use Rattle.std.proofs.lemmas.Bool.{cases_lt}
 use Rattle.std.proofs.lemmas.Option.{slice_get-get_or}
 use mathlib.Core.List.{IsPrefix}
-use Rattle.fz_outside.specs.Faults.{HasRisen}
 use Rattle.outside_disks.specs.Disks.{Trace, Shown, WhereTold, seen_of}
 use Rattle.journal_records.specs.Encoding.{IsValid}
 use Rattle.journal_records.specs.declared.records.Record.{Record}
 use Rattle.journal_records.specs.declared.records.Header.{Header}
 use Rattle.budget_journal.specs.declared.journal.Journal.{Journal}
-use Rattle.budget_journal.specs.declared.opening.OpenFault.{OpenFault}
-use Rattle.budget_journal.specs.declared.opening.OpenFault.TheVariants.{NotInitialised, Changed, Damaged, DiskFault, NoMemory}
-use Rattle.budget_journal.specs.Journals.{Stands, Found, IsAtRest, MayHaveSynced, disk_of, capacity_of, version_of}
+use Rattle.budget_journal.specs.declared.opening.OpenFault.TheVariants.{DiskFault}
+use Rattle.budget_journal.specs.Journals.{Stands, Found, IsAtRest, disk_of, version_of}
 use Rattle.budget_core.specs.Entries.{Entry}
 use Rattle.budget_core.specs.Ledger.{Ledger}
 use Rattle.budget_core.specs.Sound.{IsSound}
-use Rattle.budget_ledger.specs.Account.{Failure, Held, Copy, Account, IsKeptNow, IsBook, IsInUse, IsCopy, HeldWent, CopyWent}
-use Rattle.budget_ledger.specs.Both.{Reading, IsReading, RefusesBoth, HoldsBytes, AgreeOnCost, IsFork, Make, MakeNone, AreUnfit, IsBothFault, IsLeft, AreLeft, HaveFailed}
-use Rattle.budget_ledger.specs.Both.{twins_of, copy_read, IsOpenedCopy, IsOpenedBoth}
-use Rattle.budget_ledger.specs.Both.Reading.{Missing, Holding, Unfit}
-use Rattle.budget_ledger.specs.Joined.{reading_in, disk_under, half_of, side_of, HasRoom, IsHalfOf, IsWholeHalf, IsRead, IsSight, IsFresh, IsFreshHalf, AreFresh, SideLevelled, HalfLevelled, IsJudged}
+use Rattle.budget_ledger.specs.Account.{Account, IsInUse, IsCopy, HeldWent}
+use Rattle.budget_ledger.specs.Both.{IsReading, RefusesBoth, AgreeOnCost, IsFork, Make, MakeNone, AreUnfit, IsBothFault, IsLeft, AreLeft, HaveFailed}
+use Rattle.budget_ledger.specs.Both.{twins_of, IsOpenedCopy, IsOpenedBoth}
+use Rattle.budget_ledger.specs.Both.Reading.{Missing, Holding}
+use Rattle.budget_ledger.specs.Joined.{reading_in, disk_under, half_of, side_of, IsHalfOf, IsWholeHalf, IsRead, IsSight, IsFresh, IsFreshHalf, AreFresh, SideLevelled, HalfLevelled, IsJudged}
 use Rattle.budget_ledger.specs.Kept.{HoldsSide, HoldsHalf, HoldsBook, shown_on, held_on, copy_on, disk_in, storage_in, account_in}
 use Rattle.budget_ledger.specs.declared.both.BothFault.{BothFault}
-use Rattle.budget_ledger.specs.declared.both.BothFault.TheVariants.{Refused, Forked, VersionsDiffer}
+use Rattle.budget_ledger.specs.declared.both.BothFault.TheVariants.{Refused}
 use Rattle.budget_ledger.specs.declared.both.Sight.{Sight}
 use Rattle.budget_ledger.specs.declared.both.Sight.TheVariants as sight
 use Rattle.budget_ledger.specs.declared.both.Joined.{Joined}

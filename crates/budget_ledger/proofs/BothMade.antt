@@ -1,5 +1,5 @@
 -- Why journals aren't made on two disks, and what is made.
-use Rattle.std.proofs.Common.{◌≡◌, ◌≢◌, ◌⊎◌, ℕ, ◌≤◌, List, [], length, refl, sym, ◌∙◌, ap, subst, arith, inl, inr, Option, Some, None, Result, Ok, Err}
+use Rattle.std.proofs.Common.{◌≡◌, ◌≢◌, ℕ, ◌≤◌, [], length, refl, sym, ◌∙◌, subst, arith, inl, inr, Option, Some, None, Result, Ok, Err}
 use Rattle.std.specs.Prelude.{IfSome, IfErr, IsErrAnd}
 use Rattle.std.proofs.lemmas.List.{nil_from_length}
 use Rattle.fz_outside.specs.Faults.{HasRisen}
@@ -11,7 +11,7 @@ use Rattle.budget_journal.specs.declared.making.InitFault.TheVariants.{DiskFault
 use Rattle.budget_journal.specs.Journals.{IsAtRest, TellsSome}
 use Rattle.budget_journal.specs.Making.{MakesJournal, BeginsSome, AddsSteps}
 use Rattle.budget_journal.proofs.Made.{told-nothing}
-use Rattle.budget_ledger.specs.Both.{HoldsBytes, HasMade, HasBroken, IsUntouched, IsBothInitFault}
+use Rattle.budget_ledger.specs.Both.{HasMade, HasBroken, IsUntouched, IsBothInitFault}
 
 -- A disk whose length was asked for.
 pub record IsAsked (before after : Shown) : Type 0 where

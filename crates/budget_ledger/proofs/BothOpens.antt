@@ -1,23 +1,19 @@
 -- What an opening on two disks finds.
-use Rattle.std.proofs.Common.{◌≡◌, ◌≢◌, ◌⊎◌, ℕ, ◌<◌, ◌≤◌, Bool, true, false, List, [], ◌++◌, length, length-append, take, slice_get, refl, sym, ◌∙◌, ap, subst, arith, inl, inr, Option, Some, None}
-use Rattle.std.specs.Prelude.{IfSome}
+use Rattle.std.proofs.Common.{◌≡◌, ◌⊎◌, ℕ, ◌<◌, true, false, List, [], length, slice_get, refl, sym, ◌∙◌, ap, subst, arith, inl, inr, Option, Some, None}
 use mathlib.Core.List.{IsPrefix}
-use Rattle.fz_outside.specs.Faults.{HasRisen, last_count}
-use Rattle.outside_disks.specs.Disks.{Trace, Shown, WhereTold, after, seen_of}
-use Rattle.outside_disks.specs.Stored.{Twins}
+use Rattle.outside_disks.specs.Disks.{Trace, Shown, seen_of}
 use Rattle.journal_records.specs.declared.records.Record.{Record}
 use Rattle.journal_records.specs.declared.records.Header.{Header}
 use Rattle.budget_journal.specs.declared.opening.OpenFault.{OpenFault}
 use Rattle.budget_journal.specs.declared.opening.OpenFault.TheVariants.{NotInitialised, Changed, Damaged, DiskFault, NoMemory}
-use Rattle.budget_journal.specs.Areas.{version_in}
-use Rattle.budget_journal.specs.Journals.{Stands, Found, IsOpenFault, TellsSome}
+use Rattle.budget_journal.specs.Journals.{Stands, IsOpenFault}
 use Rattle.budget_journal.proofs.Gates.{head-version}
 use Rattle.budget_journal.proofs.One.{stands-one, refused-for-others}
 use Rattle.budget_core.specs.Entries.{Entry}
 use Rattle.budget_core.specs.Legal.{IsHistory}
 use Rattle.budget_core.proofs.Histories.{slice_get-append-lt}
-use Rattle.budget_ledger.specs.Account.{Copy, Copies, Account}
-use Rattle.budget_ledger.specs.Both.{Reading, IsReading, RefusesBoth, AgreeOnCost, IsFork, Make, MakeNone, AreUnfit, IsBothFault, IsOpenedCopy, IsOpenedBoth}
+use Rattle.budget_ledger.specs.Account.{Copy, Copies}
+use Rattle.budget_ledger.specs.Both.{Reading, IsReading, RefusesBoth, AgreeOnCost, IsFork, Make, MakeNone, AreUnfit, IsOpenedCopy}
 use Rattle.budget_ledger.specs.Both.{Tells, StoodStill, BothOpenWhatStands, BothFindTheLonger}
 use Rattle.budget_ledger.specs.Both.Reading.{Missing, Holding, Unfit}
 use Rattle.budget_ledger.specs.declared.both.BothFault.{BothFault}

@@ -1,19 +1,17 @@
 -- What two disks make and why they make nothing, on both sides of each choice.
-use Rattle.std.proofs.Common.{◌≡◌, ◌≢◌, ◌⊎◌, ℕ, ◌<◌, ◌++◌, Bool, true, false, List, [], ◌∷◌, length, refl, sym, ap, arith, inl, inr, Option, Some, None}
-use mathlib.Core.List.{IsPrefix}
+use Rattle.std.proofs.Common.{◌≡◌, ℕ, ◌<◌, ◌++◌, true, false, List, [], ◌∷◌, length, refl, ap, arith, inl, inr, Option, Some, None}
 use Rattle.fz_outside.specs.Faults.{last_count}
 use Rattle.outside_disks.specs.Disks.{Trace, Shown}
-use Rattle.outside_disks.specs.Stored.{Twins}
 use Rattle.journal_records.specs.declared.records.Outcome.TheVariants.{Lost}
 use Rattle.journal_records.specs.declared.records.Header.{Header}
 use Rattle.journal_records.specs.declared.records.Record.{Record}
+use Rattle.journal_records.specs.declared.records.Record.TheVariants.{Reserve, Settle, Grant}
 use Rattle.journal_records.specs.Records.{settling}
 use Rattle.budget_journal.specs.declared.opening.OpenFault.TheVariants.{NotInitialised, Damaged, DiskFault, NoMemory}
 use Rattle.budget_journal.specs.declared.making.InitFault.TheVariants.{AlreadyThere}
 use Rattle.budget_core.specs.Entries.{Entry}
-use Rattle.budget_core.specs.Legal.{IsFirstAstray}
 use Rattle.budget_core.proofs.Histories.{history-nil}
-use Rattle.budget_ledger.specs.Both.{RefusesBoth, IsReading, AgreeOnCost, IsFork, Make, MakeNone, AreUnfit, HaveFailed, StoodStill, IsBothInitFault}
+use Rattle.budget_ledger.specs.Both.{RefusesBoth, AgreeOnCost, IsFork, Make, MakeNone, AreUnfit, HaveFailed, StoodStill, IsBothInitFault}
 use Rattle.budget_ledger.specs.Both.Reading.{Missing, Holding, Unfit}
 use Rattle.budget_ledger.specs.declared.both.BothFault.TheVariants.{Refused, Forked, VersionsDiffer}
 
@@ -23,8 +21,22 @@ one = settling 0 Lost
 abbrev other : Record
 other = settling 1 Lost
 
+number_in : Record → ℕ
+number_in (Reserve reservation) = reservation.number
+number_in (Settle settlement) = settlement.number
+number_in (Grant grant) = grant.number
+
+number_at : Option Record → ℕ
+number_at None = 2
+number_at (Some record_in) = number_in record_in
+
+first_number : List Record → ℕ
+first_number [] = 2
+first_number (first ∷ others) = number_in first
+
 one_isnt_other : Some one ≡ Some other → ⊥
-one_isnt_other is = cc
+unfolding number_at number_in
+one_isnt_other is = let same : 0 ≡ 1 = ap number_at is in absurd (omega (arith, same))
 
 -- ---- what refuses both
 
@@ -66,7 +78,8 @@ not_before : IsFork (one ∷ one ∷ []) (one ∷ other ∷ []) 0 → ⊥
 not_before fork = fork.differ refl
 
 not_the_second_one : IsFork (one ∷ one ∷ []) (other ∷ other ∷ []) 1 → ⊥
-not_the_second_one fork = let is = fork.same in cc
+unfolding first_number number_in
+not_the_second_one fork = let same : 0 ≡ 1 = ap first_number fork.same in absurd (omega (arith, same))
 
 -- a list that is longer differs from the other nowhere
 not_behind_one : IsFork (one ∷ []) (one ∷ other ∷ []) 1 → ⊥
@@ -98,8 +111,9 @@ not_the_second_of_two (agree, inr (begins, less, is, are)) = omega (arith, less)
 
 -- none of two that differ
 none_of_a_fork : (version : ℕ) → Make (Holding 2 (one ∷ [])) (Holding 2 (other ∷ one ∷ [])) version (other ∷ one ∷ []) → ⊥
+unfolding first_number number_in
 none_of_a_fork version (agree, inl (begins, is, are)) = cc are
-none_of_a_fork version (agree, inr (begins, less, is, are)) = let same = begins.1 in cc
+none_of_a_fork version (agree, inr (begins, less, is, are)) = let same : 0 ≡ 1 = ap first_number begins.1 in absurd (omega (arith, same))
 
 -- a gone disk isn't an empty list
 gone_is_no_list : (version : ℕ) → Make (Missing true) (Missing true) version [] → ⊥

@@ -7,7 +7,7 @@ use Rattle.outside_disks.specs.Stored.{Twins}
 use Rattle.journal_records.specs.declared.records.Record.{Record}
 use Rattle.journal_records.specs.declared.records.Header.{Header}
 use Rattle.budget_journal.specs.declared.opening.OpenFault.{OpenFault}
-use Rattle.budget_journal.specs.declared.opening.OpenFault.TheVariants.{NotInitialised, Changed, Damaged, DiskFault, NoMemory}
+use Rattle.budget_journal.specs.declared.opening.OpenFault.TheVariants.{NotInitialised, Damaged, DiskFault, NoMemory}
 use Rattle.budget_journal.specs.declared.making.InitFault.{InitFault}
 use Rattle.budget_journal.specs.declared.making.InitFault.TheVariants.{DiskFault as MakingFailed, AlreadyThere}
 use Rattle.budget_journal.specs.Journals.{Stands, Found, IsAtRest, IsOpenFault, MayHaveSynced, TellsSome}

@@ -1,6 +1,5 @@
 -- What the parts of an opening of two disks give one another.
-use Rattle.std.specs.Prelude.{◌≡◌, ◌≢◌, ◌⊎◌, ℕ, ◌≤◌, true, false, List, [], length, take, Option, Some, None, IfSome, ⊤, All}
-use Rattle.fz_outside.specs.Faults.{HasRisen}
+use Rattle.std.specs.Prelude.{◌≡◌, ◌⊎◌, ℕ, ◌≤◌, false, List, length, take, Option, None, IfSome, ⊤, All}
 use Rattle.outside_disks.specs.Disks.{Trace, WhereTold}
 use Rattle.journal_records.specs.Encoding.{IsValid}
 use Rattle.journal_records.specs.declared.records.Record.{Record}

@@ -333,9 +333,7 @@ fn grants(rt: HostRuntime) {
     let asked = ask(&mut book);
     let large = book.grant(1_000_000_000_000_000_000);
     let granted = book.grant(5);
-    let again = opened(alloc, disk_of(book), 100)
-        .ok()
-        .expect(&rt, "a book");
+    let again = opened(alloc, disk_of(book), 100).ok().expect(&rt, "a book");
     assert!(rt; asked == Ok(GRANT) && granted == Ok(RAISED));
     assert!(rt; large == Err(GrantFault::Refused(TOO_LARGE)));
     assert!(rt; again.left() == RAISED && again.recall(0, 0) == (Recall::Lost { seen: 2 }));

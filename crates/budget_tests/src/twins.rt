@@ -3,7 +3,9 @@
 ghost use Rattle.std.specs.Prelude.{◌≡◌, ◌≤◌};
 ghost use Rattle.journal_records.specs.Encoding.{IsHeader};
 
-use crate::books::{LIMITS, answer_freely, ask_and_settle, ask_freely, header_in, second_settlement};
+use crate::books::{
+    LIMITS, answer_freely, ask_and_settle, ask_freely, header_in, second_settlement,
+};
 use budget_core::entry::Entry;
 use budget_journal::journal::Journal;
 use budget_journal::making::InitFault;
@@ -104,8 +106,10 @@ fn one_disk_fails(rt: HostRuntime) {
     for call in &CALLS {
         let answered = Some((Ok(Ok(2)), 2));
         let alloc = rt.alloc();
-        let first = over_blips(alloc, *call, NEVER) == answered && over_fuses(alloc, *call, NEVER) == answered;
-        let second = over_blips(alloc, NEVER, *call) == answered && over_fuses(alloc, NEVER, *call) == answered;
+        let first = over_blips(alloc, *call, NEVER) == answered
+            && over_fuses(alloc, *call, NEVER) == answered;
+        let second = over_blips(alloc, NEVER, *call) == answered
+            && over_fuses(alloc, NEVER, *call) == answered;
         assert!(rt; first && second);
     }
 }
@@ -221,14 +225,46 @@ fn disk_with(alloc: Global, lies: Lies) -> Option<MemDisk<'static>> {
 
 // What lies on the first disk and on the second, and why they make no book.
 const REFUSALS: [(Lies, Lies, BothFault); 12] = [
-    (Lies::Nothing, Lies::Nothing, BothFault::Refused(OpenFault::NotInitialised { length: 0 })),
-    (Lies::Bytes, Lies::Settled, BothFault::Refused(OpenFault::NotInitialised { length: 5 })),
-    (Lies::Settled, Lies::Bytes, BothFault::Refused(OpenFault::NotInitialised { length: 5 })),
-    (Lies::Damaged, Lies::Bytes, BothFault::Refused(OpenFault::Damaged { slot: 0 })),
-    (Lies::Bytes, Lies::Damaged, BothFault::Refused(OpenFault::NotInitialised { length: 5 })),
-    (Lies::Nothing, Lies::Damaged, BothFault::Refused(OpenFault::Damaged { slot: 0 })),
-    (Lies::Settled, Lies::Astray, BothFault::Refused(OpenFault::Damaged { slot: 2 })),
-    (Lies::Astray, Lies::Nothing, BothFault::Refused(OpenFault::Damaged { slot: 2 })),
+    (
+        Lies::Nothing,
+        Lies::Nothing,
+        BothFault::Refused(OpenFault::NotInitialised { length: 0 }),
+    ),
+    (
+        Lies::Bytes,
+        Lies::Settled,
+        BothFault::Refused(OpenFault::NotInitialised { length: 5 }),
+    ),
+    (
+        Lies::Settled,
+        Lies::Bytes,
+        BothFault::Refused(OpenFault::NotInitialised { length: 5 }),
+    ),
+    (
+        Lies::Damaged,
+        Lies::Bytes,
+        BothFault::Refused(OpenFault::Damaged { slot: 0 }),
+    ),
+    (
+        Lies::Bytes,
+        Lies::Damaged,
+        BothFault::Refused(OpenFault::NotInitialised { length: 5 }),
+    ),
+    (
+        Lies::Nothing,
+        Lies::Damaged,
+        BothFault::Refused(OpenFault::Damaged { slot: 0 }),
+    ),
+    (
+        Lies::Settled,
+        Lies::Astray,
+        BothFault::Refused(OpenFault::Damaged { slot: 2 }),
+    ),
+    (
+        Lies::Astray,
+        Lies::Nothing,
+        BothFault::Refused(OpenFault::Damaged { slot: 2 }),
+    ),
     (Lies::New(2), Lies::New(3), BothFault::VersionsDiffer),
     (Lies::Settled, Lies::New(2), BothFault::VersionsDiffer),
     (Lies::Settled, Lies::Free, BothFault::Forked { slot: 0 }),
@@ -238,7 +274,10 @@ const REFUSALS: [(Lies, Lies, BothFault); 12] = [
 /// Why two disks make no book, where nothing was written to either.
 fn refusal(alloc: Global, first: Lies, second: Lies) -> Option<BothFault> {
     let (first, second) = (disk_with(alloc, first)?, disk_with(alloc, second)?);
-    let before = (first.bytes().to_vec(alloc).ok()?, second.bytes().to_vec(alloc).ok()?);
+    let before = (
+        first.bytes().to_vec(alloc).ok()?,
+        second.bytes().to_vec(alloc).ok()?,
+    );
     let (first, second, fault) = opened(alloc, first, second).err()?;
     if first.bytes() == before.0.as_slice() && second.bytes() == before.1.as_slice() {
         Some(fault)
@@ -276,7 +315,11 @@ fn a_lag(rt: HostRuntime) {
 fn over_lag(alloc: Global, call: u64) -> Option<(Answer, usize)> {
     let ahead = disk_with(alloc, Lies::Settled)?;
     let behind = disk_with(alloc, Lies::New(3))?;
-    answered(alloc, BlipDisk::new(ahead, NEVER), BlipDisk::new(behind, call))
+    answered(
+        alloc,
+        BlipDisk::new(ahead, NEVER),
+        BlipDisk::new(behind, call),
+    )
 }
 
 // A fault there drops that disk alone.
@@ -307,8 +350,10 @@ fn making(alloc: Global, first: Lies, second: Lies) -> Option<(Result<(), InitFa
 #[test]
 fn making_two(rt: HostRuntime) {
     let alloc = rt.alloc();
-    let first = making(alloc, Lies::Bytes, Lies::New(3)) == Some((Err(InitFault::AlreadyThere { length: 5 }), 5));
-    let second = making(alloc, Lies::Nothing, Lies::New(3)) == Some((Err(InitFault::AlreadyThere { length: 4224 }), 0));
+    let first = making(alloc, Lies::Bytes, Lies::New(3))
+        == Some((Err(InitFault::AlreadyThere { length: 5 }), 5));
+    let second = making(alloc, Lies::Nothing, Lies::New(3))
+        == Some((Err(InitFault::AlreadyThere { length: 4224 }), 0));
     let both = making(alloc, Lies::Nothing, Lies::Nothing) == Some((Ok(()), 4224));
     assert!(rt; first && second && both);
 }
