@@ -225,11 +225,15 @@ not_the_second (tell, inl is) = let wrong : 1 ≡ 2 = is in omega (arith, wrong)
 not_the_second (tell, inr (empty, is)) = cc empty
 
 there_unmade : IsUnmade (AlreadyThere 1) (two (disk (7 ∷ []) 0) (disk [] 0)) (two (disk (7 ∷ []) 0) (disk [] 0))
-there_unmade = (omega arith, (tt, inl refl), record {
-  synced = inl refl;
-  counts = omega arith;
-  twins = (record { same = refl; later = omega arith }, record { same = refl; later = omega arith });
-})
+there_unmade = (
+  omega arith,
+  (tt, inl refl),
+  record {
+    synced = inl refl;
+    counts = omega arith;
+    twins = (record { same = refl; later = omega arith }, record { same = refl; later = omega arith });
+  },
+)
 
 -- A disk to which a byte was written isn't left so, unless a count rose.
 second_written : IsNotMade (two (disk (7 ∷ []) 0) (disk [] 0)) (two (disk (7 ∷ []) 0) (wrote [])) → ⊥

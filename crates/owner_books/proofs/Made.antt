@@ -132,18 +132,24 @@ bytes_same n P None same is = tt
 bytes_same n P (Some t) same is = same (seen_of t) is
 
 pub two_unmade : (header : Header) (fault : InitFault) (before after : Twins) → IsBothInitFault header before after fault → IsUnmade fault (two_stored before) (two_stored after)
-two_unmade header (AlreadyThere n) before after (some, second, inl (long, first)) =
-    (grind (arith, some), (tt, inl (bytes_same n (λ bytes. length bytes ≡ n) before.first.trace (λ bytes is. sym is) long)), record {
-      synced = inl refl;
-      counts = omega arith;
-      twins = (second, told before.second.trace (IsUntouched before.first after.first) first);
-    })
-two_unmade header (AlreadyThere n) before after (some, second, inr (empty, long, first)) =
-    (grind (arith, some), (tt, inr (empty, bytes_same n (λ bytes. length bytes ≡ n) before.second.trace (λ bytes is. sym is) long)), record {
-      synced = inl refl;
-      counts = omega arith;
-      twins = (second, first);
-    })
+two_unmade header (AlreadyThere n) before after (some, second, inl (long, first)) = (
+  grind (arith, some),
+  (tt, inl (bytes_same n (λ bytes. length bytes ≡ n) before.first.trace (λ bytes is. sym is) long)),
+  record {
+    synced = inl refl;
+    counts = omega arith;
+    twins = (second, told before.second.trace (IsUntouched before.first after.first) first);
+  },
+)
+two_unmade header (AlreadyThere n) before after (some, second, inr (empty, long, first)) = (
+  grind (arith, some),
+  (tt, inr (empty, bytes_same n (λ bytes. length bytes ≡ n) before.second.trace (λ bytes is. sym is) long)),
+  record {
+    synced = inl refl;
+    counts = omega arith;
+    twins = (second, first);
+  },
+)
 two_unmade header DiskFault before after (inl (broken, second)) = (omega arith, inr (inr (inl broken.risen)), tt)
 two_unmade header DiskFault before after (inr (broken, first)) = (omega arith, inr (inr (inr broken.risen)), tt)
 

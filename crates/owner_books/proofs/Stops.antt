@@ -87,7 +87,7 @@ pub book_stopped : (loading : Loading) (key : List ℕ) (k : ℕ) (old mid left 
     → AreOpenedBefore loading key old new k → NoOtherRose k old new → IsBookStop loading key mid left k stop → IsOpenStop loading key old new stop
 book_stopped loading key k old mid left new (Journal line) within was is before others (refusal, unopened, unwritten, text) =
     let refused = subst (λ (s : Option Stored). IsUnopened (new_entry loading k) (new_header loading key k) s (new k) refusal) was
-        (subst (λ (s : Option Stored). IsUnopened (new_entry loading k) (new_header loading key k) (mid k) s refusal) (sym is) unopened) in
+    (subst (λ (s : Option Stored). IsUnopened (new_entry loading k) (new_header loading key k) (mid k) s refusal) (sym is) unopened) in
     let kept = subst (λ (s : Option Stored). IsUnwrittenAt s (new k)) was (subst (λ (s : Option Stored). IsUnwrittenAt (mid k) s) (sym is) unwritten) in
     (k, refusal, record { known = within; before = before; refused = refused; unwritten = kept }, text)
 book_stopped loading key k old mid left new (Disk line) within was is before others text = (k, within, text, before, others)
