@@ -1,5 +1,5 @@
 -- What becomes of two disks, worked out on empty ones and on ones of a byte.
-use Rattle.std.proofs.Common.{◌≡◌, ℕ, ◌<◌, ◌≤◌, List, [], ◌∷◌, length, Option, Some, None, true, false, refl, ap, arith, lit<}
+use Rattle.std.proofs.Common.{◌≡◌, ℕ, ◌<◌, ◌≤◌, List, [], ◌∷◌, Option, Some, None, true, false, refl, ap, arith, lit<}
 use Rattle.std.specs.Prelude.{codes, ⊤}
 use Rattle.std.specs.Fmt.{digits}
 use mathlib.Core.Logic.{◌⊎◌, inl, inr}
@@ -10,7 +10,7 @@ use Rattle.journal_records.specs.declared.records.Header.{Header}
 use Rattle.journal_records.specs.declared.records.Record.{Record}
 use Rattle.budget_journal.specs.Journals.{MayHaveSynced}
 use Rattle.budget_journal.specs.declared.opening.OpenFault.TheVariants as open_fault
-use Rattle.budget_journal.specs.declared.making.InitFault.TheVariants.{AlreadyThere, DiskFault}
+use Rattle.budget_journal.specs.declared.making.InitFault.TheVariants.{AlreadyThere}
 use Rattle.budget_journal.proofs.Fills.{journal-long}
 use Rattle.budget_core.specs.Entries.{Entry}
 use Rattle.budget_ledger.specs.Both.{AreUnfit, IsBothFault, IsReading, Make, MakeNone, Reading}
@@ -21,7 +21,7 @@ use Rattle.owner_books.specs.Shelves.{AreLost, IsLevelled, IsOnlySynced, IsStand
 use Rattle.owner_books.specs.Opened.{IsUnopened}
 use Rattle.owner_books.specs.Making.{IsMade, IsNotMade, IsThere, IsUnmade, MayHaveFailed}
 use Rattle.owner_books.specs.Refusals.{journal_text}
-use Rattle.owner_books.specs.declared.refusals.JournalRefusal.TheVariants.{Changed, Damaged, Exists, Forked, Uninitialised}
+use Rattle.owner_books.specs.declared.refusals.JournalRefusal.TheVariants.{Changed, Exists, Forked, Uninitialised}
 
 -- ---- the line
 
