@@ -3,7 +3,6 @@ use bag_ops::{by_place, clipped_sum, filter, map, put, size, split, union};
 use fz_ast::NoMemory;
 use run_values::Value;
 use std::alloc::Global;
-use std::test::Fail;
 
 const GREATEST: i64 = 1 << 50;
 
@@ -41,26 +40,41 @@ fn negated(x: &Value) -> Result<Value, NoMemory> {
     }
 }
 
-#[test]
-fn images_and_chosen(rt: HostRuntime) -> Result<(), Fail> {
-    let alloc = rt.alloc();
-    let bag = bag_of(alloc, &[5, -7, 0, 5, 1])?;
+const NUMBERS: [i64; 5] = [5, -7, 0, 5, 1];
+
+fn is_mapped(alloc: Global) -> Result<bool, NoMemory> {
+    let bag = bag_of(alloc, &NUMBERS)?;
     let images = map(alloc, &bag, &negated)?;
-    assert!(rt; are(&images, &[-5, 7, 0, -5, -1]));
+    Ok(are(&images, &[-5, 7, 0, -5, -1]))
+}
+
+fn is_filtered(alloc: Global) -> Result<bool, NoMemory> {
+    let bag = bag_of(alloc, &NUMBERS)?;
     let yes = filter(alloc, &bag, &is_positive)?;
-    assert!(rt; are(&yes, &[5, 5, 1]));
-    Ok(())
+    Ok(are(&yes, &[5, 5, 1]))
 }
 
 #[test]
-fn halves_and_all(rt: HostRuntime) -> Result<(), Fail> {
-    let alloc = rt.alloc();
-    let bag = bag_of(alloc, &[5, -7, 0, 5, 1])?;
+fn images_and_chosen(rt: HostRuntime) {
+    assert!(rt; is_mapped(rt.alloc()) == Ok(true) && is_filtered(rt.alloc()) == Ok(true));
+}
+
+fn is_split(alloc: Global) -> Result<bool, NoMemory> {
+    let bag = bag_of(alloc, &NUMBERS)?;
     let (yes, no) = split(alloc, &bag, &is_positive)?;
-    assert!(rt; are(&yes, &[5, 5, 1]) && are(&no, &[-7, 0]));
+    Ok(are(&yes, &[5, 5, 1]) && are(&no, &[-7, 0]))
+}
+
+fn is_united(alloc: Global) -> Result<bool, NoMemory> {
+    let no = bag_of(alloc, &[-7, 0])?;
+    let bag = bag_of(alloc, &NUMBERS)?;
     let both = union(alloc, &no, &bag)?;
-    assert!(rt; are(&both, &[-7, 0, 5, -7, 0, 5, 1]) && size(&both) == 7);
-    Ok(())
+    Ok(are(&both, &[-7, 0, 5, -7, 0, 5, 1]) && size(&both) == 7)
+}
+
+#[test]
+fn halves_and_all(rt: HostRuntime) {
+    assert!(rt; is_split(rt.alloc()) == Ok(true) && is_united(rt.alloc()) == Ok(true));
 }
 
 // The clipped sum of rows of which the first ones are the greatest number and the others the least.
@@ -75,18 +89,29 @@ fn sum_of_ends(first: usize, rows: usize, lo: i64, hi: i64) -> Result<i64, NoMem
     by_place::clipped_sum_by(lo, hi, rows, &end)
 }
 
-// Row by row both ends would be passed.
-#[test]
-fn sums(rt: HostRuntime) -> Result<(), Fail> {
-    assert!(rt; sum_of_ends(1 << 19, 1 << 20, -GREATEST, GREATEST)? == 0);
-    assert!(rt; sum_of_ends(1 << 19, 1 << 19, -GREATEST, GREATEST)? == GREATEST);
-    assert!(rt; sum_of_ends(1 << 19, 1 << 20, -1, 2)? == 1 << 19);
-    Ok(())
+// How many rows are the greatest, how many there are, the ends, and the sum. Row by row both ends would be passed.
+const SUMS: [(usize, usize, i64, i64, i64); 3] = [
+    (1 << 19, 1 << 20, -GREATEST, GREATEST, 0),
+    (1 << 19, 1 << 19, -GREATEST, GREATEST, GREATEST),
+    (1 << 19, 1 << 20, -1, 2, 1 << 19),
+];
+
+fn are_sums(rows: &[(usize, usize, i64, i64, i64)]) -> bool {
+    for (first, all, lo, hi, sum) in rows {
+        if sum_of_ends(*first, *all, *lo, *hi) != Ok(*sum) {
+            return false;
+        }
+    }
+    true
 }
 
 #[test]
-fn sum_of_a_slice(rt: HostRuntime) -> Result<(), Fail> {
+fn sums(rt: HostRuntime) {
+    assert!(rt; are_sums(&SUMS));
+}
+
+#[test]
+fn sum_of_a_slice(rt: HostRuntime) {
     let bag = [Value::num(5), Value::num(-7), Value::num(2)];
     assert!(rt; clipped_sum(0, 4, &bag) == 6);
-    Ok(())
 }

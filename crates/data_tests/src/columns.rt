@@ -3,7 +3,6 @@ use fz_ast::NoMemory;
 use metric_values::{Cell, Column, Table, Texts};
 use std::alloc::Global;
 use std::marker::{Send, Sync};
-use std::test::Fail;
 
 fn is_shared<T: Send + Sync>(_value: &T) -> bool {
     true
@@ -23,42 +22,71 @@ pub(crate) fn has_text(cell: Cell<'_>, text: &[u8]) -> bool {
     }
 }
 
-fn people(alloc: Global) -> Result<Table, NoMemory> {
-    let mut towns = Texts::new(alloc);
-    towns.push(b"oslo")?;
-    towns.push(b"")?;
-    towns.push(b"ny")?;
-    let mut ages = Vec::new(alloc);
-    ages.extend_from_slice(&[30, -4, 41])?;
-    let mut columns = Vec::new(alloc);
-    if columns.push(Column::Numbers(ages)).is_err() || columns.push(Column::Texts(towns)).is_err() {
+fn texts(alloc: Global, pieces: &[&[u8]]) -> Result<Texts, NoMemory> {
+    let mut texts = Texts::new(alloc);
+    for piece in pieces {
+        texts.push(piece)?;
+    }
+    Ok(texts)
+}
+
+// A column of numbers beside one of texts.
+pub(crate) fn people(alloc: Global, ages: &[i64], towns: &[&[u8]]) -> Result<Table, NoMemory> {
+    let texts = texts(alloc, towns)?;
+    let numbers = Vec::from_slice(alloc, ages)?;
+    if numbers.len() != texts.len() {
         return Err(NoMemory);
     }
-    Table::new(alloc, columns)
+    match vec![in alloc; Column::Numbers(numbers), Column::Texts(texts)] {
+        Ok(columns) => Table::new(alloc, columns),
+        Err(_) => Err(NoMemory),
+    }
+}
+
+// Whether these are the rows of a table.
+fn are_rows(table: &Table, ages: &[i64], towns: &[&[u8]]) -> bool {
+    if table.width() != 2 || table.len() != ages.len() || table.len() != towns.len() {
+        return false;
+    }
+    for row in 0..table.len() as u32 {
+        let is_one = has_number(table.cell(row, 0), ages[row as usize])
+            && has_text(table.cell(row, 1), towns[row as usize]);
+        if !is_one {
+            return false;
+        }
+    }
+    true
+}
+
+// Of three rows the last and the first.
+fn last_and_first(alloc: Global, table: &Table) -> Result<Table, NoMemory> {
+    if table.len() != 3 {
+        return Err(NoMemory);
+    }
+    table.with_rows(alloc, &[2, 0])
+}
+
+// Of two rows the second.
+fn second(alloc: Global, table: &Table) -> Result<Table, NoMemory> {
+    if table.len() != 2 {
+        return Err(NoMemory);
+    }
+    table.with_rows(alloc, &[1])
+}
+
+fn are_chosen(alloc: Global) -> Result<bool, NoMemory> {
+    let table = people(alloc, &[30, -4, 41], &[b"oslo", b"", b"ny"])?;
+    let part = last_and_first(alloc, &table)?;
+    let last = second(alloc, &part)?;
+    Ok(
+        is_shared(&table)
+            && are_rows(&table, &[30, -4, 41], &[b"oslo", b"", b"ny"])
+            && are_rows(&part, &[41, 30], &[b"ny", b"oslo"])
+            && are_rows(&last, &[30], &[b"oslo"]),
+    )
 }
 
 #[test]
-fn mixed_columns_and_chosen_rows(rt: HostRuntime) -> Result<(), Fail> {
-    let Ok(table) = people(rt.alloc()) else {
-        assert!(rt; false);
-        return Ok(());
-    };
-    assert!(rt; is_shared(&table));
-    assert!(rt; (table.len(), table.width()) == (3, 2));
-    assert!(rt; has_number(table.cell(1, 0), -4));
-    assert!(rt; has_text(table.cell(0, 1), b"oslo"));
-    assert!(rt; has_text(table.cell(1, 1), b""));
-    let Ok(part) = table.with_rows(rt.alloc(), &[2, 0]) else {
-        assert!(rt; false);
-        return Ok(());
-    };
-    assert!(rt; part.len() == 2);
-    assert!(rt; has_number(part.cell(0, 0), 41));
-    assert!(rt; has_text(part.cell(1, 1), b"oslo"));
-    let Ok(last) = part.with_rows(rt.alloc(), &[1]) else {
-        assert!(rt; false);
-        return Ok(());
-    };
-    assert!(rt; has_text(last.cell(0, 1), b"oslo"));
-    Ok(())
+fn mixed_columns_and_chosen_rows(rt: HostRuntime) {
+    assert!(rt; are_chosen(rt.alloc()) == Ok(true));
 }

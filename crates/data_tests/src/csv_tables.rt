@@ -2,10 +2,10 @@
 
 ghost use Rattle.std.specs.Prelude.{◌≡◌, IfOk};
 
+use crate::columns::{has_number, has_text};
 use fz_ast::Column as Kind;
-use metric_values::{Cell, Table};
+use metric_values::Table;
 use std::alloc::{AllocError, Global};
-use std::test::Fail;
 use table_store::{NamedColumn, Schema, TableFault, groups, load};
 
 // A row of people: a name, an age and a town.
@@ -25,20 +25,6 @@ fn people(alloc: Global) -> Result<Schema, AllocError> {
     Ok(Schema::new(columns))
 }
 
-fn has_text(cell: Cell<'_>, text: &[u8]) -> bool {
-    match cell {
-        Cell::Text(bytes) => bytes == text,
-        Cell::Number(_) => false,
-    }
-}
-
-fn has_number(cell: Cell<'_>, number: i64) -> bool {
-    match cell {
-        Cell::Number(z) => z == number,
-        Cell::Text(_) => false,
-    }
-}
-
 fn are_people(table: &Table, people: &[Person<'_>]) -> bool {
     if table.width() != 3 || table.len() != people.len() {
         return false;
@@ -55,66 +41,108 @@ fn are_people(table: &Table, people: &[Person<'_>]) -> bool {
     true
 }
 
-fn gives(alloc: Global, bytes: &[u8], want: Result<&[Person<'_>], TableFault>) -> bool {
+// A file, and its rows.
+type Rows<'a> = (&'a [u8], &'a [Person<'a>]);
+
+#[rattlefmt::skip]
+const TABLES: [Rows<'static>; 6] = [
+    (b"name,age,town\nann,20,oslo\n,-3,\n", &[(b"ann", 20, b"oslo"), (b"", -3, b"")]),
+    (b"\xEF\xBB\xBF\xEF\xBB\xBFname,age,town\r\nann,20,ny\r\n", &[(b"ann", 20, b"ny")]),
+    (b"\"name\",age,town\n\n\"a,b\",\"-0\",\"x\"\"y\r\nz\"", &[(b"a,b", 0, b"x\"y\r\nz")]),
+    (b"name,age,town\n\xFF\x00,007, 7\n", &[(b"\xFF\x00", 7, b" 7")]),
+    (b"name,age,town\n7,1125899906842624,+\n", &[(b"7", 1 << 50, b"+")]),
+    (b"name,age,town", &[]),
+];
+
+// A town of 64 bytes, the longest.
+const LONGEST: &[u8] = b"xxxxxxxxxxxxxxxxxxxxxxxxxxxxxxxx\
+    xxxxxxxxxxxxxxxxxxxxxxxxxxxxxxxx";
+
+const LONG: [Rows<'static>; 1] = [(
+    b"name,age,town\nann,20,\
+    xxxxxxxxxxxxxxxxxxxxxxxxxxxxxxxx\
+    xxxxxxxxxxxxxxxxxxxxxxxxxxxxxxxx\n",
+    &[(b"ann", 20, LONGEST)],
+)];
+
+#[rattlefmt::skip]
+const FAULTS: [(&[u8], TableFault); 8] = [
+    (b"", TableFault::BadHeader),
+    (b"name,town,age\n", TableFault::BadHeader),
+    (b"name,age\nann,20\n", TableFault::BadHeader),
+    (b"name,age,town,\n", TableFault::BadHeader),
+    (b"name,age,town\nann,20,ny\nbob,x\n", TableFault::BadRecord { row: 1 }),
+    (b"name,age,town\nann,x,ny\nbob,20\n", TableFault::BadCell { row: 0, col: 1 }),
+    (b"name,age,town\nann,,ny\n", TableFault::BadCell { row: 0, col: 1 }),
+    (b"name,age,town\nann,-1125899906842625,ny\n", TableFault::BadCell { row: 0, col: 1 }),
+];
+
+// A town of 65 bytes.
+const TOO_LONG: [(&[u8], TableFault); 1] = [(
+    b"name,age,town\nann,20,\
+    xxxxxxxxxxxxxxxxxxxxxxxxxxxxxxxx\
+    xxxxxxxxxxxxxxxxxxxxxxxxxxxxxxxxx\n",
+    TableFault::BadCell { row: 0, col: 2 },
+)];
+
+fn is_table(alloc: Global, schema: &Schema, bytes: &[u8], rows: &[Person<'_>]) -> bool {
+    match load(alloc, bytes, schema) {
+        Ok(table) => are_people(&table, rows),
+        Err(_) => false,
+    }
+}
+
+fn are_tables(alloc: Global, files: &[Rows<'_>]) -> bool {
     let Ok(schema) = people(alloc) else {
         return false;
     };
-    match (load(alloc, bytes, &schema), want) {
-        (Ok(table), Ok(people)) => are_people(&table, people),
-        (Err(fault), Err(wanted)) => fault == wanted,
-        _ => false,
+    for (bytes, rows) in files {
+        if !is_table(alloc, &schema, bytes, rows) {
+            return false;
+        }
+    }
+    true
+}
+
+fn has_fault(alloc: Global, schema: &Schema, bytes: &[u8], wanted: TableFault) -> bool {
+    match load(alloc, bytes, schema) {
+        Ok(_) => false,
+        Err(fault) => fault == wanted,
     }
 }
 
-#[rattlefmt::skip]
-const CASES: [(&[u8], Result<&[Person<'static>], TableFault>); 14] = [
-    (b"name,age,town\nann,20,oslo\n,-3,\n", Ok(&[(b"ann", 20, b"oslo"), (b"", -3, b"")])),
-    (b"\xEF\xBB\xBF\xEF\xBB\xBFname,age,town\r\nann,20,ny\r\n", Ok(&[(b"ann", 20, b"ny")])),
-    (b"\"name\",age,town\n\n\"a,b\",\"-0\",\"x\"\"y\r\nz\"", Ok(&[(b"a,b", 0, b"x\"y\r\nz")])),
-    (b"name,age,town\n\xFF\x00,007, 7\n", Ok(&[(b"\xFF\x00", 7, b" 7")])),
-    (b"name,age,town\n7,1125899906842624,+\n", Ok(&[(b"7", 1 << 50, b"+")])),
-    (b"name,age,town", Ok(&[])),
-    (b"", Err(TableFault::BadHeader)),
-    (b"name,town,age\n", Err(TableFault::BadHeader)),
-    (b"name,age\nann,20\n", Err(TableFault::BadHeader)),
-    (b"name,age,town,\n", Err(TableFault::BadHeader)),
-    (b"name,age,town\nann,20,ny\nbob,x\n", Err(TableFault::BadRecord { row: 1 })),
-    (b"name,age,town\nann,x,ny\nbob,20\n", Err(TableFault::BadCell { row: 0, col: 1 })),
-    (b"name,age,town\nann,,ny\n", Err(TableFault::BadCell { row: 0, col: 1 })),
-    (b"name,age,town\nann,-1125899906842625,ny\n", Err(TableFault::BadCell { row: 0, col: 1 })),
-];
+fn have_faults(alloc: Global, files: &[(&[u8], TableFault)]) -> bool {
+    let Ok(schema) = people(alloc) else {
+        return false;
+    };
+    for (bytes, wanted) in files {
+        if !has_fault(alloc, &schema, bytes, *wanted) {
+            return false;
+        }
+    }
+    true
+}
+
+fn gives_tables(alloc: Global) -> bool {
+    are_tables(alloc, &TABLES)
+}
+
+fn gives_faults(alloc: Global) -> bool {
+    have_faults(alloc, &FAULTS)
+}
 
 #[test]
 fn files(rt: HostRuntime) {
-    for (bytes, want) in &CASES {
-        assert!(rt; gives(rt.alloc(), bytes, *want));
-    }
+    assert!(rt; gives_tables(rt.alloc()) && gives_faults(rt.alloc()));
 }
 
-// A file whose row has a town of this many bytes.
-fn with_town(alloc: Global, length: usize) -> Result<Vec<u8>, AllocError> {
-    let mut bytes = Vec::new(alloc);
-    bytes.extend_from_slice(b"name,age,town\nann,20,")?;
-    for _ in 0..length {
-        bytes.push(b'x')?;
-    }
-    Ok(bytes)
+fn ends_at_64_bytes(alloc: Global) -> bool {
+    are_tables(alloc, &LONG) && have_faults(alloc, &TOO_LONG)
 }
 
 #[test]
-fn long_texts(rt: HostRuntime) -> Result<(), Fail> {
-    let schema = people(rt.alloc())?;
-    let longest = with_town(rt.alloc(), 64)?;
-    assert!(rt; load(rt.alloc(), &longest, &schema).is_ok());
-    let longer = with_town(rt.alloc(), 65)?;
-    assert!(rt;
-        gives(
-            rt.alloc(),
-            &longer,
-            Err(TableFault::BadCell { row: 0, col: 2 })
-        )
-    );
-    Ok(())
+fn long_texts(rt: HostRuntime) {
+    assert!(rt; ends_at_64_bytes(rt.alloc()));
 }
 
 fn towns(alloc: Global) -> Option<Vec<Vec<u32>>> {
@@ -139,10 +167,14 @@ fn are_groups(groups: &[Vec<u32>], want: &[&[u32]]) -> bool {
     true
 }
 
+fn has_towns(alloc: Global) -> bool {
+    match towns(alloc) {
+        Some(groups) => are_groups(&groups, &[&[1], &[], &[0, 2]]),
+        None => false,
+    }
+}
+
 #[test]
 fn rows_by_town(rt: HostRuntime) {
-    match towns(rt.alloc()) {
-        Some(groups) => assert!(rt; are_groups(&groups, &[&[1], &[], &[0, 2]])),
-        None => panic!(rt; "no groups"),
-    }
+    assert!(rt; has_towns(rt.alloc()));
 }

@@ -94,14 +94,28 @@ fn of_part(part: u16) -> Record {
     })
 }
 
+// Whether the bytes of a part's reservation have these two of its number, and are decoded to it.
+fn is_of_part(part: u16, low: u8, high: u8) -> bool {
+    let record = of_part(part);
+    let bytes = encoding(&record);
+    bytes.starts_with(&[0xA5, 1, 3, low])
+        && bytes[30] == high
+        && bytes[31] == 0
+        && decode(&bytes) == Some(record)
+}
+
+fn are_of_parts(rows: &[(u16, u8, u8)]) -> bool {
+    for (part, low, high) in rows {
+        if !is_of_part(*part, *low, *high) {
+            return false;
+        }
+    }
+    true
+}
+
 #[test]
 fn reservations_of_parts(rt: HostRuntime) {
-    for (part, low, high) in &PARTS {
-        let bytes = encoding(&of_part(*part));
-        assert!(rt; bytes.starts_with(&[0xA5, 1, 3, *low]));
-        assert!(rt; bytes[30] == *high && bytes[31] == 0);
-        assert!(rt; decode(&bytes) == Some(of_part(*part)));
-    }
+    assert!(rt; are_of_parts(&PARTS));
     assert!(rt; all_refused(&encoding(&of_part(3_999)), &PAST_THE_PARTS));
 }
 
@@ -126,14 +140,28 @@ fn exhausted(returned: u64) -> Record {
     })
 }
 
+// Whether a byte 1 at each of these places gives that much back.
+fn give_back(bytes: &[u8; 64], rows: &[(usize, u64)]) -> bool {
+    for (place, returned) in rows {
+        if decode_with(bytes, *place, 1) != Some(exhausted(*returned)) {
+            return false;
+        }
+    }
+    true
+}
+
 #[test]
 fn a_settlement_that_gives_back(rt: HostRuntime) {
     let bytes = encoding(&exhausted(0));
     assert!(rt; bytes.starts_with(b"\xA5\x02\x02\x00\0\0\0\0\0\0\0\0\0\0\0\0\0\0\0\0\0\0\0\0\0"));
-    for (place, returned) in &RETURNED {
-        assert!(rt; decode_with(&bytes, *place, 1) == Some(exhausted(*returned)));
-    }
-    assert!(rt; decode_with(&bytes, 24, 1) == None);
+    assert!(rt; give_back(&bytes, &RETURNED) && decode_with(&bytes, 24, 1) == None);
+}
+
+// What the bytes decode to in this version.
+fn header_in(bytes: &[u8; 128], version: u8) -> Option<Header> {
+    let mut changed = *bytes;
+    changed[9] = version;
+    decode_header(&changed)
 }
 
 #[test]
@@ -145,20 +173,13 @@ fn a_header(rt: HostRuntime) {
         digest: [7; 32],
         version: 1,
     };
+    let third = Header {
+        version: 3,
+        ..header
+    };
     let mut bytes = [0; 128];
     encode_header(&header, &mut bytes);
     assert!(rt; bytes.starts_with(b"\xA5FUZZBUDG\x01\0\0\0\x01\0\0\0\0\x00\x98\x96\x80\0\0\0\x64"));
-    assert!(rt; decode_header(&bytes) == Some(header));
-    for version in &[0, 4] {
-        bytes[9] = *version;
-        assert!(rt; decode_header(&bytes) == None);
-    }
-    bytes[9] = 3;
-    assert!(rt;
-        decode_header(&bytes)
-            == Some(Header {
-                version: 3,
-                ..header
-            })
-    );
+    assert!(rt; decode_header(&bytes) == Some(header) && header_in(&bytes, 3) == Some(third));
+    assert!(rt; header_in(&bytes, 0) == None && header_in(&bytes, 4) == None);
 }
