@@ -36,7 +36,6 @@ use Rattle.fuzz_eval.proofs.Tallied.{clip_can, clip_gives, size_bag, size_gives,
 use Rattle.fuzz_eval.proofs.TwoParts.{binary_can, binary_means, can_compare, compared, first_has, form_here, left_compared, left_has, left_text, means_here, pair_can, pair_has, pair_inside, pair_means, right_compared, right_has, right_text, second_has}
 use Rattle.fuzz_eval.proofs.eval.+evaluating.Goals as goal
 
-
 pub apply-function-function-requires : goal.apply-function-function-requires
 apply-function-function-requires t c = can_closure c.requires
 
@@ -901,12 +900,11 @@ pub pass-loop-i-smaller : goal.pass-loop-i-smaller
 pass-loop-i-smaller t c = search rules
 
 pub pass-loop-i-preserved : goal.pass-loop-i-preserved
-pass-loop-i-preserved t c = let l = same_length c.args.workers.now.items c.loop-i.workers.items c.loop-i.invariant.0.same in let h : c.loop-i.i < length c.loop-i.workers.items = grind (arith, common_steps, l, c.loop-i-test.true, c.len-i-end.ensures) in
-    (
-      passing_next c.args.workers.now.items c.loop-i.workers.items c.args.x.means c.loop-i.i c.loop-i.at.means c.loop-i.invariant.0 c.index_mut.result.now h c.index_mut.ensures.value c.step.new.worker c.in_ok-y.ensures.same c.in-Some.y.means (sym (ap means_in c.in-Some.is) ∙ c.in_ok-y.ensures.steps),
-      still_no_deeper c.args.x.deep c.loop-i.at.deep c.args.workers.now.items c.loop-i.workers.items c.loop-i.i c.index_mut.result.now h c.index_mut.ensures.value c.loop-i.invariant.1 c.loop-i.invariant.2 c.step.new.worker c.in_ok-y.ensures.inner c.in_ok-y.ensures.same.step,
-      passed_on c.args.x.deep c.loop-i.at.deep c.args.workers.now.items c.loop-i.workers.items c.loop-i.i c.index_mut.result.now h c.index_mut.ensures.value c.loop-i.invariant.1 c.loop-i.invariant.2 c.in-Some.y.deep (subst (λ (o : Option Held). IfSome o (λ y. y.deep ≤ worker_deep c.loop-i.at.deep c.index_mut.result.now)) c.in-Some.is c.in_ok-y.ensures.deep),
-    )
+pass-loop-i-preserved t c = let l = same_length c.args.workers.now.items c.loop-i.workers.items c.loop-i.invariant.0.same in let h : c.loop-i.i < length c.loop-i.workers.items = grind (arith, common_steps, l, c.loop-i-test.true, c.len-i-end.ensures) in (
+  passing_next c.args.workers.now.items c.loop-i.workers.items c.args.x.means c.loop-i.i c.loop-i.at.means c.loop-i.invariant.0 c.index_mut.result.now h c.index_mut.ensures.value c.step.new.worker c.in_ok-y.ensures.same c.in-Some.y.means (sym (ap means_in c.in-Some.is) ∙ c.in_ok-y.ensures.steps),
+  still_no_deeper c.args.x.deep c.loop-i.at.deep c.args.workers.now.items c.loop-i.workers.items c.loop-i.i c.index_mut.result.now h c.index_mut.ensures.value c.loop-i.invariant.1 c.loop-i.invariant.2 c.step.new.worker c.in_ok-y.ensures.inner c.in_ok-y.ensures.same.step,
+  passed_on c.args.x.deep c.loop-i.at.deep c.args.workers.now.items c.loop-i.workers.items c.loop-i.i c.index_mut.result.now h c.index_mut.ensures.value c.loop-i.invariant.1 c.loop-i.invariant.2 c.in-Some.y.deep (subst (λ (o : Option Held). IfSome o (λ y. y.deep ≤ worker_deep c.loop-i.at.deep c.index_mut.result.now)) c.in-Some.is c.in_ok-y.ensures.deep),
+)
 
 pub pass-returns-clause-passes : goal.pass-returns-clause-passes
 pass-returns-clause-passes t c = let l = same_length c.args.workers.now.items c.loop-i.workers.items c.loop-i.invariant.0.same in
