@@ -157,11 +157,7 @@ fn step(alloc: Global, worker: &mut Worker, x: Value) -> Result<Option<Value>, N
 
 // What an element becomes behind all stages, if it isn't left out.
 #[cycle(evaluating)]
-fn pass(
-    alloc: Global,
-    workers: &mut Vec<Worker>,
-    x: Value,
-) -> Result<Option<Value>, NoMemory>
+fn pass(alloc: Global, workers: &mut Vec<Worker>, x: Value) -> Result<Option<Value>, NoMemory>
     requires known { AllKnownWorkers workers.old.items }
     requires can { CanPass (worker_steps workers.old.items) x.means }
     ensures passes { IfOk result (λ o. means_in o ≡ values_in (through (worker_steps workers.old.items) (Some (flat_of x.means)))) }
@@ -265,13 +261,7 @@ fn word(alloc: Global, form: Unary, u: &Value) -> Result<Value, NoMemory>
 
 // What a word with bounds gives.
 #[cycle(evaluating)]
-fn bounded(
-    alloc: Global,
-    form: Ranged,
-    lo: i64,
-    hi: i64,
-    u: &Value,
-) -> Result<Value, NoMemory>
+fn bounded(alloc: Global, form: Ranged, lo: i64, hi: i64, u: &Value) -> Result<Value, NoMemory>
     requires { CanRanged form lo hi u.now.means }
     ensures gives { IfOk result (λ v. GivesRanged form lo hi u.now.means v.means) }
     ensures deep { IfOk result (λ v. v.deep ≡ 0) }
@@ -285,13 +275,7 @@ fn bounded(
 // What a word or sign of two parts gives for their values.
 #[cycle(evaluating)]
 #[inline(never)]
-fn combine(
-    alloc: Global,
-    form: Binary,
-    u: Value,
-    w: Value,
-    left: u32,
-) -> Result<Value, NoMemory>
+fn combine(alloc: Global, form: Binary, u: Value, w: Value, left: u32) -> Result<Value, NoMemory>
     requires { Can2 left form u.means w.means }
     ensures gives { IfOk result (λ v. Gives2 (MeansIn left) form u.means w.means v.means) }
     ensures deep { IfOk result (λ v. v.deep ≤ max u.deep w.deep + added left + 6) }

@@ -11,55 +11,55 @@ use Rattle.fuzz_eval.proofs.eval.+evaluating.Given as goal
 
 -- how deep what it can make is held; a bag's stages are held less deep than the bag
 abbrev pub decreases-eval : goal.decreases-eval
-decreases-eval l = 16 * (l.scope.deep + added l.left) + 2
+decreases-eval l = 16 * (l.scope.now.deep + added l.left) + 2
 
 abbrev pub decreases-eval_two : goal.decreases-eval_two
-decreases-eval_two l = 16 * (l.scope.deep + added l.left + added l.left) + 50
+decreases-eval_two l = 16 * (l.scope.now.deep + added l.left + added l.left) + 50
 
 abbrev pub decreases-eval_equal : goal.decreases-eval_equal
-decreases-eval_equal l = 16 * (l.scope.deep + added l.left) + 3
+decreases-eval_equal l = 16 * (l.scope.now.deep + added l.left) + 3
 
 abbrev pub decreases-eval_pair : goal.decreases-eval_pair
-decreases-eval_pair l = 16 * (l.scope.deep + added l.left + added l.left) + 70
+decreases-eval_pair l = 16 * (l.scope.now.deep + added l.left + added l.left) + 70
 
 abbrev pub decreases-eval_other : goal.decreases-eval_other
-decreases-eval_other l = 16 * (l.scope.deep + added l.left)
+decreases-eval_other l = 16 * (l.scope.now.deep + added l.left)
 
 abbrev pub decreases-eval_under : goal.decreases-eval_under
-decreases-eval_under l = 16 * (scope_deep l.value.deep l.scope.deep + added l.left) + 3
+decreases-eval_under l = 16 * (scope_deep l.value.deep l.scope.now.deep + added l.left) + 3
 
 abbrev pub decreases-apply : goal.decreases-apply
-decreases-apply l = 16 * (scope_deep l.c.deep l.u.deep + added l.left) + 4
+decreases-apply l = 16 * (scope_deep l.c.now.deep l.u.deep + added l.left) + 4
 
 abbrev pub decreases-combine : goal.decreases-combine
 decreases-combine l = 16 * (scope_deep l.u.deep l.w.deep + added l.left) + 6
 
 abbrev pub decreases-apply_to_element : goal.decreases-apply_to_element
-decreases-apply_to_element l = 16 * (max l.inner.deep (l.x.deep + 3) + added l.left) + 6
+decreases-apply_to_element l = 16 * (max l.inner.now.deep (l.x.deep + 3) + added l.left) + 6
 
 abbrev pub decreases-step : goal.decreases-step
-decreases-step l = 16 * worker_deep l.x.deep l.worker + 7
+decreases-step l = 16 * worker_deep l.x.deep l.worker.now + 7
 
 abbrev pub decreases-pass : goal.decreases-pass
-decreases-pass l = 16 * workers_deep l.x.deep l.workers.items + 8
+decreases-pass l = 16 * workers_deep l.x.deep l.workers.now.items + 8
 
 abbrev pub decreases-walk_rows : goal.decreases-walk_rows
-decreases-walk_rows l = 16 * stages_deep 0 l.branch.stages.items + 9
+decreases-walk_rows l = 16 * stages_deep 0 l.branch.now.stages.items + 9
 
 abbrev pub decreases-walk_strand : goal.decreases-walk_strand
-decreases-walk_strand l = 16 * l.strand.chain.deep + 10
+decreases-walk_strand l = 16 * l.strand.now.chain.deep + 10
 
 abbrev pub decreases-walk : goal.decreases-walk
-decreases-walk l = 16 * l.b.deep + 11
+decreases-walk l = 16 * l.b.now.deep + 11
 
 abbrev pub decreases-tally : goal.decreases-tally
-decreases-tally l = 16 * l.b.deep + 12
+decreases-tally l = 16 * l.b.now.deep + 12
 
 abbrev pub decreases-word : goal.decreases-word
-decreases-word l = 16 * l.u.deep + 13
+decreases-word l = 16 * l.u.now.deep + 13
 
 abbrev pub decreases-bounded : goal.decreases-bounded
-decreases-bounded l = 16 * l.u.deep + 13
+decreases-bounded l = 16 * l.u.now.deep + 13
 
 abbrev pub invariant-pass-loop-i : goal.invariant-pass-loop-i
 invariant-pass-loop-i l =
