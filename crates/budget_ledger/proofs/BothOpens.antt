@@ -54,13 +54,13 @@ module _ (header : Header) (v : ℕ) (a : List Record) (bytes : List ℕ) (stand
       by (inr none) = none
 
 -- It has them; or a call failed, or memory was wanting.
-abbrev pub IsTold : ℕ → List Record → Reading → Type 0
+abbrev IsTold : ℕ → List Record → Reading → Type 0
 IsTold v a (Missing true) = ⊥
 IsTold v a (Missing false) = Unit {0}
 IsTold v a (Holding w b) = (w ≡ v) × (b ≡ a)
 IsTold v a (Unfit fault) = fault ≡ NoMemory
 
-pub read_so : (header : Header) (v : ℕ) (a : List Record) (o : Option Trace) (count : ℕ) (now : Shown) → Tells header v a (record { trace = o; faults = count })
+read_so : (header : Header) (v : ℕ) (a : List Record) (o : Option Trace) (count : ℕ) (now : Shown) → Tells header v a (record { trace = o; faults = count })
     → (r : Reading) → IsReading header (record { trace = o; faults = count }) now r → IsTold v a r
 read_so header v a None count now tells r is = absurd tells
 read_so header v a (Some t) count now tells (Missing true) is = some_bytes header v a (seen_of t) tells is
@@ -80,7 +80,7 @@ no_fork a b k fork (inr begins) = fork.differ (sym (along b a k fork.beside begi
 
 -- ---- no refusal but for the disks or for memory
 
-pub judged : (entry : Entry) (records : List Record) → IsHistory entry records → (fault : BothFault) → AreUnfit entry records fault → fault ≡ Refused NoMemory
+judged : (entry : Entry) (records : List Record) → IsHistory entry records → (fault : BothFault) → AreUnfit entry records fault → fault ≡ Refused NoMemory
 judged entry records history (Refused (Damaged k)) first = absurd (first.astray.2 (history.follows k first.astray.0 first.astray.1))
 judged entry records history (Refused NoMemory) unfit = refl
 judged entry records history (Refused (NotInitialised n)) unfit = absurd unfit

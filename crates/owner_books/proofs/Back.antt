@@ -9,7 +9,7 @@ use Rattle.outside_bays.proofs.Shelves.{not-equal}
 use Rattle.budget_ledger.specs.Account.{Account}
 use Rattle.owner_desk.specs.Passes.{Pass}
 use Rattle.session_core.specs.Code.{no_pass, pass_at}
-use Rattle.owner_books.specs.Shelves.{OneDisk, Shelf}
+use Rattle.owner_books.specs.Shelves.{Shelf}
 use Rattle.owner_books.specs.Books.{ArePutBack, GaveBook, shown_by}
 use Rattle.owner_books.proofs.Bundled.{one_fewer}
 
@@ -22,16 +22,6 @@ changed_elsewhere k n now old new isnt changes = changes n ∙ ap (λ (b : Bool)
 pub changed_to : (k j : ℕ) (given shown : Stored) (old new : Shelf) → k ≡ j → given ≡ shown → Changes k (Some given) old new → Changes j (Some shown) old new
 changed_to k j given shown old new here is changes =
     subst (λ (i : ℕ). Changes i (Some shown) old new) here (subst (λ (s : Stored). Changes k (Some s) old new) is changes)
-
--- a disk that was taken and put back
-pub turned_back : (Goes : Stored → Stored → Type 0) (o : ℕ) (before now : Stored) (old mid new : Shelf) → old o ≡ Some before → Changes o None old mid → Changes o (Some now) mid new → Goes before now → OneDisk o Goes old new
-turned_back Goes o before now old mid new was took changes goes = record {
-  here = λ b at. (now, changed_here o (Some now) mid new changes, subst (λ (s : Stored). Goes s now) (the_same before b (sym was ∙ at)) goes);
-  elsewhere = λ p isnt. changed_elsewhere o p (Some now) mid new isnt changes ∙ changed_elsewhere o p None old mid isnt took;
-}
-  where
-    the_same : (x y : Stored) → Some x ≡ Some y → x ≡ y
-    the_same x y is = cc
 
 -- the books of some owners, and one more
 abbrev with_book : (ℕ → Account) → ℕ → Account → ℕ → Account

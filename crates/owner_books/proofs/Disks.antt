@@ -1,5 +1,5 @@
 -- what may become of the owners' disks
-use Rattle.std.proofs.Common.{◌≡◌, ℕ, ◌+◌, ◌<◌, ◌≤◌, Option, Some, None, refl, sym, ◌∙◌, ap, subst, arith}
+use Rattle.std.proofs.Common.{◌≡◌, ℕ, ◌+◌, ◌<◌, ◌≤◌, Option, Some, None, refl, sym, ◌∙◌, subst, arith}
 use mathlib.Core.Logic.{◌⊎◌, inl, inr}
 use Rattle.std.proofs.lemmas.Bool.{cases_lt}
 use Rattle.fz_outside.specs.Faults.{HasRisen}
@@ -17,16 +17,6 @@ both_same (Some twins) = (inl (left_same twins.first), inl (left_same twins.seco
 
 pub synced_same : (stored : Stored) → IsOnlySynced stored stored
 synced_same stored = record { synced = inl refl; counts = omega arith; twins = both_same stored.twins }
-
--- what wasn't written at all was only synced
-each_synced : (before after : Option Twins) → EachTwin IsLeft before after → BothGo AreSynced before after
-each_synced None None left = tt
-each_synced (Some before) (Some after) left = (inl left.0, inl left.1)
-each_synced None (Some after) left = absurd left
-each_synced (Some before) None left = absurd left
-
-pub unwritten_synced : (before after : Stored) → IsUnwritten before after → IsOnlySynced before after
-unwritten_synced before after left = record { synced = left.synced; counts = left.counts; twins = each_synced before.twins after.twins left.twins }
 
 each_same : (twins : Option Twins) → EachTwin IsLeft twins twins
 each_same None = tt
@@ -53,12 +43,6 @@ nothing_written n b a each o before at = here (cases_lt o n)
 -- a disk that is as it was
 pub one_same : (o : ℕ) (Goes : Stored → Stored → Type 0) (shelf : Shelf) → ((before : Stored) → Goes before before) → OneDisk o Goes shelf shelf
 one_same o Goes shelf goes = record { here = λ before at. (before, at, goes before); elsewhere = λ p isnt. refl }
-
-pub one_more : (o : ℕ) (Goes More : Stored → Stored → Type 0) (old new : Shelf) → ((before after : Stored) → Goes before after → More before after) → OneDisk o Goes old new → OneDisk o More old new
-one_more o Goes More old new more one = record {
-  here = λ before at. let is = one.here before at in (is.0, is.1, more before is.0 is.2);
-  elsewhere = one.elsewhere;
-}
 
 -- the count of a disk that is as it was, or of which it is known what it shows
 both_stand : (twins : Option Twins) → BothGo OneStands twins twins

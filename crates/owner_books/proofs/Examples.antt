@@ -1,33 +1,31 @@
 -- What becomes of two disks, worked out on empty ones and on ones of a byte.
-use Rattle.std.proofs.Common.{◌≡◌, ℕ, ◌<◌, ◌≤◌, List, [], ◌∷◌, length, Option, Some, None, true, false, refl, sym, ◌∙◌, ap, arith, lit<}
+use Rattle.std.proofs.Common.{◌≡◌, ℕ, ◌<◌, ◌≤◌, List, [], ◌∷◌, Option, Some, None, true, false, refl, ap, arith, lit<}
 use Rattle.std.specs.Prelude.{codes, ⊤}
 use Rattle.std.specs.Fmt.{digits}
 use mathlib.Core.Logic.{◌⊎◌, inl, inr}
-use Rattle.fz_outside.specs.Faults.{last_count}
-use Rattle.outside_disks.specs.Disks.{Shown, Step, Trace, overlaid, seen_of}
+use Rattle.outside_disks.specs.Disks.{Shown, Step, Trace}
 use Rattle.outside_disks.specs.Disks.Step.{Wrote, Synced}
 use Rattle.outside_disks.specs.Stored.{Stored, Twins, one_stored, two_stored}
 use Rattle.journal_records.specs.declared.records.Header.{Header}
 use Rattle.journal_records.specs.declared.records.Record.{Record}
-use Rattle.budget_journal.specs.Journals.{MayHaveSynced, Stands}
-use Rattle.budget_journal.specs.declared.opening.OpenFault.{OpenFault}
+use Rattle.budget_journal.specs.Journals.{MayHaveSynced}
 use Rattle.budget_journal.specs.declared.opening.OpenFault.TheVariants as open_fault
-use Rattle.budget_journal.specs.declared.making.InitFault.TheVariants.{AlreadyThere, DiskFault}
+use Rattle.budget_journal.specs.declared.making.InitFault.TheVariants.{AlreadyThere}
 use Rattle.budget_journal.proofs.Fills.{journal-long}
 use Rattle.budget_core.specs.Entries.{Entry}
-use Rattle.budget_ledger.specs.Both.{AreUnfit, IsBothFault, IsLeft, IsReading, Make, MakeNone, Reading}
+use Rattle.budget_ledger.specs.Both.{AreUnfit, IsBothFault, IsReading, Make, MakeNone, Reading}
 use Rattle.budget_ledger.specs.Both.Reading.{Holding, Missing, Unfit}
 use Rattle.budget_ledger.specs.declared.both.BothFault.{BothFault}
 use Rattle.budget_ledger.specs.declared.both.BothFault.TheVariants.{Forked as Forks, Refused, VersionsDiffer}
-use Rattle.owner_books.specs.Shelves.{AreLost, IsLevelled, IsOnlySynced, IsStanding, IsTwinSynced, IsUnwritten, Shelf, SomeLost, SomeRose, StandsStill, TellBytes, both_on, bytes_on}
+use Rattle.owner_books.specs.Shelves.{AreLost, IsLevelled, IsOnlySynced, IsStanding, IsTwinSynced, IsUnwritten, Shelf, TellBytes, both_on, bytes_on}
 use Rattle.owner_books.specs.Opened.{IsUnopened}
 use Rattle.owner_books.specs.Making.{IsMade, IsNotMade, IsThere, IsUnmade, MayHaveFailed}
 use Rattle.owner_books.specs.Refusals.{journal_text}
-use Rattle.owner_books.specs.declared.refusals.JournalRefusal.TheVariants.{Changed, Damaged, Exists, Forked, Uninitialised}
+use Rattle.owner_books.specs.declared.refusals.JournalRefusal.TheVariants.{Changed, Exists, Forked, Uninitialised}
 
 -- ---- the line
 
-pub forked_at : journal_text (codes "census") (Forked 0) ≡ codes "journal census forked 0\n"
+forked_at : journal_text (codes "census") (Forked 0) ≡ codes "journal census forked 0\n"
 unfolding digits
 forked_at = refl
 

@@ -1,20 +1,19 @@
 -- Journals made up to one that isn't.
-use Rattle.std.proofs.Common.{◌≡◌, ◌<◌, ◌≤◌, ◌∙◌, ℕ, List, [], length, Option, Some, None, refl, ap, subst, sym, arith}
+use Rattle.std.proofs.Common.{◌≡◌, ◌<◌, ◌≤◌, ◌∙◌, ℕ, List, [], length, Option, Some, None, refl, subst, sym, arith}
 use Rattle.std.proofs.lemmas.Bool.{cases_order}
 use Rattle.std.specs.Prelude.{◌≢◌, Err, IfErr, IfSome, IsErrAnd, IsSome, Ok, OnOk, Result, option_map, ⊤}
 use mathlib.Core.Logic.{◌⊎◌, inl, inr}
-use Rattle.fz_outside.specs.Faults.{HasCause, HasRisen}
+use Rattle.fz_outside.specs.Faults.{HasCause}
 use Rattle.outside_disks.specs.Disks.{Shown, Trace, seen_of}
-use Rattle.outside_disks.specs.Stored.{ATwinRose, HasCountRisen, Stored, Twins, one_stored, two_stored}
+use Rattle.outside_disks.specs.Stored.{EachTwin, HasCountRisen, Stored, Twins, one_stored, two_stored}
 use Rattle.journal_records.specs.declared.records.Header.{Header}
 use Rattle.budget_journal.specs.Journals.{IsAtRest, TellsSome}
-use Rattle.budget_ledger.specs.Both.{HasMade, HoldsBytes, IsBothInitFault, IsUntouched}
+use Rattle.budget_ledger.specs.Both.{HasMade, IsBothInitFault, IsUntouched}
 use Rattle.budget_journal.specs.declared.making.InitFault.{InitFault}
 use Rattle.budget_journal.specs.declared.making.InitFault.TheVariants.{AlreadyThere, DiskFault}
 use Rattle.catalog_loading.specs.Loaded.{Loading, new_header, owner_name_at, owners_in}
-use Rattle.outside_disks.specs.Stored.{EachTwin}
 use Rattle.owner_books.specs.Shelves.{BothGo, EachDisk, IsStanding, NoOtherRose, OneStands, Shelf, StandsStill}
-use Rattle.owner_books.specs.Making.{AreMadeBefore, AreUntouched, IsMade, IsMakeStop, IsNotMade, IsThere, IsTwinMade, IsTwinThere, IsUnmade, IsUnmadeStop, MayHaveFailed, Turned}
+use Rattle.owner_books.specs.Making.{AreMadeBefore, AreUntouched, IsMade, IsMakeStop, IsNotMade, IsThere, IsTwinMade, IsUnmade, IsUnmadeStop, MayHaveFailed, Turned}
 use Rattle.owner_books.proofs.Disks.{same_still}
 use Rattle.catalog_loading.specs.declared.stops.Stop.{Stop}
 use Rattle.catalog_loading.specs.declared.stops.Stop.TheVariants.{Journal, Disk, NoMemory}

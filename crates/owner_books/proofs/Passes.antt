@@ -6,14 +6,13 @@ use Rattle.std.proofs.lemmas.Bool.{cases_eq, cases_lt}
 use Rattle.std.proofs.Math.ListN.{get_or-append}
 use Rattle.std.proofs.Math.Seq.{get_or-append_seam}
 use Rattle.outside_disks.specs.Disks.{Trace, WhereTold}
-use Rattle.outside_disks.specs.Stored.{Stored, Twins, one_stored, two_stored}
+use Rattle.outside_disks.specs.Stored.{Stored, Twins}
 use Rattle.outside_bays.specs.Bays.{Changes}
 use Rattle.journal_records.specs.declared.records.Header.{Header}
 use Rattle.journal_records.specs.declared.records.Record.{Record}
 use Rattle.budget_journal.specs.Journals.{Found, MayHaveSynced}
 use Rattle.budget_core.specs.Entries.{Entry}
 use Rattle.budget_ledger.specs.Account.{Account, IsBook, Storage, stored_by}
-use Rattle.budget_ledger.specs.Both.{IsOpenedBoth}
 use Rattle.owner_desk.specs.Passes.{Pass}
 use Rattle.owner_desk.specs.Shared.{Shared}
 use Rattle.session_core.specs.Bundles.{bundle_of}

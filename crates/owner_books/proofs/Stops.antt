@@ -1,5 +1,5 @@
 -- why not all books were opened
-use Rattle.std.proofs.Common.{◌≡◌, ℕ, ◌<◌, List, Option, Some, None, refl, sym, ◌∙◌, ap, subst}
+use Rattle.std.proofs.Common.{◌≡◌, ℕ, ◌<◌, List, Option, Some, None, refl, sym, ap, subst}
 use Rattle.std.specs.Prelude.{IfSome, Vec, Result, Err, option_map}
 use Rattle.std.specs.declared.alloc.Global.{Global}
 use mathlib.Core.Logic.{inl, inr}
@@ -8,12 +8,11 @@ use Rattle.outside_disks.specs.Stored.{Stored, Twins, one_stored, two_stored}
 use Rattle.journal_records.specs.declared.records.Header.{Header}
 use Rattle.journal_records.specs.declared.records.Record.{Record}
 use Rattle.budget_journal.specs.Journals.{Found, Stands}
-use Rattle.budget_journal.specs.declared.opening.OpenFault.{OpenFault}
 use Rattle.budget_journal.specs.declared.opening.OpenFault.TheVariants as open_fault
 use Rattle.budget_core.specs.Entries.{Entry}
 use Rattle.budget_core.specs.Ledger.{Ledger}
 use Rattle.budget_core.specs.Legal.{IsHistory}
-use Rattle.budget_ledger.specs.Account.{Account, Copies, IsBook, Storage}
+use Rattle.budget_ledger.specs.Account.{Account, IsBook, Storage}
 use Rattle.budget_ledger.specs.Both.{IsBothFault, IsOpenedBoth}
 use Rattle.budget_ledger.specs.Opened.{IsBookFault}
 use Rattle.budget_ledger.specs.declared.both.BothFault.{BothFault}
@@ -164,11 +163,6 @@ faulted name (both_fault.Refused (open_fault.Changed kept found)) line is = absu
 faulted name (both_fault.Refused (open_fault.Damaged slot)) line is = absurd is
 faulted name (both_fault.Forked slot) line is = absurd is
 faulted name both_fault.VersionsDiffer line is = absurd is
-
--- what is said of a told disk
-pub told_shown : (P : List ℕ → Type 0) (trace : Option Trace) → ((t : Trace) → trace ≡ Some t → P (seen_of t)) → IfSome (option_map seen_of trace) P
-told_shown P None p = tt
-told_shown P (Some t) p = p t refl
 
 -- ---- a book that is opened
 

@@ -1,19 +1,19 @@
 -- a book that was just opened on two disks
-use Rattle.std.proofs.Common.{◌≡◌, ℕ, ◌≤◌, List, [], ◌∷◌, ◌++◌, Bool, true, false, Option, Some, None, refl, sym, ◌∙◌, ap, subst, arith}
+use Rattle.std.proofs.Common.{◌≡◌, ℕ, ◌≤◌, List, [], ◌∷◌, ◌++◌, true, false, Option, Some, None, refl, sym, ◌∙◌, ap, subst, arith}
 use Rattle.std.specs.Prelude.{IfSome}
 use mathlib.Core.List.{IsPrefix}
 use mathlib.Core.Logic.{◌⊎◌, inl, inr}
 use Rattle.fz_outside.specs.Faults.{HasRisen}
 use Rattle.outside_disks.specs.Disks.{IsImageOf, Passes, Shown, Trace, WhereTold, noted, seen_of}
 use Rattle.outside_disks.specs.Disks.Step.{Synced}
-use Rattle.outside_disks.specs.Stored.{Stored, Twins, one_stored, two_stored}
+use Rattle.outside_disks.specs.Stored.{Twins, one_stored, two_stored}
 use Rattle.outside_disks.proofs.Images.{passes-weaker}
 use Rattle.journal_records.specs.declared.records.Header.{Header}
 use Rattle.journal_records.specs.declared.records.Record.{Record}
 use Rattle.budget_journal.specs.Journals.{Found, IsAtRest, Stands}
 use Rattle.budget_core.specs.Entries.{Entry}
 use Rattle.budget_core.specs.Ledger.{Ledger}
-use Rattle.budget_ledger.specs.Account.{Account, AreCopies, Copies, Copy, CopyWent, CopyWentBy, EachCopyWent, HasPassed, Held, HeldWent, IsBook, IsCopy, IsHeldCopy, IsInUse, IsKeptNow, IsMoment, Storage, Went, stored_by, stored_with}
+use Rattle.budget_ledger.specs.Account.{Account, AreCopies, Copies, Copy, CopyWentBy, EachCopyWent, HasPassed, Held, HeldWent, IsBook, IsCopy, IsHeldCopy, IsInUse, IsKeptNow, IsMoment, Storage, Went, stored_by, stored_with}
 use Rattle.budget_ledger.specs.declared.failure.Failure.{Failure}
 use Rattle.budget_ledger.specs.Both.{HoldsBytes, IsOpenedBoth, IsOpenedCopy, IsReading, Make, Reading}
 use Rattle.budget_ledger.specs.Both.Reading.{Holding, Missing, Unfit}
@@ -250,14 +250,6 @@ CountsStay before after = BothGo (λ b a. (b.first.faults ≤ a.first.faults) ×
 pub counts_same : (twins : Option Twins) → CountsStay twins twins
 counts_same None = tt
 counts_same (Some twins) = (omega arith, omega arith)
-
-pub counts_then : (before mid after : Option Twins) → CountsStay before mid → CountsStay mid after → CountsStay before after
-counts_then None None None p q = tt
-counts_then None None (Some c) p q = absurd q
-counts_then None (Some b) after p q = absurd p
-counts_then (Some a) None after p q = absurd p
-counts_then (Some a) (Some b) None p q = absurd q
-counts_then (Some a) (Some b) (Some c) p q = (omega (arith, p.0, q.0), omega (arith, p.1, q.1))
 
 copy_later : (before after : Shown) (was is : Option Held) → CopyWentBy before after was is → before.faults ≤ after.faults
 copy_later before after None None went = omega (arith, ap (λ (s : Shown). s.faults) went)
