@@ -30,7 +30,7 @@ use Rattle.catalog_loading.specs.Loaded.{Loading, entry_at, entry_in, header_in,
 use Rattle.std.proofs.Math.Seq.{take-length}
 use Rattle.owner_books.specs.Books.{LeftDisk}
 use Rattle.catalog_loading.specs.declared.stops.Stop.{Stop}
-use Rattle.owner_books.proofs.Disks.{before_last, risen_from}
+use Rattle.owner_books.proofs.Disks.{before_last, risen_from, synced_same}
 use Rattle.query_server.proofs.Home.{some_of}
 
 -- what is so of a stop is so where it is passed on
@@ -204,6 +204,17 @@ one_left o old mid new before left = record {
     here p shown less at (inr isnt) =
         let after = before.owned p shown (before_last p o less isnt) at in
         (after.0, left.elsewhere p isnt ∙ after.1, after.2)
+
+-- more disks, which are as they were
+pub more_left : (n m : ℕ) (old new : Shelf) → n ≤ m → EachDisk n (λ _. IsOnlySynced) old new → EachDisk m (λ _. IsOnlySynced) old new
+more_left n m old new few each = record {
+  owned = λ p shown less at. here p shown at (cases_lt p n);
+  others = λ p past. each.others p (omega (arith, past, few));
+}
+  where
+    here : (p : ℕ) (shown : Stored) → old p ≡ Some shown → (p < n) ⊎ (n ≤ p) → (after : Stored) × (new p ≡ Some after) × IsOnlySynced shown after
+    here p shown at (inl less) = each.owned p shown less at
+    here p shown at (inr past) = (shown, each.others p past ∙ at, synced_same shown)
 
 -- one disk more whose count stands still
 pub still_elsewhere : (o : ℕ) (old mid new : Shelf) → ((p : ℕ) → StandsStill p old mid) → LeftDisk o mid new → NoOtherRose o old new

@@ -1,11 +1,11 @@
-use Rattle.std.proofs.Common.{◌≡◌, ◌∙◌, ◌<◌, [], refl, sym, ap, rules, arith}
+use Rattle.std.proofs.Common.{◌≡◌, ◌∙◌, ◌+◌, ◌<◌, ◌≤◌, [], refl, sym, ap, rules, arith}
 use Rattle.std.specs.Prelude.{Err}
 use Rattle.owner_catalog.specs.Entries.{OwnerEntry}
 use Rattle.catalog_loading.specs.Loaded.{entry_in, header_in, owners_in}
 use Rattle.owner_books.specs.Opened.{IsOpened}
 use Rattle.owner_books.specs.Books.{IsOpenStop}
 use Rattle.owner_books.proofs.Disks.{same_still}
-use Rattle.query_server.proofs.Counted.{all_counted, counted_on, none_counted, one_counted, one_left, one_still, lost_since, opened_as, rose_since, still_elsewhere, stop_passed}
+use Rattle.query_server.proofs.Counted.{all_counted, counted_on, none_counted, one_counted, one_left, one_still, lost_since, more_left, opened_as, rose_since, still_elsewhere, stop_passed}
 use Rattle.query_server.proofs.Ran.{passed_disk}
 use Rattle.owner_books.proofs.Stops.{book_stopped}
 use Rattle.query_server.proofs.audit.count_all.Goals as goal
@@ -48,6 +48,13 @@ returns-in_err-count_owner-clause-disk g c line is =
     rose_since c.loop-owner.owner (g.B.Bay.shelf c.args.bay.now) (g.B.Bay.shelf c.loop-owner.bay) (g.B.Bay.shelf c.count_owner.new.bay)
     (g.B.Bay.faults c.args.bay.now) (g.B.Bay.faults c.loop-owner.bay) (g.B.Bay.faults c.count_owner.new.bay) c.loop-owner.invariant.faults c.in_err-count_owner.ensures.bay.1
     (λ p less. (c.requires.home p (omega (arith, less, few))).1) c.loop-owner.invariant.disks c.in_err-count_owner.ensures.left (c.in_err-count_owner.ensures.cause line (ap Err same))
+
+pub returns-in_err-count_owner-clause-disks : goal.returns-in_err-count_owner-clause-disks
+returns-in_err-count_owner-clause-disks g c =
+    let o = c.loop-owner.owner in
+    let within : o + 1 ≤ owners_in c.args.opened.now.loading = omega (arith, c.loop-owner-test.true, c.len-owner-end.ensures, c.in_ok-headers.ensures.count) in
+    more_left (o + 1) (owners_in c.args.opened.now.loading) (g.B.Bay.shelf c.args.bay.now) (g.B.Bay.shelf c.count_owner.new.bay) within
+    (one_left o (g.B.Bay.shelf c.args.bay.now) (g.B.Bay.shelf c.loop-owner.bay) (g.B.Bay.shelf c.count_owner.new.bay) c.loop-owner.invariant.disks c.in_err-count_owner.ensures.left)
 
 abbrev no_owner : OwnerEntry
 no_owner = record { name = []; budget = 0; capacity = 0; tables = []; partitions = []; limits = []; text = [] }

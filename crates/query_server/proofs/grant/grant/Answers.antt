@@ -88,9 +88,3 @@ returns-clause-lost g c = λ line is_disk.
     inr (granted_lost one c.args.amount version old mid new book later is took back c.grant_over-end.ensures.went c.grant_over-end.ensures.kept c.grant_over-end.result line
     (c.requires.home one.number (omega (arith, lawful.known, lawful.catalog.few_owners))).1 is_disk
     (subst (λ (n : List ℕ). IsGrantEnd book n c.args.amount c.grant_over-end.result later) c.name-2.ensures c.grant_over-end.ensures.end))
-
--- The owner's disk is one of those that the bay has.
-pub open_on-requires-clause-known : goal.open_on-requires-clause-known
-open_on-requires-clause-known g c κs _ =
-    let one = c.number-owner.ensures.lawful in
-    (c.requires.home c.number-owner.result (omega (arith, c.number-owner.ensures.number, one.known, one.catalog.few_owners))).0
