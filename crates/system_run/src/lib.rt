@@ -61,7 +61,7 @@ fn mirrors_for(words: &[String]) -> Option<&'static str>
 }
 
 // The bay of the journals. Each is kept on two disks where a word says so.
-#[tactic(auto, using(crate::proofs::Homes::homes_as_said, crate::proofs::Homes::twins_as_said))]
+#[tactic(auto, using(crate::proofs::Homes::homes_as_said))]
 fn bay_for<'a>(
     rt: &'a HostRuntime,
     alloc: Global,
