@@ -1,15 +1,14 @@
 -- worked examples of an owner's two disks through a run
-use Rattle.std.proofs.Common.{◌≡◌, ℕ, ◌<◌, ◌≤◌, List, [], ◌∷◌, true, false, Option, Some, None, refl, sym, ◌∙◌, ap, subst, arith}
+use Rattle.std.proofs.Common.{◌≡◌, ℕ, ◌<◌, [], ◌∷◌, Some, None, refl, sym, ◌∙◌, ap, subst, arith}
 use mathlib.Core.Logic.{◌⊎◌, inl, inr}
 use mathlib.Core.List.{IsPrefix}
-use Rattle.fz_outside.specs.Faults.{HasRisen}
 use Rattle.outside_disks.specs.Disks.{Shown}
 use Rattle.outside_disks.specs.Stored.{Twins}
 use Rattle.journal_records.specs.declared.records.Header.{Header}
 use Rattle.journal_records.specs.declared.records.Record.{Record}
-use Rattle.budget_ledger.specs.Account.{AreCopies, Copies, Copy, Held, HeldWent, IsInUse}
+use Rattle.budget_ledger.specs.Account.{AreCopies, Copies, Copy, Held, IsInUse}
 use Rattle.budget_ledger.specs.Both.{Make}
-use Rattle.budget_ledger.specs.Both.Reading.{Missing, Holding}
+use Rattle.budget_ledger.specs.Both.Reading.{Holding}
 use Rattle.budget_ledger.specs.declared.failure.Failure.{Failure}
 use Rattle.query_server.specs.Enough.{IsSound}
 use Rattle.query_server.specs.Mirrors.{BothWentOn, TwinsWentOn, storage_on}
@@ -26,11 +25,20 @@ module _ (common : Header) (r : Record) where
   header = record common { version = 3 }
 
   -- a disk that had no records fell as this one was appended, or has it
+  abbrev failed : Failure
+  failed = record { failed_at = 1; pending = r }
+
+  abbrev with_none : Held
+  with_none = record { header = header; has = []; closed = Some failed }
+
+  abbrev with_it : Held
+  with_it = record { header = header; has = r ∷ []; closed = None }
+
   abbrev fallen : Copy
-  fallen = record { shown = untold 1; held = Some (record { header = header; has = []; closed = Some (record { failed_at = 1; pending = r }) }) }
+  fallen = record { shown = untold 1; held = Some with_none }
 
   abbrev whole : Copy
-  whole = record { shown = untold 0; held = Some (record { header = header; has = r ∷ []; closed = None }) }
+  whole = record { shown = untold 0; held = Some with_it }
 
   abbrev fell : Copies
   fell = record { first = fallen; second = whole }
@@ -51,7 +59,7 @@ module _ (common : Header) (r : Record) where
         counts = omega arith;
         shut = λ failure is. absurd (cc is);
         «open» = λ is. absurd (cc is);
-        failed = λ failure none is. (λ low. omega arith, (let same : record { failed_at = 1; pending = r } ≡ failure = cc is in ap (λ (f : Failure). f.failed_at) (sym same)));
+        failed = λ failure none is. (λ low. omega arith, (let same : failed ≡ failure = cc is in ap (λ (f : Failure). f.failed_at) (sym same)));
       },
     );
     on_second = (
@@ -75,8 +83,8 @@ module _ (common : Header) (r : Record) where
         begins = (r ∷ [], refl);
         whole = λ is. absurd (cc is);
         kept = tt;
-        failed = λ failure is. (let same : record { failed_at = 1; pending = r } ≡ failure = cc is in ap (λ (f : Failure). f.failed_at) (sym same));
-        follows = λ failure is. (let same : record { failed_at = 1; pending = r } ≡ failure = cc is in subst (λ (f : Failure). IsPrefix (f.pending ∷ []) (r ∷ [])) same ([], refl));
+        failed = λ failure is. (let same : failed ≡ failure = cc is in ap (λ (f : Failure). f.failed_at) (sym same));
+        follows = λ failure is. (let same : failed ≡ failure = cc is in subst (λ (f : Failure). IsPrefix (f.pending ∷ []) (r ∷ [])) same ([], refl));
       };
       second = record {
         header = refl;
@@ -86,7 +94,7 @@ module _ (common : Header) (r : Record) where
         failed = λ failure is. absurd (cc is);
         follows = λ failure is. absurd (cc is);
       };
-      in_use = λ is. inr (record { header = header; has = r ∷ []; closed = None }, refl, refl);
+      in_use = λ is. inr (with_it, refl, refl);
       out = λ failure is. absurd (cc is);
       shut = λ failure is. absurd (cc is);
     };
@@ -102,15 +110,15 @@ module _ (common : Header) (r : Record) where
 
   -- A book isn't closed while one disk is in use, nor open where none is.
   not_closed : (failure : Failure) → AreCopies (r ∷ []) (storage_on header (Some failure) fell) fell → ⊥
-  not_closed failure kept = (kept.out failure refl).1 (record { header = header; has = r ∷ []; closed = None }, refl, refl)
+  not_closed failure kept = (kept.out failure refl).1 (with_it, refl, refl)
 
   not_open : AreCopies [] (storage_on header None (record { first = fallen; second = fallen })) (record { first = fallen; second = fallen }) → ⊥
   not_open kept = none (kept.in_use refl)
     where
       used : IsInUse fallen → ⊥
       used (held, is, unclosed) =
-          let same : record { header = header; has = []; closed = Some (record { failed_at = 1; pending = r }) } ≡ held = cc is in
-          let shut : Some (record { failed_at = 1; pending = r }) ≡ None = ap (λ (h : Held). h.closed) same ∙ unclosed in
+          let same : with_none ≡ held = cc is in
+          let shut : Some failed ≡ None = ap (λ (h : Held). h.closed) same ∙ unclosed in
           cc shut
 
       none : IsInUse fallen ⊎ IsInUse fallen → ⊥
