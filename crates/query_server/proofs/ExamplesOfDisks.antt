@@ -282,8 +282,8 @@ untouched (Some twins) = (record { same = refl; later = omega arith }, first twi
     first None = tt
     first (Some t) = record { same = refl; later = omega arith }
 
-not_made : (before : Stored) → IsNotMade before before
-not_made before = record { synced = inl refl; counts = omega arith; twins = untouched before.twins }
+left_unmade : (before : Stored) → IsNotMade before before
+left_unmade before = record { synced = inl refl; counts = omega arith; twins = untouched before.twins }
 
 -- One byte on the first owner's disk is enough: its journal isn't made, nor is the second's.
 one_byte : IsExistingDue loading key (shelf_with (7 ∷ [])) (shelf_with (7 ∷ [])) JournalRefused (codes "journal census exists 1\n")
@@ -296,7 +296,7 @@ one_byte = record {
   long = (refl, tt);
   is_status = refl;
   is_text = refl;
-  disks = record { made = λ p before lt. absurd (omega (arith, lt)); here = λ before is. (before, is, not_made before); behind = λ p lt. refl };
+  disks = record { made = λ p before lt. absurd (omega (arith, lt)); here = λ before is. (before, is, left_unmade before); behind = λ p lt. refl };
 }
 
 no_byte : (new : Shelf) (status : Status) (text : List ℕ) (due : IsExistingDue loading key (shelf_with []) new status text) → due.o ≡ 0 → ⊥

@@ -1,5 +1,5 @@
 -- worked examples of grants: their lines, verdicts and statuses, what they end with and leave, and the line of an audit behind one
-use Rattle.std.proofs.Common.{◌≡◌, ℕ, List, [], ◌∷◌, ◌++◌, length, length-append, Some, refl, sym, ap, subst, arith}
+use Rattle.std.proofs.Common.{◌≡◌, ℕ, List, [], ◌∷◌, ◌++◌, length, length-append, None, Some, refl, sym, ap, subst, arith}
 use Rattle.std.specs.Prelude.{Ok, Err, codes, ⊤}
 use Rattle.std.specs.Fmt.{digits}
 use mathlib.Core.Logic.{inl, inr}

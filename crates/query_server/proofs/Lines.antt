@@ -39,7 +39,7 @@ lines_services words before after status text line service held files =
     let left : ReadsToCome → List ℕ → Type 0 = λ reads script. IsServiceLeft words reads before.bay.shelf after.bay.shelf before.doors after.doors status before.sink.faults after.sink.faults in
     let some = at_held held before.files.held before.source.left comes files line.1 in
     let served = at_held held before.files.held before.source.left left files service in
-    (some.0, (some.1.0, (some.1.1, served.1)))
+    (some.0, some.1.0, some.1.1, served.1)
 
 -- the same, as the clauses of a call say it
 pub line_told : (words : List (List ℕ)) (told : Contents) (script written : List ℕ) (held : Option Contents) (left contents now : Option (List ℕ)) (old new : List (List ℕ)) (b a : Shelf) (status : Status) (text : List ℕ)
