@@ -48,7 +48,7 @@ work_together-requires-sync-F g c κs within =
     let stands = stands_ghosts D g.D.Disk no_stands_dict in
     let locks = locks_ghosts D g.D.Disk no_locks_dict in
     let lock = owned_row (guarded_row D g.D.Disk) noted_row (book_row D g.D.Disk) stands in
-    let name = lts.name-35 g.row.R g.row.D g.row.G g.row.O g.row.O-L g.R.laws g.D.laws g.G.laws g.O.laws g.O.L.laws g.R.Threads g.R.Threads-dict g.R.Wait g.R.Wait-dict g.D.Disk g.D.Disk-dict g.G.Gate g.G.Gate-dict g.O.Doors g.O.Doors-dict g.O.L.Link g.O.L.Link-dict g.O.Destruct-dict g.O.L.Destruct-dict in
+    let name = lts.name-38 g.row.R g.row.D g.row.G g.row.O g.row.O-L g.R.laws g.D.laws g.G.laws g.O.laws g.O.L.laws g.R.Threads g.R.Threads-dict g.R.Wait g.R.Wait-dict g.D.Disk g.D.Disk-dict g.G.Gate g.G.Gate-dict g.O.Doors g.O.Doors-dict g.O.L.Link g.O.L.Link-dict g.O.Destruct-dict g.O.L.Destruct-dict in
     let fields = lts.of-18 g.row.R g.row.D g.row.G g.row.O g.row.O-L g.R.laws g.D.laws g.G.laws g.O.laws g.O.L.laws g.R.Threads g.R.Threads-dict g.R.Wait g.R.Wait-dict g.D.Disk g.D.Disk-dict g.G.Gate g.G.Gate-dict g.O.Doors g.O.Doors-dict g.O.L.Link g.O.L.Link-dict g.O.Destruct-dict g.O.L.Destruct-dict
     (record { mir = named 5; lft = κs.1.1.1.1.1.0 }) (record { mir = named 6; lft = κs.1.1.1.1.1.1.0 }) (record { mir = named 7; lft = κs.1.1.1.1.1.1.1.0 }) (record { mir = named 8; lft = κs.1.1.1.1.1.1.1.1.0 }) (record { mir = named 9; lft = κs.1.1.1.1.1.1.1.1.1.0 }) (record { mir = named 10; lft = κs.1.1.1.1.1.1.1.1.1.1.0 }) (record { mir = named 11; lft = κs.1.1.1.1.1.1.1.1.1.1.1.0 }) (record { mir = named 12; lft = κs.1.1.1.1.1.1.1.1.1.1.1.1.0 }) (record { mir = named 13; lft = κs.1.1.1.1.1.1.1.1.1.1.1.1.1.0 }) in
     let job = type_at name fields in
