@@ -100,7 +100,11 @@ pub fn ask_and_settle<D: Disk>(book: &mut Book<D>) -> Result<Result<u32, AppendF
 // The disk of a book, or the first of two.
 fn disk_of<D: Disk + Drop>(book: Book<D>) -> D {
     match book.into_disks() {
-        Disks::One(disk) | Disks::Both(disk, _) => disk,
+        Disks::One(disk) => disk,
+        Disks::Both(disk, other) => {
+            drop(other);
+            disk
+        }
     }
 }
 
