@@ -148,7 +148,8 @@ fn two_files_of_the_system(rt: HostRuntime) -> Result<(), Fail> {
     bay.put_back(0, Disks::Both(first, second));
     assert!(rt; fs::metadata(&rt, "outside_bays_two/0.bud")?.len() == 3);
     assert!(rt; fs::metadata(&rt, "outside_bays_mirrors/0.bud")?.len() == 1);
-    let (mut first, mut second) = both(bay.take(1).ok().expect(&rt, "disks")).expect(
+    let mut next = RealBay::new(rt.alloc(), &rt, "outside_bays_two", mirrors, 2)?;
+    let (mut first, mut second) = both(next.take(1).ok().expect(&rt, "disks")).expect(
         &rt,
         "two disks",
     );
