@@ -4,31 +4,16 @@ ghost use Rattle.fz_ast.specs.Limits.{IsNumber};
 ghost use Rattle.fz_ast.specs.Types.{BangT, NumT};
 ghost use Rattle.fz_frac.specs.Distance.{Fin};
 
+use crate::columns::people;
 use fz_ast::{NoMemory, Ty, TypeForm, Types};
 use fz_frac::Sens;
-use metric_values::{Column, Table, Tables, Texts};
+use metric_values::{Table, Tables};
 use run_values::Value;
 use std::alloc::Global;
-use std::test::Fail;
 use value_distance::{Dist, DistFault, bag_distance, distance, table_apart, tables_apart};
 
 fn numbers(alloc: Global, cells: &[i64]) -> Result<Table, NoMemory> {
     Table::numbers(alloc, Vec::from_slice(alloc, cells)?)
-}
-
-fn people(alloc: Global, ages: [i64; 2], town: &[u8]) -> Result<Table, NoMemory> {
-    let mut towns = Texts::new(alloc);
-    towns.push(town)?;
-    towns.push(b"oslo")?;
-    let mut numbers = Vec::new(alloc);
-    numbers.extend_from_slice(&ages)?;
-    let mut columns = Vec::new(alloc);
-    if columns.push(Column::Numbers(numbers)).is_err()
-        || columns.push(Column::Texts(towns)).is_err()
-    {
-        return Err(NoMemory);
-    }
-    Table::new(alloc, columns)
 }
 
 const MOST: i64 = 1 << 50;
@@ -43,51 +28,71 @@ const WORKED: [(&[i64], &[i64], u64); 5] = [
 ];
 
 // How far two tables of numbers are apart, from either side.
-fn numbers_apart(alloc: Global, left: &[i64], right: &[i64]) -> Option<(u64, u64)> {
-    let x = numbers(alloc, left).ok()?;
-    let y = numbers(alloc, right).ok()?;
-    let there = table_apart(alloc, &x, &y).ok()?;
-    Some((there, table_apart(alloc, &y, &x).ok()?))
+fn numbers_apart(alloc: Global, left: &[i64], right: &[i64]) -> Result<(u64, u64), NoMemory> {
+    let x = numbers(alloc, left)?;
+    let y = numbers(alloc, right)?;
+    Ok((table_apart(alloc, &x, &y)?, table_apart(alloc, &y, &x)?))
+}
+
+fn are_apart(alloc: Global, rows: &[(&[i64], &[i64], u64)]) -> bool {
+    for (left, right, apart) in rows {
+        if numbers_apart(alloc, left, right) != Ok((*apart, *apart)) {
+            return false;
+        }
+    }
+    true
+}
+
+fn numbers_are_apart(alloc: Global) -> bool {
+    are_apart(alloc, &WORKED)
 }
 
 #[test]
 fn tables_of_numbers(rt: HostRuntime) {
-    for (left, right, apart) in &WORKED {
-        let found = numbers_apart(rt.alloc(), left, right);
-        assert!(rt; found == Some((*apart, *apart)));
-    }
+    assert!(rt; numbers_are_apart(rt.alloc()));
+}
+
+fn people_apart(alloc: Global) -> Result<u64, NoMemory> {
+    let x = people(alloc, &[30, 41], &[b"ny", b"oslo"])?;
+    let y = people(alloc, &[41, 30], &[b"oslo", b"oslo"])?;
+    table_apart(alloc, &x, &y)
 }
 
 #[test]
-fn tables_of_people(rt: HostRuntime) -> Result<(), Fail> {
-    let alloc = rt.alloc();
-    let x = people(alloc, [30, 41], b"ny")?;
-    let y = people(alloc, [41, 30], b"oslo")?;
-    assert!(rt; table_apart(alloc, &x, &y) == Ok(2));
-    Ok(())
+fn tables_of_people(rt: HostRuntime) {
+    assert!(rt; people_apart(rt.alloc()) == Ok(2));
+}
+
+fn dataset(alloc: Global, first: &[i64], second: &[i64]) -> Result<Tables, NoMemory> {
+    let mut tables = Tables::new(alloc);
+    tables.push(numbers(alloc, first)?)?;
+    tables.push(numbers(alloc, second)?)?;
+    Ok(tables)
+}
+
+fn datasets_apart(alloc: Global) -> Result<u64, NoMemory> {
+    let x = dataset(alloc, &[1, 2], &[5])?;
+    let y = dataset(alloc, &[2, 2], &[])?;
+    tables_apart(alloc, &x, &y)
 }
 
 #[test]
-fn datasets(rt: HostRuntime) -> Result<(), Fail> {
-    let alloc = rt.alloc();
-    let (mut x, mut y) = (Tables::new(alloc), Tables::new(alloc));
-    x.push(numbers(alloc, &[1, 2])?)?;
-    y.push(numbers(alloc, &[2, 2])?)?;
-    x.push(numbers(alloc, &[5])?)?;
-    y.push(numbers(alloc, &[])?)?;
-    assert!(rt; tables_apart(alloc, &x, &y)? == 3);
-    Ok(())
+fn datasets(rt: HostRuntime) {
+    assert!(rt; datasets_apart(rt.alloc()) == Ok(3));
 }
 
-#[test]
-fn bags(rt: HostRuntime) -> Result<(), Fail> {
-    let alloc = rt.alloc();
+// A number beside a scaled one and a truth value, and beside two scaled ones.
+fn bags_apart(alloc: Global) -> Result<u64, NoMemory> {
     let two = Value::bang(alloc, Value::num(2))?;
-    let left = vec![in alloc; two.copy()?, Value::truth(true)]?;
-    let right = vec![in alloc; Value::num(2), two.copy()?, two]?;
-    assert!(rt; bag_distance(alloc, left.as_slice(), right.as_slice())? == 3);
+    let left = [two.copy()?, Value::truth(true)];
+    let right = [Value::num(2), two.copy()?, two];
+    bag_distance(alloc, &left, &right)
+}
+
+#[test]
+fn bags(rt: HostRuntime) {
+    assert!(rt; bags_apart(rt.alloc()) == Ok(3));
     assert!(rt; Dist::whole(1 << 63) == None);
-    Ok(())
 }
 
 #[tactic(auto, using(fz_frac::proofs::Lowest::gcd_one), unfolding(fz_ast::specs::TypeNodes::type_at))]

@@ -9,7 +9,6 @@ use owner_catalog::{Catalog, read};
 use part_views::Dataset;
 use partition_charge::view::View;
 use std::alloc::{AllocError, Global};
-use std::test::Fail;
 use table_store::load;
 
 const CATALOG: &[u8] =
@@ -126,63 +125,100 @@ fn has_ages(table: Option<&Table>, ages: &[i64]) -> bool {
     true
 }
 
-#[test]
-fn parts_of_two_partitions(rt: HostRuntime) -> Result<(), Fail> {
-    let alloc = rt.alloc();
-    let Ok(catalog) = read(alloc, CATALOG) else {
-        assert!(rt; false);
-        return Ok(());
-    };
+// The first owner's dataset of this file.
+fn dataset_of(alloc: Global, catalog: &Catalog, file: &[u8]) -> Option<Dataset>
+    ensures { IfSome result (λ dataset. dataset.partitions ≡ (owner_entry_at catalog.now 0).partitions) }
+{
     let _ = catalog.owners();
-    let Some(tables) = loaded(alloc, &catalog, 0, PEOPLE) else {
-        assert!(rt; false);
-        return Ok(());
-    };
-    let Ok(dataset) = Dataset::new(alloc, &catalog, 0, tables) else {
-        assert!(rt; false);
-        return Ok(());
-    };
-    assert!(rt; has_ages(shown(&dataset, &catalog, 0, 0, 0), &[2]));
-    assert!(rt; has_ages(shown(&dataset, &catalog, 0, 0, 1), &[1, 4]));
-    assert!(rt; has_ages(shown(&dataset, &catalog, 0, 1, 0), &[3]));
-    assert!(rt; shown(&dataset, &catalog, 0, 1, 1).is_none());
-    assert!(rt; dataset.sig(View::Whole).len() == 1);
-    Ok(())
+    let tables = loaded(alloc, catalog, 0, file)?;
+    Dataset::new(alloc, catalog, 0, tables).ok()
+}
+
+// Whether the parts of two partitions show these ages.
+fn shows_two(catalog: &Catalog, dataset: &Dataset) -> bool
+    requires { dataset.now.partitions ≡ (owner_entry_at catalog.now 0).partitions }
+{
+    let _ = catalog.owners();
+    has_ages(shown(dataset, catalog, 0, 0, 0), &[2])
+        && has_ages(shown(dataset, catalog, 0, 0, 1), &[1, 4])
+        && has_ages(shown(dataset, catalog, 0, 1, 0), &[3])
+        && shown(dataset, catalog, 0, 1, 1).is_none()
+        && dataset.sig(View::Whole).len() == 1
+}
+
+fn has_two(alloc: Global, catalog: &Catalog) -> bool {
+    match dataset_of(alloc, catalog, PEOPLE) {
+        Some(dataset) => shows_two(catalog, &dataset),
+        None => false,
+    }
+}
+
+fn reads_two(alloc: Global) -> bool {
+    match read(alloc, CATALOG) {
+        Ok(catalog) => has_two(alloc, &catalog),
+        Err(_) => false,
+    }
 }
 
 #[test]
-fn parts_of_many_keys(rt: HostRuntime) -> Result<(), Fail> {
-    let alloc = rt.alloc();
-    let text = with_keys(alloc, 300)?;
-    let Ok(catalog) = read(alloc, text.as_bytes()) else {
-        assert!(rt; false);
-        return Ok(());
-    };
-    let _ = catalog.owners();
+fn parts_of_two_partitions(rt: HostRuntime) {
+    assert!(rt; reads_two(rt.alloc()));
+}
+
+// Rows of 290 keys, of which one has 700 more.
+fn many_rows(alloc: Global) -> Result<String, AllocError> {
     let mut rows = with_rows(alloc, 290)?;
     push_rows(&mut rows, 271, 700)?;
-    let Some(tables) = loaded(alloc, &catalog, 0, rows.as_bytes()) else {
-        assert!(rt; false);
-        return Ok(());
-    };
-    let Ok(dataset) = Dataset::new(alloc, &catalog, 0, tables) else {
-        assert!(rt; false);
-        return Ok(());
-    };
-    let many = ages_up_to(alloc, 271, 700)?;
+    Ok(rows)
+}
+
+// Whether the parts of 300 keys show these ages of key 271, and of the others one age or none; and the whole has each row.
+fn shows_many(catalog: &Catalog, dataset: &Dataset, many: &[i64]) -> bool
+    requires { dataset.now.partitions ≡ (owner_entry_at catalog.now 0).partitions }
+{
+    let _ = catalog.owners();
     for key in 0..300 {
         let age = [i64::from(key)];
         let ages = match key {
-            271 => many.as_slice(),
+            271 => many,
             0..=289 => age.as_slice(),
             _ => &[],
         };
-        assert!(rt; has_ages(shown(&dataset, &catalog, 0, 0, key), ages));
+        if !has_ages(shown(dataset, catalog, 0, 0, key), ages) {
+            return false;
+        }
     }
-    assert!(rt; shown(&dataset, &catalog, 0, 0, 300).is_none());
-    let whole = only_table(dataset.tables(View::Whole));
-    assert!(rt; whole.is_some_and(|table| table.len() == 1280));
-    Ok(())
+    shown(dataset, catalog, 0, 0, 300).is_none()
+        && has_length(only_table(dataset.tables(View::Whole)), 1280)
+}
+
+fn has_length(table: Option<&Table>, length: usize) -> bool {
+    match table {
+        Some(table) => table.len() == length,
+        None => false,
+    }
+}
+
+fn has_many(alloc: Global, catalog: &Catalog) -> Result<bool, AllocError> {
+    let rows = many_rows(alloc)?;
+    let many = ages_up_to(alloc, 271, 700)?;
+    match dataset_of(alloc, catalog, rows.as_bytes()) {
+        Some(dataset) => Ok(shows_many(catalog, &dataset, &many)),
+        None => Ok(false),
+    }
+}
+
+fn reads_many(alloc: Global) -> Result<bool, AllocError> {
+    let text = with_keys(alloc, 300)?;
+    match read(alloc, text.as_bytes()) {
+        Ok(catalog) => has_many(alloc, &catalog),
+        Err(_) => Ok(false),
+    }
+}
+
+#[test]
+fn parts_of_many_keys(rt: HostRuntime) {
+    assert!(rt; reads_many(rt.alloc()) == Ok(true));
 }
 
 // Whether each of 4,000 keys has its number and text, and the next is none.
@@ -205,10 +241,15 @@ fn has_keys(catalog: &Catalog) -> bool {
     numbers == (Some(0), Some(256), Some(3_999), None) && catalog.key_text(0, 0, 3_999) == "k3999"
 }
 
+fn reads_keys(alloc: Global) -> Result<bool, AllocError> {
+    let text = with_keys(alloc, 4_000)?;
+    match read(alloc, text.as_bytes()) {
+        Ok(catalog) => Ok(has_keys(&catalog)),
+        Err(_) => Ok(false),
+    }
+}
+
 #[test]
-fn last_key(rt: HostRuntime) -> Result<(), Fail> {
-    let text = with_keys(rt.alloc(), 4_000)?;
-    let catalog = read(rt.alloc(), text.as_bytes())?;
-    assert!(rt; has_keys(&catalog));
-    Ok(())
+fn last_key(rt: HostRuntime) {
+    assert!(rt; reads_keys(rt.alloc()) == Ok(true));
 }
