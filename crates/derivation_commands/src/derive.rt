@@ -4,7 +4,7 @@ ghost use Rattle.std.specs.Prelude.{◌≡◌, ◌≤◌, IfOk, IsErrOf};
 ghost use Rattle.fz_outside.specs.Faults.{HasRisen};
 ghost use Rattle.owner_house.specs.Names.{AreNames};
 ghost use Rattle.derivation_commands.specs.Task.{derive_steps};
-ghost use Rattle.derivation_commands.specs.Outcome.{IsDerived};
+ghost use Rattle.derivation_commands.specs.Outcome.{IsDeriveOutcome};
 ghost use Rattle.derivation_commands.specs.Ends.{EndsSo};
 ghost use Rattle.derivation_commands.specs.Held.{outcome_of};
 
@@ -13,14 +13,14 @@ use crate::lines::refusal_line;
 use crate::reading::{Subject, read_subject};
 use answer_path::check_program;
 use catalog_loading::Stop;
-use fz_derive::{DeriveFault, derive};
+use fz_derive::least::{DeriveFault, derive};
 use fz_outside::files::Files;
 use std::alloc::{AllocError, Global};
 
 /// The derivation of a program that is accepted.
 fn derive_subject(alloc: Global, subject: &Subject) -> Result<Ending, AllocError>
     requires { AreNames subject.now.tables }
-    ensures { IfOk result (λ ending. IsDerived subject.now.tables subject.now.program.items (outcome_of ending)) }
+    ensures { IfOk result (λ ending. IsDeriveOutcome subject.now.tables subject.now.program.items (outcome_of ending)) }
 {
     let accepted = match check_program(alloc, &subject.tables, &subject.program) {
         Ok(accepted) => accepted,

@@ -1,10 +1,11 @@
 //! A derivation is judged.
 
-ghost use Rattle.std.specs.Prelude.{◌≡◌, ◌≤◌, ◌^◌, IfOk, IsErrOf, OnOk, length};
+ghost use Rattle.std.specs.Prelude.{◌≡◌, ◌≤◌, IfOk, IsErrOf, OnOk, length};
 ghost use Rattle.fz_outside.specs.Faults.{HasCause, HasRisen};
 ghost use Rattle.catalog_loading.specs.Given.{IsStep};
+ghost use Rattle.fz_derive.specs.Written.{longest};
 ghost use Rattle.derivation_commands.specs.Task.{judge_steps};
-ghost use Rattle.derivation_commands.specs.Outcome.{IsJudged};
+ghost use Rattle.derivation_commands.specs.Outcome.{IsJudgeOutcome};
 ghost use Rattle.derivation_commands.specs.Ends.{EndsSo};
 ghost use Rattle.derivation_commands.specs.Held.{outcome_of, task_of};
 
@@ -13,7 +14,7 @@ use crate::lines::{fault_line, refusal_line, sensitivity_line};
 use crate::reading::{Subject, read_subject};
 use answer_path::read_program;
 use catalog_loading::{Stop, read_file};
-use fz_derive::{JudgeFault, judge};
+use fz_derive::judge::{JudgeFault, judge};
 use fz_frac::Sens;
 use fz_outside::files::Files;
 use std::alloc::{AllocError, Global};
@@ -27,8 +28,8 @@ pub(crate) struct Claim {
 
 /// The verdict on a derivation.
 fn judge_claim(alloc: Global, claim: &Claim) -> Result<Ending, AllocError>
-    requires { length claim.now.derivation.items ≤ 2 ^ 26 }
-    ensures { IfOk result (λ ending. IsJudged claim.now.subject.tables claim.now.subject.program.items claim.now.derivation.items (outcome_of ending)) }
+    requires { length claim.now.derivation.items ≤ longest }
+    ensures { IfOk result (λ ending. IsJudgeOutcome claim.now.subject.tables claim.now.subject.program.items claim.now.derivation.items (outcome_of ending)) }
 {
     let subject = &claim.subject;
     let term = match read_program(alloc, &subject.program) {
@@ -55,7 +56,7 @@ fn read_claim<F: Files>(
     derivation: &str,
 ) -> Result<Claim, Stop>
     ensures step { IsStep (F.held files.old) (F.names files.old) (F.names files.new) (judge_steps catalog.now owner.now file.now derivation.now) task_of result }
-    ensures short { IfOk result (λ claim. length claim.derivation.items ≤ 2 ^ 26) }
+    ensures short { IfOk result (λ claim. length claim.derivation.items ≤ longest) }
     ensures same { F.held files.new ≡ F.held files.old }
     ensures cause { HasCause (F.faults files.old) (F.faults files.new) (IsErrOf result Stop.Fault) }
     ensures passed { OnOk result (F.faults files.new ≡ F.faults files.old) }

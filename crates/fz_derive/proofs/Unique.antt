@@ -1,15 +1,18 @@
 -- Stands for the laws until they come.
-use Rattle.std.proofs.Common.{◌≡◌, ℕ, List, sym, ◌∙◌}
-use Rattle.std.specs.Prelude.{Result}
+use Rattle.std.proofs.Common.{◌≡◌, ℕ, List}
 use Rattle.fz_ast.specs.Signature.{Signature}
 use Rattle.fz_ast.specs.Terms.{Term}
 use Rattle.fz_frac.specs.Distance.{Distance}
-use Rattle.fz_derive.specs.Judged.{IsDerivationOf, JudgedAs}
+use Rattle.fz_derive.specs.Judged.{IsJudged, IsMisjudged}
 
-pub one_verdict : (ts : Signature) (e : Term) (w : List ℕ) (v u : Result Distance ℕ) → JudgedAs ts e w v → JudgedAs ts e w u → v ≡ u
-unfolding JudgedAs
-one_verdict ts e w v u first second = first ∙ sym second
+pub one_yes : (ts : Signature) (e : Term) (w : List ℕ) (r s : Distance) → IsJudged ts e w r → IsJudged ts e w s → r ≡ s
+unfolding IsJudged
+one_yes ts e w r s first second = absurd first
 
-pub one_derivation : (ts : Signature) (e : Term) (v u : List ℕ) → IsDerivationOf ts e v → IsDerivationOf ts e u → v ≡ u
-unfolding IsDerivationOf
-one_derivation ts e v u first second = first ∙ sym second
+pub yes_or_no : (ts : Signature) (e : Term) (w : List ℕ) (r : Distance) (k : ℕ) → IsJudged ts e w r → IsMisjudged ts e w k → ⊥
+unfolding IsJudged
+yes_or_no ts e w r k first second = first
+
+pub one_no : (ts : Signature) (e : Term) (w : List ℕ) (j k : ℕ) → IsMisjudged ts e w j → IsMisjudged ts e w k → j ≡ k
+unfolding IsMisjudged
+one_no ts e w j k first second = absurd first

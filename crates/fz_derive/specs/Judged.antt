@@ -1,13 +1,23 @@
 -- Stands for the definitions until they come: their names alone.
-use Rattle.std.specs.Prelude.{◌≡◌, ℕ, List, [], Result, Err}
+use Rattle.std.specs.Prelude.{ℕ, List, ⊤}
 use Rattle.fz_ast.specs.Signature.{Signature}
 use Rattle.fz_ast.specs.Terms.{Term}
 use Rattle.fz_frac.specs.Distance.{Distance}
+use Rattle.fz_derive.specs.declared.judge.JudgeFault.{JudgeFault}
+use Rattle.fz_derive.specs.declared.judge.JudgeFault.TheVariants as fault
 
--- a yes with R, or a no with a line
-unfoldable pub JudgedAs : Signature → Term → List ℕ → Result Distance ℕ → Type 0
-JudgedAs ts e bytes verdict = verdict ≡ Err 0
+abbrev pub Context : Type 0
+Context = Signature
 
--- the text of the least derivation
-unfoldable pub IsDerivationOf : Signature → Term → List ℕ → Type 0
-IsDerivationOf ts e text = text ≡ []
+unfoldable pub names_of : Signature → Context
+names_of ts = ts
+
+unfoldable pub IsJudged : Signature → Term → (bytes : List ℕ) → (r : Distance) → Type 0
+IsJudged ts e bytes r = ⊥
+
+unfoldable pub IsMisjudged : Signature → Term → (bytes : List ℕ) → (k : ℕ) → Type 0
+IsMisjudged ts e bytes k = ⊥
+
+abbrev pub ExplainsJudge : Signature → Term → List ℕ → JudgeFault → Type 0
+ExplainsJudge ts e bytes (fault.Line k) = IsMisjudged ts e bytes k
+ExplainsJudge ts e bytes fault.NoMemory = ⊤

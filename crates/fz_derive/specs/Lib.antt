@@ -1,1 +1,4 @@
+pub mod Lines
 pub mod Judged
+pub mod Least
+pub mod Written

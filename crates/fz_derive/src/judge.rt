@@ -1,8 +1,9 @@
 //! Judges, by name alone.
 
-ghost use Rattle.std.specs.Prelude.{◌≤◌, ◌≡◌, ◌^◌, ℕ, IfOk, IfErr, Ok, Err, length};
+ghost use Rattle.std.specs.Prelude.{◌≤◌, IfOk, IfErr, length};
 ghost use Rattle.fz_frac.specs.Distance.{Fin};
-ghost use Rattle.fz_derive.specs.Judged.{JudgedAs};
+ghost use Rattle.fz_derive.specs.Judged.{ExplainsJudge, IsJudged};
+ghost use Rattle.fz_derive.specs.Written.{longest};
 
 use fz_ast::{Sig, Term};
 use fz_frac::Frac;
@@ -20,9 +21,9 @@ pub enum JudgeFault {
 
 /// Judges a derivation.
 pub fn judge(_alloc: Global, _sig: &Sig, _term: &Term, _bytes: &[u8]) -> Result<Frac, JudgeFault>
-    requires { length _bytes.now ≤ 2 ^ 26 }
-    ensures yes { IfOk result (λ r. JudgedAs _sig.now _term.now _bytes.now (Ok (Fin r.p r.q))) }
-    ensures no { IfErr result (λ fault. (at : ℕ) → fault ≡ JudgeFault.Line at → JudgedAs _sig.now _term.now _bytes.now (Err at)) }
+    requires { length _bytes.now ≤ longest }
+    ensures yes { IfOk result (λ r. IsJudged _sig.now _term.now _bytes.now (Fin r.p r.q)) }
+    ensures no { IfErr result (ExplainsJudge _sig.now _term.now _bytes.now) }
 {
     Err(JudgeFault::NoMemory)
 }

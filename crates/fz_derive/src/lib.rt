@@ -1,8 +1,5 @@
 //! Stands for the crate until it comes: names and contracts alone.
 #![tactic(auto)]
 
-mod derive;
-mod judge;
-
-pub use derive::{DeriveFault, derive};
-pub use judge::{JudgeFault, judge};
+pub mod judge;
+pub mod least;
