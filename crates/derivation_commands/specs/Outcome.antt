@@ -36,7 +36,7 @@ abbrev pub if_short : (text : List ℕ) → Outcome
 if_short text = if nat_le (length text) longest then written text else too_long
 
 -- By what `check` says of the program: its line where it is refused, and else its least derivation. To one that takes too many walks nothing is
--- due, as in a `check`: it ends for want of memory.
+-- due, as in a `check`: it ends as out of memory.
 abbrev pub IsDerivedBy : Judgement → (tables : Signature) → Outcome → Type 0
 IsDerivedBy (refused_for refusal) tables outcome = outcome ≡ refused (refusal_text refusal)
 IsDerivedBy walks_too_much tables outcome = ⊥

@@ -11,7 +11,7 @@ use itoa::Buffer;
 use std::alloc::{AllocError, Global};
 use wire_lines::{REPLY_LIMIT, Refusal, Reply, write_reply, write_sensitivity};
 
-/// The line of a refusal. Want of memory is no refusal of a program: it is answered as what it is.
+/// The line of a refusal. Out of memory is no refusal of a program, and has no line here.
 pub fn refusal_line(alloc: Global, refusal: &Refusal<'_>) -> Result<Vec<u8>, AllocError>
     ensures line { IfOk result (λ line. line.items ≡ reply_text (refused (refusal_at refusal.now))) }
     ensures some { IfOk result (λ line. refusal_at refusal.now ≡ no_memory → ⊥) }

@@ -8,9 +8,7 @@ use Rattle.fz_frac.specs.Sens.{distance_of}
 use Rattle.metric_law.specs.Means.{Means}
 use Rattle.metric_values.specs.Tables.{Dataset, apart, rows_of}
 use Rattle.metric_values.specs.Values.{NumV}
-use Rattle.wire_lines.specs.Refusal.{ProgramRefusal, Refusal, by_disk, by_line, by_money, by_number, by_program, no_memory, refusal_at}
-use Rattle.wire_lines.specs.declared.refusal.Refusal.{Refusal as RefusalAt}
-use Rattle.wire_lines.specs.declared.refusal.Refusal.TheVariants.{NoMemory}
+use Rattle.wire_lines.specs.Refusal.{ProgramRefusal, Refusal, by_disk, by_line, by_money, by_number, by_program, no_memory}
 use Rattle.wire_lines.specs.Reply.{refused, reply_text}
 use Rattle.generated_run.specs.AnswerPath.AcceptedProgram.{Accepted}
 use Rattle.generated_run.specs.AnswerPath.Code.{IsAccepted, IsProgramRefusal, IsRefusedFor}
@@ -21,10 +19,6 @@ use Rattle.query_server.specs.Check.{IsProgramDue, accepted_text, status_by, tex
 use Rattle.query_server.specs.Gap.{IsGapBy, IsGapDue, gap_text}
 use Rattle.query_server.specs.declared.end.Status.{Status}
 use Rattle.query_server.specs.declared.end.Status.TheVariants as code
-
-pub is_memory : (refusal : RefusalAt) → refusal_at refusal ≡ no_memory → refusal ≡ NoMemory
-is_memory NoMemory is = refl
-is_memory refusal is = cc is
 
 -- a program's refusal that isn't want of memory is one of the program
 pub refused_by_program : (tables : Signature) (program : List ℕ) (refusal : Refusal) → (refusal ≡ no_memory → ⊥) → IsProgramRefusal tables program refusal
