@@ -40,6 +40,13 @@ program_refused tables program text refusal (reading, reads, is) same = record {
   walks = refused_walks_little tables program refusal (reading, reads, is);
 }
 
+-- the same by the line that was made of it
+pub program_told : (tables : Signature) (program text : List ℕ) (refusal : Refusal) → IsProgramRefusal tables program refusal → (refusal ≡ no_memory → ⊥)
+    → text ≡ reply_text (refused refusal) → IsProgramDue tables program code.ProgramRefused text
+program_told tables program text refusal is some same =
+    let by = refused_by_program tables program refusal some is in
+    program_refused tables program text by.0 by.2 (same ∙ ap (λ r. reply_text (refused r)) by.1)
+
 -- of one that is accepted
 pub program_accepted : (tables : Signature) (program text : List ℕ) (a : Accepted) → IsAccepted tables program a → text ≡ accepted_text (distance_of a.sens) → IsProgramDue tables program code.Done text
 program_accepted tables program text a is same = record {
@@ -59,6 +66,12 @@ gap_refused tables X Y program text refusal (reading, reads, is) same = record {
   due = subst (λ (j : Judgement). IsGapBy j tables X Y program code.ProgramRefused text) (sym is) (refl, same);
   walks = refused_walks_little tables program refusal (reading, reads, is);
 }
+
+pub gap_told : (tables : Signature) (X Y : Dataset) (program text : List ℕ) (refusal : Refusal) → IsProgramRefusal tables program refusal → (refusal ≡ no_memory → ⊥)
+    → text ≡ reply_text (refused refusal) → IsGapDue tables X Y program code.ProgramRefused text
+gap_told tables X Y program text refusal is some same =
+    let by = refused_by_program tables program refusal some is in
+    gap_refused tables X Y program text by.0 by.2 (same ∙ ap (λ r. reply_text (refused r)) by.1)
 
 pub gap_accepted : (tables : Signature) (X Y : Dataset) (program text : List ℕ) (e : Term) (r : Distance) (y z : ℤ) → IsReading program (read e) → judgement_of tables (read e) ≡ accepted e r
     → (HasTooManyWalks tables program → ⊥) → Means (rows_of tables X) e (NumV y) → Means (rows_of tables Y) e (NumV z) → text ≡ gap_text (apart X Y) r y z → IsGapDue tables X Y program code.Done text

@@ -12,10 +12,9 @@ ghost use Rattle.catalog_loading.specs.Given.{IsStep};
 ghost use Rattle.query_server.specs.Due.{ForContents};
 
 use crate::end::End;
-use crate::programs::refuse;
 use crate::whole::tables_of;
 use catalog_loading::{Stop, find_owner, load_for, open_catalog, read_file};
-use derivation_commands::sensitivity_line;
+use derivation_commands::{refusal_line, sensitivity_line};
 use fz_outside::files::Files;
 use generated_run::check_program;
 use part_views::Dataset;
@@ -29,14 +28,14 @@ struct Candidate {
 }
 
 /// What a program comes to over the tables of a dataset.
-#[tactic(auto, using(crate::proofs::Judged::program_accepted))]
+#[tactic(auto, using(crate::proofs::Judged::program_accepted, crate::proofs::Judged::program_told))]
 fn judge(alloc: Global, dataset: &Dataset, program: &[u8]) -> Result<End, AllocError>
     requires { AreNames dataset.now.tables }
     ensures { IfOk result (IsVerdictOn dataset.now.tables program.now) }
 {
     match check_program(alloc, tables_of(dataset), program) {
         Ok(accepted) => Ok(End::Done(sensitivity_line(alloc, b"ok ", accepted.sens)?)),
-        Err(refusal) => refuse(alloc, &refusal),
+        Err(refusal) => Ok(End::ProgramRefused(refusal_line(alloc, &refusal)?)),
     }
 }
 

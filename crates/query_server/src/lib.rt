@@ -10,7 +10,6 @@ mod grant;
 mod init;
 mod laws;
 mod listing;
-mod programs;
 mod run;
 mod serve;
 mod server;

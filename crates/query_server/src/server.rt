@@ -163,10 +163,7 @@ where
                 file,
                 derivation,
             },
-        ) => {
-            let given = judge_file(alloc, files, catalog, owner, file, derivation);
-            ended(given)
-        }
+        ) => ended(judge_file(alloc, files, catalog, owner, file, derivation)),
     }
 }
 

@@ -13,10 +13,6 @@ use Rattle.query_server.specs.Gap.{gap_text}
 use Rattle.query_server.proofs.Judged.{gap_accepted}
 use Rattle.query_server.proofs.gap.compare.Goals as goal
 
-pub returns-in-Err : goal.returns-in-Err
-returns-in-Err c =
-    let tables = c.args.first.now.tables in c.refuse.ensures.gap tables c.args.first.now.rows c.args.second.now.rows c.args.program.now (c.in-Err.ensures.refused tables)
-
 pub returns : goal.returns
 returns c =
     let tables = c.args.first.now.tables in
