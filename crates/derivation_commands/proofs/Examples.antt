@@ -1,6 +1,7 @@
 -- worked examples of the order of work, of the lines, and of how long a derivation may be
 use Rattle.std.proofs.Common.{◌≡◌, ◌≤◌, ◌<◌, ◌∙◌, ℕ, Bool, cond, true, false, List, [], ◌∷◌, ◌++◌, length, nat_le, Option, Some, None, refl, ap, sym, arith}
-use Rattle.std.specs.Prelude.{◌^◌, Result, Ok, Err, codes, ok_or}
+use Rattle.std.specs.Fmt.{digits}
+use Rattle.std.specs.Prelude.{Result, Ok, Err, codes, ok_or}
 use Rattle.std.proofs.lemmas.Bool.{le-leb, leb-true}
 use Rattle.fz_ast.specs.Signature.{Signature}
 use Rattle.fz_ast.specs.declared.row.Column.TheVariants.{Num}
@@ -105,22 +106,27 @@ judge_whole held has is also =
 -- ---- the lines
 
 yes_one : yes_text (Fin 1 1) ≡ codes "yes 1\n"
+unfolding digits
 yes_one = refl
 
 yes_half : yes_text (Fin 3 2) ≡ codes "yes 3/2\n"
+unfolding digits
 yes_half = refl
 
 yes_none : yes_text (Fin 0 1) ≡ codes "yes 0\n"
+unfolding digits
 yes_none = refl
 
 no_first : no_text 0 ≡ codes "no 0\n"
+unfolding digits
 no_first = refl
 
 no_tenth : no_text 10 ≡ codes "no 10\n"
+unfolding digits
 no_tenth = refl
 
 token_line : refusal_text (no_token 12) ≡ codes "no 20 12\n"
-unfolding reply_text
+unfolding digits reply_text
 token_line = refl
 
 -- a program that isn't read is refused by both, and nothing else comes of it
