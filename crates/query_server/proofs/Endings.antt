@@ -1,5 +1,5 @@
 -- what a command comes to, by its steps
-use Rattle.std.proofs.Common.{◌≡◌, ◌<◌, ℕ, Bool, true, false, List, length, nat_eq, bytes_eq, if◌then◌else◌, Option, Some, None, refl, sym, ◌∙◌, ap, subst, eqb-true}
+use Rattle.std.proofs.Common.{◌≡◌, ◌<◌, ℕ, Bool, true, false, List, ◌++◌, length, nat_eq, bytes_eq, if◌then◌else◌, Option, Some, None, refl, sym, ◌∙◌, ap, subst, eqb-true}
 use Rattle.std.specs.Prelude.{Result, Ok, Err, ok_or, position}
 use Rattle.fz_ast.specs.Signature.{Signature}
 use Rattle.metric_values.specs.Tables.{Dataset}
@@ -105,6 +105,12 @@ gap_comes catalog owner second_catalog file =
     (λ second_holding. then_cases comes refuses (file_read file) (λ program. done (to_compare holding.tables holding.rows second_holding.rows program))
     (λ program reads. compares)))))))
 
+-- what is given doesn't hang on the names that were read
+given_alone : (given : Result Task (List ℕ)) (names more : List (List ℕ)) (rest : ReadsToCome)
+    → (continued given names rest (λ (task : Task). done (of_derivation task))).given ≡ (continued given more rest (λ (task : Task). done (of_derivation task))).given
+given_alone (Ok task) names more rest = refl
+given_alone (Err name) names more rest = refl
+
 -- the work of a task is that of what the task's steps give
 task_cases : (P : Work → Type 0) → ((name : List ℕ) → P (refused name)) → {A : Type 0} → (step : FileStep A) (next : A → FileStep Task)
     → ((a : A) (reads : ReadsToCome) → P (ended (task_steps (next a) reads).given)) → (reads : ReadsToCome) → P (ended (task_steps (step >>= next) reads).given)
@@ -113,7 +119,9 @@ task_cases P by_name {A} step next each reads = here (step reads).given
   where
     here : (given : Result A (List ℕ)) → P (ended (continued (continued given (step reads).names (step reads).rest next).given
         (continued given (step reads).names (step reads).rest next).names (continued given (step reads).names (step reads).rest next).rest (λ (task : Task). done (of_derivation task))).given)
-    here (Ok a) = each a (step reads).rest
+    here (Ok a) =
+        let o = next a (step reads).rest in
+        subst (λ (given : Result Work (List ℕ)). P (ended given)) (given_alone o.given o.names ((step reads).names ++ o.names) o.rest) (each a (step reads).rest)
     here (Err name) = by_name name
 
 derive_comes : (catalog owner file : List ℕ) (reads : ReadsToCome)

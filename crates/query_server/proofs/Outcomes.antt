@@ -18,7 +18,7 @@ use Rattle.generated_run.specs.SessionCore.Transcript.{Journals}
 use Rattle.command_words.specs.Command.{Command, command_of}
 use Rattle.query_server.specs.Work.{Work, usage, refused, to_answer, to_make, to_count, to_grant, to_check, to_compare, to_serve, to_generate, of_derivation}
 use Rattle.derivation_commands.specs.Task.{Task, to_derive, to_judge}
-use Rattle.derivation_commands.specs.Outcome.{IsOutcomeOf, Outcome, refused as refused_one, too_long, written}
+use Rattle.derivation_commands.specs.Outcome.{IsOutcomeOf, Outcome, refused as refused_one, too_long, written as written_one}
 use Rattle.derivation_commands.proofs.Unique.{never_too_long, one_outcome}
 use Rattle.query_server.specs.Derivation.{IsOutcomeDue, outcome_status, outcome_text, task_statuses}
 use Rattle.catalog_loading.specs.Files.{Contents, ReadsToCome, always}
@@ -115,10 +115,10 @@ verdict_ends (Err (Full used unsettled capacity)) status is = inr (inr (inl is))
 
 -- the status of what comes of a task
 task_status : (task : Task) (outcome : Outcome) (status : Status) → IsOutcomeOf task outcome → status ≡ outcome_status outcome → task_statuses task status
-task_status (to_derive subject) (written text) status of is = inl is
+task_status (to_derive subject) (written_one text) status of is = inl is
 task_status (to_derive subject) (refused_one line) status of is = inr (inl is)
 task_status (to_derive subject) too_long status of is = inr (inr is)
-task_status (to_judge subject derivation) (written text) status of is = inl is
+task_status (to_judge subject derivation) (written_one text) status of is = inl is
 task_status (to_judge subject derivation) (refused_one line) status of is = inr is
 task_status (to_judge subject derivation) too_long status of is = absurd (never_too_long subject derivation of)
 

@@ -107,7 +107,7 @@ impl End {
 
 /// How a `derive` or a `judge` ends that came to this.
 pub(crate) fn ended(given: Result<Ending, Stop>) -> Result<End, Stop>
-    ensures { result ≡ ended_as given.entry }
+    ensures { result ≡ ended_as given }
 {
     match given? {
         Ending::Written(text) => Ok(End::Done(text)),

@@ -107,7 +107,6 @@ fn comparison_on(
 }
 
 /// Compares a program on two datasets of the same tables: it is read and judged first.
-#[tactic(auto, using(crate::proofs::Judged::gap_told))]
 fn compare(
     alloc: Global,
     first: &Dataset,
