@@ -13,7 +13,7 @@ use Rattle.catalog_loading.specs.Loaded.{catalog_read}
 use Rattle.wire_lines.specs.Refusal.{no_number, no_term, no_token, too_nested}
 use Rattle.wire_lines.specs.Reply.{reply_text}
 use Rattle.answer_path.specs.Reading.{nested, stuck, unlexed}
-use Rattle.answer_path.specs.Judgement.{refused_for, walks_too_much}
+use Rattle.answer_path.specs.Admission.{refused_for, walks_too_much}
 use Rattle.derivation_commands.specs.Task.{derive_steps, judge_steps, to_derive, to_judge}
 use Rattle.derivation_commands.specs.Outcome.{IsDerivedBy, IsJudgedBy, Outcome, if_short, no_text, refusal_text, refused, too_long, written, yes_text}
 use Rattle.fz_derive.specs.Written.{longest}

@@ -3,7 +3,7 @@ use Rattle.std.proofs.Common.{◌≡◌, ◌∙◌, ℕ, List, Some, ap, refl, s
 use mathlib.Core.Logic.{inl, inr}
 use Rattle.fz_ast.specs.Signature.{Signature}
 use Rattle.answer_path.specs.Reading.{Reading, nested, read, stuck, unlexed}
-use Rattle.answer_path.specs.Judgement.{Judgement, accepted, judgement_of, refused_for, walks_too_much}
+use Rattle.answer_path.specs.Admission.{Admission, accepted, admission_of, refused_for, walks_too_much}
 use Rattle.answer_path.proofs.Readings.{one_reading}
 use Rattle.fz_derive.specs.Least.{Derived, lines_of}
 use Rattle.fz_derive.specs.Written.{derivation_text}
@@ -11,7 +11,7 @@ use Rattle.fz_derive.proofs.Unique.{one_no, one_yes, yes_or_no}
 use Rattle.derivation_commands.specs.Task.{Subject, Task, to_derive, to_judge}
 use Rattle.derivation_commands.specs.Outcome.{IsDeriveOutcome, IsDerivedBy, IsJudgeOutcome, IsJudgedBy, IsOutcomeOf, Outcome, if_short, no_text, refused, too_long, written, yes_text}
 
-one_derived : (judgement : Judgement) (tables : Signature) (a b : Outcome) → IsDerivedBy judgement tables a → IsDerivedBy judgement tables b → a ≡ b
+one_derived : (admission : Admission) (tables : Signature) (a b : Outcome) → IsDerivedBy admission tables a → IsDerivedBy admission tables b → a ≡ b
 one_derived (refused_for refusal) tables a b first second = first ∙ sym second
 one_derived walks_too_much tables a b first second = absurd first
 one_derived (accepted e r) tables a b (d, is, at) (c, also, here) =
@@ -32,7 +32,7 @@ one_judged (read e) tables derivation a b (inr (j, is, at)) (inr (k, also, here)
 derive_once : (tables : Signature) (program : List ℕ) (a b : Outcome) → IsDeriveOutcome tables program a → IsDeriveOutcome tables program b → a ≡ b
 derive_once tables program a b first second =
     let same = one_reading program second.reading first.reading second.reads first.reads in
-    one_derived (judgement_of tables first.reading) tables a b first.due (subst (λ (r : Reading). IsDerivedBy (judgement_of tables r) tables b) same second.due)
+    one_derived (admission_of tables first.reading) tables a b first.due (subst (λ (r : Reading). IsDerivedBy (admission_of tables r) tables b) same second.due)
 
 judge_once : (tables : Signature) (program derivation : List ℕ) (a b : Outcome) → IsJudgeOutcome tables program derivation a → IsJudgeOutcome tables program derivation b → a ≡ b
 judge_once tables program derivation a b first second =

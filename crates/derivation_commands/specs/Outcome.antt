@@ -5,7 +5,7 @@ use Rattle.fz_ast.specs.Signature.{Signature}
 use Rattle.wire_lines.specs.Refusal.{ProgramRefusal, by_program, no_term, no_token, too_nested}
 use Rattle.wire_lines.specs.Reply.{refused as refused_reply, reply_text, sensitivity_text}
 use Rattle.answer_path.specs.Reading.{IsReading, Reading, nested, read, stuck, unlexed}
-use Rattle.answer_path.specs.Judgement.{Judgement, accepted, judgement_of, refused_for, walks_too_much}
+use Rattle.answer_path.specs.Admission.{Admission, accepted, admission_of, refused_for, walks_too_much}
 use Rattle.fz_derive.specs.Judged.{IsJudged, IsMisjudged, names_of}
 use Rattle.fz_derive.specs.Least.{Derived, least, lines_of}
 use Rattle.fz_derive.specs.Written.{derivation_text, longest}
@@ -37,7 +37,7 @@ if_short text = if nat_le (length text) longest then written text else too_long
 
 -- By what `check` says of the program: its line where it is refused, and else its least derivation. To one that takes too many walks nothing is
 -- due, as in a `check`: it ends as out of memory.
-abbrev pub IsDerivedBy : Judgement → (tables : Signature) → Outcome → Type 0
+abbrev pub IsDerivedBy : Admission → (tables : Signature) → Outcome → Type 0
 IsDerivedBy (refused_for refusal) tables outcome = outcome ≡ refused (refusal_text refusal)
 IsDerivedBy walks_too_much tables outcome = ⊥
 IsDerivedBy (accepted e r) tables outcome = (d : Derived) × (least (names_of tables) e ≡ Some d) × (outcome ≡ if_short (derivation_text (lines_of d)))
@@ -46,7 +46,7 @@ IsDerivedBy (accepted e r) tables outcome = (d : Derived) × (least (names_of ta
 pub record IsDeriveOutcome (tables : Signature) (program : List ℕ) (outcome : Outcome) : Type 0 where
   pub reading : Reading
   pub reads : IsReading program reading
-  pub due : IsDerivedBy (judgement_of tables reading) tables outcome
+  pub due : IsDerivedBy (admission_of tables reading) tables outcome
 
 -- By the program's reading: the line of one that isn't read, and else the verdict on the derivation. The program isn't checked.
 abbrev pub IsJudgedBy : Reading → (tables : Signature) → (derivation : List ℕ) → Outcome → Type 0

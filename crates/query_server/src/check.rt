@@ -28,8 +28,8 @@ struct Candidate {
 }
 
 /// What a program comes to over the tables of a dataset.
-#[tactic(auto, using(crate::proofs::Judged::program_accepted, crate::proofs::Judged::program_told))]
-fn judge(alloc: Global, dataset: &Dataset, program: &[u8]) -> Result<End, AllocError>
+#[tactic(auto, using(crate::proofs::Admitted::program_accepted, crate::proofs::Admitted::program_told))]
+fn admit(alloc: Global, dataset: &Dataset, program: &[u8]) -> Result<End, AllocError>
     requires { AreNames dataset.now.tables }
     ensures { IfOk result (IsVerdictOn dataset.now.tables program.now) }
 {
@@ -74,6 +74,6 @@ pub(crate) fn check_file<F: Files>(
     ensures cause { IsErrOf result Stop.Fault → HasRisen (F.faults files.old) (F.faults files.new) }
 {
     let candidate = read_candidate(alloc, files, catalog, owner, file)?;
-    let end = judge(alloc, &candidate.dataset, &candidate.program)?;
+    let end = admit(alloc, &candidate.dataset, &candidate.program)?;
     Ok(end)
 }
