@@ -1,4 +1,0 @@
-pub mod Lines
-pub mod Judged
-pub mod Least
-pub mod Written
