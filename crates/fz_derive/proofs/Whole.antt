@@ -50,7 +50,7 @@ placed ts e lines t d =
 pub derivable_value : (ts : Signature) (e : Term) (lines : List Line) → IsSignature ts → TermLimits e → IsDerivable ts e lines → (X : Dataset) → IsDataset ts X → (z : ℤ) × Means (rows_of ts X) e (NumV z) × IsNumber z
 derivable_value ts e lines s t d X h = has_value ts e _ s (placed ts e lines t d) X h
 
-first_line : (lines : List Line) (l : Line) (L : List Line) → lines ≡ l ∷ L → line_at lines 0 ≡ l
+pub first_line : (lines : List Line) (l : Line) (L : List Line) → lines ≡ l ∷ L → line_at lines 0 ≡ l
 unfolding line_at
 first_line lines l L h = rw h refl
 

@@ -1,5 +1,5 @@
 //! What is proved of derivations.
-ghost use Rattle.fz_derive.specs.Law.{DerivableHasValue, DerivableIsBounded, DerivedByPlace, DerivedHasValue, DerivedIsBounded};
+ghost use Rattle.fz_derive.specs.Law.{DerivableExactly, DerivableHasValue, DerivableIsBounded, DerivedByPlace, DerivedHasValue, DerivedIsBounded, LinesAreNodes};
 
 /// What is derived by names is derived by the places of names, and what is derived so bounds how far a term's value moves, by meanings
 /// alone; and the term has a value.
@@ -14,4 +14,10 @@ pub fn derived_is_bounded()
 pub fn derivable_is_bounded()
     ensures bound { DerivableIsBounded }
     ensures value { DerivableHasValue }
+{}
+
+/// No line is at fault exactly where the lines are a derivation, which has a line for each node.
+pub fn faultless_is_derivable()
+    ensures exact { DerivableExactly }
+    ensures lines { LinesAreNodes }
 {}
