@@ -1,5 +1,6 @@
 -- A phrase that may be read by itself is a term, a type or a sensitivity, and what is said of the phrase is said of these.
-use Rattle.std.proofs.Common.{◌≡◌, ℕ, List, ◌++◌, refl, arith, sym, ap, ◌∙◌, subst}
+use Rattle.std.proofs.Common.{◌≡◌, ℕ, List, ◌++◌, refl, arith, sym, ap, ◌∙◌, subst, Result, Ok, Err}
+use Rattle.std.specs.Result.{IfErr, IsErrAnd}
 use Rattle.fz_frac.specs.Distance.{Distance}
 use Rattle.fz_ast.specs.declared.span.Span.{Span}
 use Rattle.fz_ast.specs.Types.{Ty}
@@ -129,6 +130,11 @@ pub sensitivity_fault : (ts : List Token) (fault : ParseFault) → ExplainsAs Wh
 sensitivity_fault ts (Stuck k) h = sensitivity_stuck ts k h
 sensitivity_fault ts (TooNested d) h = absurd h
 sensitivity_fault ts NoMemory h = tt
+
+-- a fault that is passed on
+pub passed : {T E : Type 0} (P : E → Type 0) (fault : E) (result : Result T E) → IsErrAnd result (λ other. other ≡ fault) → P fault → IfErr result P
+passed P fault (Ok value) wrong holds = tt
+passed P fault (Err other) is holds = subst P (sym is) holds
 
 -- the one part that was read
 pub read_term : (ts : List Token) (r : Reader) → IsReadAs Expression ts r → (sort_at 0 (state_of r) ≡ 8) × IsTerm ts (in_term (part 0 (state_of r)).what)
