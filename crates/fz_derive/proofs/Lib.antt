@@ -6,6 +6,7 @@ pub mod Counted
 pub mod Exactly
 pub mod Examples
 pub mod Faultless
+pub mod Once
 pub mod Programs
 pub mod Segments
 pub mod Whole

@@ -64,3 +64,13 @@ LinesAreNodes = (Γ : Context) (e : Term) (lines : List Line) → Derives Γ e l
 -- the least derivation of a term, where there is one, is a derivation
 abbrev pub LeastIsDerived : Type 0
 LeastIsDerived = (Γ : Context) (e : Term) (d : Derived) → least Γ e ≡ Some d → Derives Γ e (lines_of d)
+
+-- bytes are judged in one way: a number, and one alone, or a least line at fault, and one alone
+abbrev pub OneNumber : Type 0
+OneNumber = (ts : Signature) (e : Term) (bytes : List ℕ) (r s : Distance) → IsJudged ts e bytes r → IsJudged ts e bytes s → r ≡ s
+
+abbrev pub NumberOrLine : Type 0
+NumberOrLine = (ts : Signature) (e : Term) (bytes : List ℕ) (r : Distance) (k : ℕ) → IsJudged ts e bytes r → IsMisjudged ts e bytes k → ⊥
+
+abbrev pub OneLine : Type 0
+OneLine = (ts : Signature) (e : Term) (bytes : List ℕ) (j k : ℕ) → IsMisjudged ts e bytes j → IsMisjudged ts e bytes k → j ≡ k
