@@ -4,7 +4,15 @@ pub mod Bounds
 pub mod ByNames
 pub mod Counted
 pub mod Exactly
-pub mod Examples
+pub mod ExampleLines
+pub mod ExamplesOfBags
+pub mod ExamplesOfFunctions
+pub mod ExamplesOfLeast
+pub mod ExamplesOfNumbers
+pub mod ExamplesOfPairs
+pub mod ExamplesOfPrograms
+pub mod ExamplesOfScopes
+pub mod ExamplesOfSums
 pub mod Faultless
 pub mod Once
 pub mod Programs
