@@ -10,6 +10,7 @@ pub mod Nodes
 pub mod Faults
 pub mod Derivable
 pub mod Judged
+pub mod Bound
 pub mod ByPlace
 pub mod Least
 pub mod Written
