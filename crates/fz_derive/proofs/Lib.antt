@@ -3,6 +3,7 @@ pub mod Allowed
 pub mod Bounds
 pub mod ByNames
 pub mod Counted
+pub mod Every
 pub mod Exactly
 pub mod ExampleLines
 pub mod ExamplesOfBags

@@ -1,5 +1,5 @@
 -- What a derivation promises.
-use Rattle.std.specs.Prelude.{◌≡◌, ◌↔◌, ℕ, List, ◌∷◌, length, Some, None}
+use Rattle.std.specs.Prelude.{◌≡◌, ◌↔◌, ◌⊎◌, ℕ, List, ◌∷◌, length, Some, None}
 use Rattle.fz_frac.specs.Distance.{Distance}
 use Rattle.fz_ast.specs.Limits.{TermLimits}
 use Rattle.fz_ast.specs.Signature.{IsSignature, Signature}
@@ -58,7 +58,7 @@ LinesAreNodes = (Γ : Context) (e : Term) (lines : List Line) → Derives Γ e l
 abbrev pub LeastIsDerived : Type 0
 LeastIsDerived = (Γ : Context) (e : Term) (d : Derived) → least Γ e ≡ Some d → Derives Γ e (lines_of d)
 
--- bytes are judged in one way: a number, and one alone, or a least line at fault, and one alone
+-- all bytes are judged, in one way: a number, and one alone, or a least line at fault, and one alone
 abbrev pub OneNumber : Type 0
 OneNumber = (ts : Signature) (e : Term) (bytes : List ℕ) (r s : Distance) → IsJudged ts e bytes r → IsJudged ts e bytes s → r ≡ s
 
@@ -67,3 +67,6 @@ NumberOrLine = (ts : Signature) (e : Term) (bytes : List ℕ) (r : Distance) (k 
 
 abbrev pub OneLine : Type 0
 OneLine = (ts : Signature) (e : Term) (bytes : List ℕ) (j k : ℕ) → IsMisjudged ts e bytes j → IsMisjudged ts e bytes k → j ≡ k
+
+abbrev pub EitherForAllBytes : Type 0
+EitherForAllBytes = (ts : Signature) (e : Term) (bytes : List ℕ) → ((r : Distance) × IsJudged ts e bytes r) ⊎ ((k : ℕ) × IsMisjudged ts e bytes k)

@@ -1,5 +1,5 @@
 //! What is proved of derivations.
-ghost use Rattle.fz_derive.specs.Law.{DerivableExactly, DerivableIsBounded, DerivedByPlace, DerivedHasValue, DerivedIsBounded, JudgedIsBounded, LinesAreNodes, NumberOrLine, OneLine, OneNumber};
+ghost use Rattle.fz_derive.specs.Law.{DerivableExactly, DerivableIsBounded, DerivedByPlace, DerivedHasValue, DerivedIsBounded, EitherForAllBytes, JudgedIsBounded, LinesAreNodes, NumberOrLine, OneLine, OneNumber};
 
 /// What is derived by names is derived by the places of names, and what is derived so bounds how far a term's value moves, by meanings
 /// alone; and the term has a value.
@@ -22,8 +22,9 @@ pub fn faultless_is_derivable()
     ensures lines { LinesAreNodes }
 {}
 
-/// Bytes are judged in one way: a number, and one alone, or a least line at fault, and one alone.
+/// All bytes are judged, in one way: a number, and one alone, or a least line at fault, and one alone.
 pub fn one_judgement()
+    ensures all { EitherForAllBytes }
     ensures number { OneNumber }
     ensures either { NumberOrLine }
     ensures line { OneLine }
