@@ -1,0 +1,9 @@
+//! Texts of types.
+#![tactic(auto)]
+
+ghost use Rattle.zz_text.specs.Law.{TypesAreCut};
+
+/// What is written is cut into the type's tokens.
+pub fn types_are_cut()
+    ensures { TypesAreCut }
+{}
