@@ -4,6 +4,7 @@ use Rattle.std.specs.Prelude.{codes, decimal, Bool, false, ◌&&◌, ◌||◌, n
 use Rattle.std.proofs.lemmas.Bool.{cases_Bool, not-true}
 use Rattle.fz_frac.specs.Distance.{Distance, Fin, Inf}
 use Rattle.fz_ast.specs.Types.{Ty, NumT, TextT, UnitT, TensorT, WithT, SumT, ArrowT, BangT, BagT}
+use Rattle.fz_ast.specs.Bare.{nowhere}
 use Rattle.fz_ast.specs.Limits.{IsBang, TypeLimits}
 use Rattle.fz_lexer.specs.declared.token.Token.{Token}
 use Rattle.fz_lexer.specs.declared.token.Kind.{Kind}
@@ -17,14 +18,14 @@ use Rattle.fz_lexer.specs.Signs.{IsLongest, SpellsSign, mark, may_follow}
 use Rattle.fz_lexer.specs.Tokens.{AreTokens, Cut, IsToken}
 use Rattle.fz_lexer.specs.Words.{spelling}
 use Rattle.zz_text.specs.Written.{type_text, amount_text, infix_text}
-use Rattle.zz_text.specs.Kinds.{Kinds, kinds, amount_kinds, infix_kinds, type_kinds}
+use Rattle.fz_parser.specs.Printer.{Tokens, sign, word, number_token, kinds_of, in_parentheses, written_factor, written_type, type_kinds, factor_kinds}
 use Rattle.zz_text.specs.Law.{TypesAreCut}
 use Rattle.zz_text.proofs.Numbers.{digits}
 
--- before bytes that may follow, these bytes are tokens of these kinds in front
-pub record Front (text : List ℕ) (ks : Kinds) (f : List ℕ → Bool) : Type 0 where
+-- before bytes that may follow, these bytes are these tokens in front, wherever they stand
+pub record Front (text : List ℕ) (ks : Tokens) (f : List ℕ → Bool) : Type 0 where
   pub cuts : (p : ℕ) (after : List ℕ) (us : List Token) (r : ℕ) (end : List ℕ) → f after ≡ true → Cut (p + length text) after us r end
-      → (ts : List Token) × Cut p (text ++ after) ts r end × ((m : List Kind) → kinds us ≡ m → kinds ts ≡ ks m)
+      → (ts : List Token) × Cut p (text ++ after) ts r end × ((m : List Token) → kinds_of us ≡ kinds_of m → kinds_of ts ≡ kinds_of (ks m))
 
 abbrev any : List ℕ → Bool
 any after = true
@@ -32,7 +33,7 @@ any after = true
 abbrev pub no_name : List ℕ → Bool
 no_name = stops is_name_byte
 
-pub seq : {a b : List ℕ} {ka kb : Kinds} {f g : List ℕ → Bool} → Front a ka f → Front b kb g → ((after : List ℕ) → g after ≡ true → f (b ++ after) ≡ true)
+pub seq : {a b : List ℕ} {ka kb : Tokens} {f g : List ℕ → Bool} → Front a ka f → Front b kb g → ((after : List ℕ) → g after ≡ true → f (b ++ after) ≡ true)
     → Front (a ++ b) (λ m. ka (kb m)) g
 seq {a} {b} {ka} {kb} {f} {g} x y h = record {
   cuts = λ p after us r end w c.
@@ -50,33 +51,36 @@ spaced (u ∷ us) p w r end h = (32 ∷ h.0, h.1, h.2, ap (λ x. 32 ∷ x) h.3, 
 space : Front (32 ∷ []) (λ m. m) any
 space = record { cuts = λ p after us r end w c. (us, spaced us p after r end (subst (λ n. Cut n after us r end) (omega arith) c), λ m e. e) }
 
+abbrev bare : Kind → Token
+bare k = record { kind = k; span = nowhere }
+
 abbrev token : Kind → ℕ → ℕ → Token
 token k f t = record { kind = k; span = record { from = f; to = t } }
 
-pub one : (text : List ℕ) (kind : Kind) (f : List ℕ → Bool) → ((after : List ℕ) → f after ≡ true → IsToken text after kind) → Front text (λ m. kind ∷ m) f
+pub one : (text : List ℕ) (kind : Kind) (f : List ℕ → Bool) → ((after : List ℕ) → f after ≡ true → IsToken text after kind) → Front text (λ m. bare kind ∷ m) f
 one text kind f h = record {
   cuts = λ p after us r end w c. (token kind p (p + length text) ∷ us, ([], text, after, refl, refl, h after w, omega arith, refl, c), λ m e. ap (λ ks. kind ∷ ks) e);
 }
 
 -- words
 
-word_num : Front (codes "num") (λ m. Reserved Num ∷ m) no_name
+word_num : Front (codes "num") (λ m. word Num ∷ m) no_name
 unfolding is_name_byte is_letter is_digit spelling
 word_num = one (codes "num") (Reserved Num) no_name (λ after w. inl (record { first = refl; every = refl; ends = w; short = omega arith; is = inl (Num, refl, refl) }))
 
-word_text : Front (codes "text") (λ m. Reserved Text ∷ m) no_name
+word_text : Front (codes "text") (λ m. word Text ∷ m) no_name
 unfolding is_name_byte is_letter is_digit spelling
 word_text = one (codes "text") (Reserved Text) no_name (λ after w. inl (record { first = refl; every = refl; ends = w; short = omega arith; is = inl (Text, refl, refl) }))
 
-word_unit : Front (codes "unit") (λ m. Reserved UnitWord ∷ m) no_name
+word_unit : Front (codes "unit") (λ m. word UnitWord ∷ m) no_name
 unfolding is_name_byte is_letter is_digit spelling
 word_unit = one (codes "unit") (Reserved UnitWord) no_name (λ after w. inl (record { first = refl; every = refl; ends = w; short = omega arith; is = inl (UnitWord, refl, refl) }))
 
-word_bag : Front (codes "bag") (λ m. Reserved Bag ∷ m) no_name
+word_bag : Front (codes "bag") (λ m. word Bag ∷ m) no_name
 unfolding is_name_byte is_letter is_digit spelling
 word_bag = one (codes "bag") (Reserved Bag) no_name (λ after w. inl (record { first = refl; every = refl; ends = w; short = omega arith; is = inl (Bag, refl, refl) }))
 
-word_inf : Front (codes "inf") (λ m. Reserved InfWord ∷ m) no_name
+word_inf : Front (codes "inf") (λ m. word InfWord ∷ m) no_name
 unfolding is_name_byte is_letter is_digit spelling
 word_inf = one (codes "inf") (Reserved InfWord) no_name (λ after w. inl (record { first = refl; every = refl; ends = w; short = omega arith; is = inl (InfWord, refl, refl) }))
 
@@ -93,7 +97,7 @@ no_digit (b ∷ w) h = elim (cases_Bool (is_digit b)) [
   | inr e ↦ rw e refl
 ]
 
-number : (n : ℕ) → n < 2 ^ 50 → Front (decimal n) (λ m. Number n ∷ m) (stops is_digit)
+number : (n : ℕ) → n < 2 ^ 50 → Front (decimal n) (λ m. number_token n ∷ m) (stops is_digit)
 number n l = one (decimal n) (Number n) (stops is_digit) (λ after w.
     let d = digits n (omega (arith, l)) in
     inr (inl (record { some = d.some; every = d.every; ends = w; small = let v = d.value in omega (arith, v, l); is = ap Number (sym d.value) })))
@@ -148,7 +152,7 @@ two_at_most Ampersand = omega arith
 two_at_most Slash = omega arith
 
 -- a sign of one byte that begins no longer one
-sign_of : (c : ℕ) (s : Sign) → c ∷ [] ≡ mark s → ((after : List ℕ) → may_follow s after ≡ true) → c ≢ 61 → c ≢ 45 → c ≢ 60 → Front (c ∷ []) (λ m. Punctuation s ∷ m) any
+sign_of : (c : ℕ) (s : Sign) → c ∷ [] ≡ mark s → ((after : List ℕ) → may_follow s after ≡ true) → c ≢ 61 → c ≢ 45 → c ≢ 60 → Front (c ∷ []) (λ m. sign s ∷ m) any
 sign_of c s e h x y z = one (c ∷ []) (Punctuation s) any (λ after w. inr (inr (inr (record {
   sign = s;
   stands = (e, h after);
@@ -156,43 +160,43 @@ sign_of c s e h x y z = one (c ∷ []) (Punctuation s) any (λ after w. inr (inr
   is = refl;
 }))))
 
-sign_left : Front (40 ∷ []) (λ m. Punctuation LeftParenthesis ∷ m) any
+sign_left : Front (40 ∷ []) (λ m. sign LeftParenthesis ∷ m) any
 unfolding mark may_follow
 sign_left = sign_of 40 LeftParenthesis refl (λ after. refl) (λ k. absurd (omega (arith, k))) (λ k. absurd (omega (arith, k))) (λ k. absurd (omega (arith, k)))
 
-sign_right : Front (41 ∷ []) (λ m. Punctuation RightParenthesis ∷ m) any
+sign_right : Front (41 ∷ []) (λ m. sign RightParenthesis ∷ m) any
 unfolding mark may_follow
 sign_right = sign_of 41 RightParenthesis refl (λ after. refl) (λ k. absurd (omega (arith, k))) (λ k. absurd (omega (arith, k))) (λ k. absurd (omega (arith, k)))
 
-sign_star : Front (codes "*") (λ m. Punctuation Star ∷ m) any
+sign_star : Front (codes "*") (λ m. sign Star ∷ m) any
 unfolding mark may_follow
 sign_star = sign_of 42 Star refl (λ after. refl) (λ k. absurd (omega (arith, k))) (λ k. absurd (omega (arith, k))) (λ k. absurd (omega (arith, k)))
 
-sign_and : Front (codes "&") (λ m. Punctuation Ampersand ∷ m) any
+sign_and : Front (codes "&") (λ m. sign Ampersand ∷ m) any
 unfolding mark may_follow
 sign_and = sign_of 38 Ampersand refl (λ after. refl) (λ k. absurd (omega (arith, k))) (λ k. absurd (omega (arith, k))) (λ k. absurd (omega (arith, k)))
 
-sign_plus : Front (codes "+") (λ m. Punctuation Plus ∷ m) any
+sign_plus : Front (codes "+") (λ m. sign Plus ∷ m) any
 unfolding mark may_follow
 sign_plus = sign_of 43 Plus refl (λ after. refl) (λ k. absurd (omega (arith, k))) (λ k. absurd (omega (arith, k))) (λ k. absurd (omega (arith, k)))
 
-sign_slash : Front (47 ∷ []) (λ m. Punctuation Slash ∷ m) any
+sign_slash : Front (47 ∷ []) (λ m. sign Slash ∷ m) any
 unfolding mark may_follow
 sign_slash = sign_of 47 Slash refl (λ after. refl) (λ k. absurd (omega (arith, k))) (λ k. absurd (omega (arith, k))) (λ k. absurd (omega (arith, k)))
 
-sign_bang : Front (33 ∷ []) (λ m. Punctuation Bang ∷ m) any
+sign_bang : Front (33 ∷ []) (λ m. sign Bang ∷ m) any
 unfolding mark may_follow
 sign_bang = sign_of 33 Bang refl (λ after. refl) (λ k. absurd (omega (arith, k))) (λ k. absurd (omega (arith, k))) (λ k. absurd (omega (arith, k)))
 
-sign_open : Front (91 ∷ []) (λ m. Punctuation LeftBracket ∷ m) any
+sign_open : Front (91 ∷ []) (λ m. sign LeftBracket ∷ m) any
 unfolding mark may_follow
 sign_open = sign_of 91 LeftBracket refl (λ after. refl) (λ k. absurd (omega (arith, k))) (λ k. absurd (omega (arith, k))) (λ k. absurd (omega (arith, k)))
 
-sign_close : Front (93 ∷ []) (λ m. Punctuation RightBracket ∷ m) any
+sign_close : Front (93 ∷ []) (λ m. sign RightBracket ∷ m) any
 unfolding mark may_follow
 sign_close = sign_of 93 RightBracket refl (λ after. refl) (λ k. absurd (omega (arith, k))) (λ k. absurd (omega (arith, k))) (λ k. absurd (omega (arith, k)))
 
-sign_lollipop : Front (codes "-o") (λ m. Punctuation Lollipop ∷ m) no_name
+sign_lollipop : Front (codes "-o") (λ m. sign Lollipop ∷ m) no_name
 unfolding mark may_follow
 sign_lollipop = one (codes "-o") (Punctuation Lollipop) no_name (λ after w. inr (inr (inr (record {
   sign = Lollipop;
@@ -218,22 +222,31 @@ close_stops : (after : List ℕ) → stops is_name_byte (93 ∷ after) ≡ true
 unfolding is_name_byte is_letter is_digit
 close_stops after = refl
 
-looser : {a : List ℕ} {k : Kinds} {f g : List ℕ → Bool} → Front a k f → ((after : List ℕ) → g after ≡ true → f after ≡ true) → Front a k g
+looser : {a : List ℕ} {k : Tokens} {f g : List ℕ → Bool} → Front a k f → ((after : List ℕ) → g after ≡ true → f after ≡ true) → Front a k g
 looser x h = record { cuts = λ p after us r end w c. x.cuts p after us r end (h after w) c }
 
-pub amount : (d : Distance) → IsBang d → Front (amount_text d) (amount_kinds d) no_name
-amount (Fin p q) l = elim (cases_Bool (nat_eq q 1)) [
-  | inl e ↦ rw e (looser (number p (let x = l.1 in omega (arith, x))) (λ after w. no_digit after w))
-  | inr e ↦ rw e (seq (number p (let x = l.1 in omega (arith, x))) (seq sign_slash (looser (number q (let x = l.3 in omega (arith, x))) (λ after w. no_digit after w)) (λ after w. refl)) (λ after w. slash_stops (decimal q ++ after)))
-]
+fraction : (p q : ℕ) (b : Bool) → p < 2 ^ 50 → q < 2 ^ 50
+    → Front (cond b (decimal p) (decimal p ++ (47 ∷ decimal q))) (λ k. number_token p ∷ cond b k (sign Slash ∷ number_token q ∷ k)) no_name
+fraction p q true l m = looser (number p l) (λ after w. no_digit after w)
+fraction p q false l m = seq (number p l) (seq sign_slash (looser (number q m) (λ after w. no_digit after w)) (λ after w. refl)) (λ after w. slash_stops (decimal q ++ after))
+
+pub amount : (d : Distance) → IsBang d → Front (amount_text d) (written_factor d) no_name
+amount (Fin p q) l = fraction p q (nat_eq q 1) (let x = l.1 in omega (arith, x)) (let x = l.3 in omega (arith, x))
 amount Inf l = word_inf
 
 -- types
-infix_front : (s : List ℕ) (sign : Sign) (A B : List ℕ) (a b : Kinds) → Front s (λ m. Punctuation sign ∷ m) no_name → Front A a no_name → Front B b no_name → Front (infix_text s A B) (infix_kinds sign a b) no_name
-infix_front s sign A B a b h x y =
-    seq sign_left (seq x (seq space (seq h (seq space (seq y (looser sign_right (λ after w. refl)) (λ after w. right_stops after)) (λ after w. refl)) (λ after w. space_stops _)) (λ after w. refl)) (λ after w. space_stops _)) (λ after w. refl)
+infix_front : (s : List ℕ) (x : Sign) (A B : List ℕ) (a b : Tokens) → Front s (λ m. sign x ∷ m) no_name → Front A a no_name → Front B b no_name
+    → Front (infix_text s A B) (in_parentheses (λ k. a (sign x ∷ b k))) no_name
+unfolding is_name_byte is_letter is_digit
+infix_front s x A B a b h f g =
+    let last = seq g (looser sign_right (λ after w. refl)) (λ after w. refl) in
+    let right = seq space last (λ after w. refl) in
+    let middle = seq h right (λ after w. refl) in
+    let left = seq f (seq space middle (λ after w. refl)) (λ after w. refl) in
+    seq sign_left left (λ after w. refl)
 
-pub type_front : (A : Ty) → TypeLimits A → Front (type_text A) (type_kinds A) no_name
+pub type_front : (A : Ty) → TypeLimits A → Front (type_text A) (written_type A) no_name
+unfolding is_name_byte is_letter is_digit
 type_front NumT l = word_num
 type_front TextT l = word_text
 type_front UnitT l = word_unit
@@ -242,13 +255,14 @@ type_front (WithT A B) l = infix_front (codes "&") Ampersand _ _ _ _ (looser sig
 type_front (SumT A B) l = infix_front (codes "+") Plus _ _ _ _ (looser sign_plus (λ after w. refl)) (type_front A l.0) (type_front B l.1)
 type_front (ArrowT A B) l = infix_front (codes "-o") Lollipop _ _ _ _ sign_lollipop (type_front A l.0) (type_front B l.1)
 type_front (BangT r A) l =
-    seq sign_bang (seq sign_open (seq (amount r l.0) (seq sign_close (seq space (type_front A l.1) (λ after w. refl)) (λ after w. refl)) (λ after w. close_stops _)) (λ after w. refl)) (λ after w. refl)
-type_front (BagT A) l = seq word_bag (seq space (type_front A l) (λ after w. refl)) (λ after w. space_stops _)
+    seq sign_bang (seq sign_open (seq (amount r l.0) (seq sign_close (seq space (type_front A l.1) (λ after w. refl)) (λ after w. refl)) (λ after w. refl)) (λ after w. refl)) (λ after w. refl)
+type_front (BagT A) l = seq word_bag (seq space (type_front A l) (λ after w. refl)) (λ after w. refl)
+
+-- alone, with nothing behind
+pub whole : {a : List ℕ} {ks : Tokens} → Front a ks no_name → (ts : List Token) × AreTokens a ts × (kinds_of ts ≡ kinds_of (ks []))
+whole {a} x =
+    let c = x.cuts 0 [] [] (length a) [] refl ([], refl, refl, refl, omega arith) in
+    (c.0, subst (λ z. Cut 0 z c.0 (length a) []) (append-nil a) c.1, c.2 [] refl)
 
 pub types_cut : TypesAreCut
 types_cut A l = whole (type_front A l)
-  where
-    whole : {a : List ℕ} {k : Kinds} → Front a k no_name → (ts : List Token) × AreTokens a ts × (kinds ts ≡ k [])
-    whole {a} x =
-        let c = x.cuts 0 [] [] (length a) [] refl ([], refl, refl, refl, omega arith) in
-        (c.0, subst (λ z. Cut 0 z c.0 (length a) []) (append-nil a) c.1, c.2 [] refl)
