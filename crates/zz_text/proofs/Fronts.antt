@@ -27,7 +27,7 @@ pub record Front (text : List ℕ) (ks : Tokens) (f : List ℕ → Bool) : Type 
   pub cuts : (p : ℕ) (after : List ℕ) (us : List Token) (r : ℕ) (end : List ℕ) → f after ≡ true → Cut (p + length text) after us r end
       → (ts : List Token) × Cut p (text ++ after) ts r end × ((m : List Token) → kinds_of us ≡ kinds_of m → kinds_of ts ≡ kinds_of (ks m))
 
-abbrev any : List ℕ → Bool
+abbrev pub any : List ℕ → Bool
 any after = true
 
 abbrev pub no_name : List ℕ → Bool
@@ -48,7 +48,7 @@ unfolding is_blank
 spaced [] p w r end h = (32 ∷ h.0, ap (λ x. 32 ∷ x) h.1, h.2, h.3, omega (arith, h.4))
 spaced (u ∷ us) p w r end h = (32 ∷ h.0, h.1, h.2, ap (λ x. 32 ∷ x) h.3, h.4, h.5, omega (arith, h.6), h.7, h.8)
 
-space : Front (32 ∷ []) (λ m. m) any
+pub space : Front (32 ∷ []) (λ m. m) any
 space = record { cuts = λ p after us r end w c. (us, spaced us p after r end (subst (λ n. Cut n after us r end) (omega arith) c), λ m e. e) }
 
 abbrev bare : Kind → Token
@@ -222,7 +222,7 @@ close_stops : (after : List ℕ) → stops is_name_byte (93 ∷ after) ≡ true
 unfolding is_name_byte is_letter is_digit
 close_stops after = refl
 
-looser : {a : List ℕ} {k : Tokens} {f g : List ℕ → Bool} → Front a k f → ((after : List ℕ) → g after ≡ true → f after ≡ true) → Front a k g
+pub looser : {a : List ℕ} {k : Tokens} {f g : List ℕ → Bool} → Front a k f → ((after : List ℕ) → g after ≡ true → f after ≡ true) → Front a k g
 looser x h = record { cuts = λ p after us r end w c. x.cuts p after us r end (h after w) c }
 
 fraction : (p q : ℕ) (b : Bool) → p < 2 ^ 50 → q < 2 ^ 50

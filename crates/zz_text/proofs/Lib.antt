@@ -1,2 +1,4 @@
-pub mod Fronts
 pub mod Numbers
+pub mod Fronts
+pub mod Plain
+pub mod ReadBack
