@@ -1,2 +1,6 @@
 -- The proofs of this crate.
 pub mod Examples
+pub mod Digits
+pub mod Fronts
+pub mod Plain
+pub mod ReadBack

@@ -14,4 +14,5 @@ pub mod Judged
 pub mod ByPlace
 pub mod Least
 pub mod Written
+pub mod Readable
 pub mod Law

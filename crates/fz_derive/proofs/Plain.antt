@@ -8,8 +8,8 @@ use Rattle.fz_frac.specs.Distance.{Distance, Fin, Inf}
 use Rattle.fz_ast.specs.Types.{Ty, NumT, TextT, UnitT, TensorT, WithT, SumT, ArrowT, BangT, BagT}
 use Rattle.fz_ast.specs.Limits.{IsBang, TypeLimits}
 use Rattle.fz_lexer.specs.Bytes.{every_byte, is_digit, is_letter, is_name_byte}
-use Rattle.zz_text.specs.Written.{type_text, amount_text, infix_text}
-use Rattle.zz_text.proofs.Numbers.{digits}
+use Rattle.fz_derive.specs.Written.{type_text, amount_text, infix_text}
+use Rattle.fz_derive.proofs.Digits.{digits}
 
 -- neither a bar nor LF
 abbrev pub plain : ℕ → Bool

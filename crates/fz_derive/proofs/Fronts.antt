@@ -17,10 +17,9 @@ use Rattle.fz_lexer.specs.Bytes.{begins, every_byte, is_blank, is_digit, is_lett
 use Rattle.fz_lexer.specs.Signs.{IsLongest, SpellsSign, mark, may_follow}
 use Rattle.fz_lexer.specs.Tokens.{AreTokens, Cut, IsToken}
 use Rattle.fz_lexer.specs.Words.{spelling}
-use Rattle.zz_text.specs.Written.{type_text, amount_text, infix_text}
+use Rattle.fz_derive.specs.Written.{type_text, amount_text, infix_text}
 use Rattle.fz_parser.specs.Printer.{Tokens, sign, word, number_token, kinds_of, in_parentheses, written_factor, written_type, type_kinds, factor_kinds}
-use Rattle.zz_text.specs.Law.{TypesAreCut}
-use Rattle.zz_text.proofs.Numbers.{digits}
+use Rattle.fz_derive.proofs.Digits.{digits}
 
 -- before bytes that may follow, these bytes are these tokens in front, wherever they stand
 pub record Front (text : List ℕ) (ks : Tokens) (f : List ℕ → Bool) : Type 0 where
@@ -263,6 +262,3 @@ pub whole : {a : List ℕ} {ks : Tokens} → Front a ks no_name → (ts : List T
 whole {a} x =
     let c = x.cuts 0 [] [] (length a) [] refl ([], refl, refl, refl, omega arith) in
     (c.0, subst (λ z. Cut 0 z c.0 (length a) []) (append-nil a) c.1, c.2 [] refl)
-
-pub types_cut : TypesAreCut
-types_cut A l = whole (type_front A l)

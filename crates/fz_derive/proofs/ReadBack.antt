@@ -12,12 +12,12 @@ use Rattle.fz_lexer.specs.declared.token.Kind.TheVariants.{Name as NameKind}
 use Rattle.fz_parser.specs.Printer.{Tokens, factor_kinds, kinds_of, name_token, written_factor}
 use Rattle.fz_lexer.specs.declared.token.Token.{Token}
 use Rattle.fz_ast.specs.Types.{Ty}
-use Rattle.zz_text.specs.Lines.{Said, Line}
-use Rattle.zz_text.specs.Texts.{AreLines, AreSaidTexts, ArePieces, IsLineText, IsSaidText, IsTypeText, bar, lacks, line_feed}
-use Rattle.zz_text.specs.Written.{amount_text, derivation_text, line_text, said_text, type_text}
-use Rattle.zz_text.specs.Law.{IsLine, IsWord, IsWritable, Readers, WrittenReadsBack}
-use Rattle.zz_text.proofs.Fronts.{Front, amount, any, no_name, one, seq, space, looser, type_front, whole}
-use Rattle.zz_text.proofs.Plain.{amount_plain, every_append, every_of, name_plain, no_bar, plain, type_plain, no_line_feed}
+use Rattle.fz_derive.specs.Lines.{Said, Line}
+use Rattle.fz_derive.specs.Texts.{AreLines, AreSaidTexts, ArePieces, IsLineText, IsSaidText, IsTypeText, bar, lacks, line_feed}
+use Rattle.fz_derive.specs.Written.{amount_text, derivation_text, line_text, said_text, type_text}
+use Rattle.fz_derive.specs.Readable.{IsReadable, IsSayable, IsWord, Readers, WrittenReadsBack}
+use Rattle.fz_derive.proofs.Fronts.{Front, amount, any, no_name, one, seq, space, looser, type_front, whole}
+use Rattle.fz_derive.proofs.Plain.{amount_plain, every_append, every_of, name_plain, no_bar, plain, type_plain, no_line_feed}
 
 -- a name's token
 named : (x : Name) → IsWord x → Front x (λ m. name_token x ∷ m) no_name
@@ -27,11 +27,11 @@ named x n = one x (NameKind x) no_name (λ after w. inl (record { first = n.firs
 abbrev behind : Said → List ℕ
 behind s = 32 ∷ (s.name ++ (32 ∷ amount_text s.amount))
 
-behind_front : (s : Said) → IsWritable s → Front (behind s) (λ m. name_token s.name ∷ written_factor s.amount m) no_name
+behind_front : (s : Said) → IsSayable s → Front (behind s) (λ m. name_token s.name ∷ written_factor s.amount m) no_name
 unfolding is_name_byte is_letter is_digit
 behind_front s h = seq space (seq (named s.name h.name) (seq space (amount s.amount h.amount) (λ after w. refl)) (λ after w. refl)) (λ after w. refl)
 
-behind_plain : (s : Said) → IsWritable s → every_byte plain (behind s) ≡ true
+behind_plain : (s : Said) → IsSayable s → every_byte plain (behind s) ≡ true
 behind_plain s h = every_append plain s.name (32 ∷ amount_text s.amount) (every_of is_name_byte plain name_plain s.name h.name.every) (amount_plain s.amount h.amount)
 
 -- a piece, perhaps with a space behind it
@@ -51,15 +51,15 @@ spaced : {a : List ℕ} {ks : Tokens} → Front a ks no_name → Front (a ++ (32
 unfolding is_name_byte is_letter is_digit
 spaced x = looser (seq x space (λ after w. refl)) (λ after w. refl)
 
-said_of : Readers → (s : Said) → IsWritable s → (text : List ℕ) → (ts : List Token) → AreTokens text ts → kinds_of ts ≡ NameKind s.name ∷ factor_kinds s.amount → IsSaidText text s
+said_of : Readers → (s : Said) → IsSayable s → (text : List ℕ) → (ts : List Token) → AreTokens text ts → kinds_of ts ≡ NameKind s.name ∷ factor_kinds s.amount → IsSaidText text s
 said_of R s h text [] a k = absurd (cc k)
 said_of R s h text (t ∷ ts) a k = (t, ts, a, cc k, R.1 ts s.amount h.amount (cc k))
 
-said_piece : Readers → (s : Said) → IsWritable s → (text : List ℕ) → Piece (behind s) text → IsSaidText text s
+said_piece : Readers → (s : Said) → IsSayable s → (text : List ℕ) → Piece (behind s) text → IsSaidText text s
 said_piece R s h _ last = let w = whole (behind_front s h) in said_of R s h (behind s) w.0 w.1 w.2
 said_piece R s h _ inner = let w = whole (spaced (behind_front s h)) in said_of R s h (behind s ++ (32 ∷ [])) w.0 w.1 w.2
 
-pieces : Readers → (ss : List Said) → AllByRecursion IsWritable ss → (front : List ℕ) → every_byte plain front ≡ true → Pieces front ss
+pieces : Readers → (ss : List Said) → AllByRecursion IsSayable ss → (front : List ℕ) → every_byte plain front ≡ true → Pieces front ss
 pieces R [] h front n =
     record { text = front; texts = []; cut = rw (append-nil front) (slice_split_none (λ b. b == bar) front (no_bar front n)); piece = last; said = tt }
 pieces R (s ∷ ss) h front n =
@@ -84,16 +84,16 @@ type_piece R A l _ inner = let w = whole (spaced (type_front A l)) in (w.0, w.1,
 abbrev body : Line → List ℕ
 body l = type_text l.ty ++ flat_map said_text l.says
 
-line_read : Readers → (l : Line) → IsLine l → IsLineText (body l) l
+line_read : Readers → (l : Line) → IsReadable l → IsLineText (body l) l
 line_read R l h =
     let p = pieces R l.says h.each (type_text l.ty) (type_plain l.ty h.limits) in
     record { pieces = rw p.cut (type_piece R l.ty h.limits p.text p.piece, p.said); order = h.order }
 
-says_lack : (ss : List Said) → AllByRecursion IsWritable ss → lacks line_feed (flat_map said_text ss) ≡ true
+says_lack : (ss : List Said) → AllByRecursion IsSayable ss → lacks line_feed (flat_map said_text ss) ≡ true
 says_lack [] h = refl
 says_lack (s ∷ ss) h = every_append (λ b. not (b == line_feed)) (said_text s) (flat_map said_text ss) (no_line_feed (behind s) (behind_plain s h.0)) (says_lack ss h.1)
 
-body_lacks : (l : Line) → IsLine l → lacks line_feed (body l) ≡ true
+body_lacks : (l : Line) → IsReadable l → lacks line_feed (body l) ≡ true
 body_lacks l h = every_append (λ b. not (b == line_feed)) (type_text l.ty) (flat_map said_text l.says) (no_line_feed (type_text l.ty) (type_plain l.ty h.limits)) (says_lack l.says h.each)
 
 pub read_back : WrittenReadsBack

@@ -1,4 +1,0 @@
-pub mod Numbers
-pub mod Fronts
-pub mod Plain
-pub mod ReadBack
