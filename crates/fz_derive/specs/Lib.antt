@@ -15,4 +15,5 @@ pub mod ByPlace
 pub mod Least
 pub mod Written
 pub mod Readable
+pub mod Counted
 pub mod Law
