@@ -1,0 +1,72 @@
+-- What a derivation promises.
+use Rattle.std.specs.Prelude.{◌≡◌, ◌↔◌, ℕ, ℤ, List, [], ◌∷◌, length, Option, Some, None}
+use Rattle.fz_frac.specs.Distance.{Distance, Fin, mul, ◌⊑◌}
+use Rattle.fz_ast.specs.Limits.{IsNumber, TermLimits}
+use Rattle.fz_ast.specs.Signature.{IsSignature, Signature}
+use Rattle.fz_ast.specs.Terms.{Term}
+use Rattle.fz_ast.specs.Types.{Ty}
+use Rattle.metric_values.specs.Distances.{gap}
+use Rattle.metric_values.specs.Tables.{Dataset, IsDataset, apart, rows_of}
+use Rattle.metric_values.specs.Values.{Env, NumV, Value}
+use Rattle.term_meanings.specs.Environments.{NearEnv, TypedEnv, dot}
+use Rattle.term_meanings.specs.Means.{Means}
+use Rattle.term_meanings.specs.Near.{Near, Typed}
+use Rattle.term_meanings.specs.Scopes.{AllTypes, Closed, Context, Under}
+use Rattle.term_meanings.specs.Sensitivities.{Sensitivities}
+use Rattle.fz_derive.specs.ByPlace.{Derivable}
+use Rattle.fz_derive.specs.Derivable.{Derives, IsDerivable}
+use Rattle.fz_derive.specs.Faults.{fault_in}
+use Rattle.fz_derive.specs.Judged.{fault_of, greatest_said, names_of, IsJudged, IsMisjudged}
+use Rattle.fz_derive.specs.Least.{least, lines_of}
+use Rattle.fz_derive.specs.Lines.{Line, line_at, amount_in}
+use Rattle.fz_derive.specs.Nodes.{nodes_of}
+use Rattle.fz_derive.specs.Numbers.{Amounts, without}
+
+-- the numbers of the names in scope by their places: a hidden name is at 0
+abbrev pub by_place : Context → Amounts → Sensitivities
+by_place Closed D = []
+by_place (Under x A Γ) D = D x ∷ by_place Γ (without x D)
+
+-- what is derived by names is derived by places
+abbrev pub DerivedByPlace : Type 0
+DerivedByPlace = (Γ : Context) (e : Term) (l : Line) (below : List Line) → AllTypes Γ → TermLimits e → Derives Γ e (l ∷ below) → Derivable Γ e l.ty (by_place Γ (amount_in l.says))
+
+-- what is derived of a term bounds how far its values on near environments are apart
+abbrev pub DerivedIsBounded : Type 0
+DerivedIsBounded =
+    (Γ : Context) (e : Term) (A : Ty) (D : Sensitivities) → AllTypes Γ → Derivable Γ e A D
+    → (γ γ' : Env) (δ : List Distance) → TypedEnv Γ γ → TypedEnv Γ γ' → NearEnv Γ γ γ' δ
+    → (v w : Value) → Means γ e v → Means γ' e w → Near A v w (dot D δ)
+
+-- and a term of which something is derived has a value, which is of the type
+abbrev pub DerivedHasValue : Type 0
+DerivedHasValue =
+    (Γ : Context) (e : Term) (A : Ty) (D : Sensitivities) → AllTypes Γ → Derivable Γ e A D
+    → (γ : Env) → TypedEnv Γ γ → (v : Value) × Means γ e v × Typed A v
+
+-- The numbers of a program that is derivable, on two datasets, differ by at most the greatest of what its first line says times how far
+-- the datasets are apart.
+abbrev pub DerivableIsBounded : Type 0
+DerivableIsBounded =
+    (ts : Signature) (e : Term) (lines : List Line) → IsSignature ts → TermLimits e → IsDerivable ts e lines
+    → (X Y : Dataset) → IsDataset ts X → IsDataset ts Y → (y z : ℤ) → Means (rows_of ts X) e (NumV y) → Means (rows_of ts Y) e (NumV z)
+    → Fin (gap y z) 1 ⊑ mul (greatest_said (line_at lines 0).says) (Fin (apart X Y) 1)
+
+-- and it has a number on each dataset
+abbrev pub DerivableHasValue : Type 0
+DerivableHasValue =
+    (ts : Signature) (e : Term) (lines : List Line) → IsSignature ts → TermLimits e → IsDerivable ts e lines
+    → (X : Dataset) → IsDataset ts X → (z : ℤ) × Means (rows_of ts X) e (NumV z) × IsNumber z
+
+-- of lines that are as many as the nodes, none is at fault exactly where they are a derivation
+abbrev pub DerivableExactly : Type 0
+DerivableExactly =
+    (ts : Signature) (e : Term) (lines : List Line) → length lines ≡ nodes_of e → (fault_of ts e lines ≡ None) ↔ IsDerivable ts e lines
+
+-- a derivation has a line for each node
+abbrev pub LinesAreNodes : Type 0
+LinesAreNodes = (Γ : Context) (e : Term) (lines : List Line) → Derives Γ e lines → length lines ≡ nodes_of e
+
+-- the least derivation of a term, where there is one, is a derivation
+abbrev pub LeastIsDerived : Type 0
+LeastIsDerived = (Γ : Context) (e : Term) → (d : _) → least Γ e ≡ Some d → Derives Γ e (lines_of d)

@@ -1,0 +1,1 @@
+//! Types of one list by their numbers in an arena.

@@ -1,0 +1,1 @@
+//! The least derivation of a term.

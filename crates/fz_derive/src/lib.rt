@@ -1,0 +1,14 @@
+//! Derivations: a program's typing written out, a line for each node, and a judge of them that stands on meanings alone.
+#![tactic(auto)]
+
+pub mod interned;
+pub mod judge;
+pub mod laws;
+pub mod least;
+pub mod line;
+pub mod lines;
+pub mod row;
+pub mod scope;
+pub mod shape;
+pub mod tables;
+pub mod write;

@@ -1,0 +1,1 @@
+//! What a form's rule makes of its parts' lines.

@@ -1,0 +1,1 @@
+//! The type that a rule makes.
