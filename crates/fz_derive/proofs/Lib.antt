@@ -1,2 +1,5 @@
 -- The proofs of this crate.
 pub mod Examples
+pub mod Says
+pub mod Numbered
+pub mod Pieces

@@ -15,3 +15,6 @@ pub mod ByPlace
 pub mod Least
 pub mod Written
 pub mod Law
+pub mod Found
+pub mod Interned
+pub mod Pieces
