@@ -4,3 +4,6 @@ pub mod Digits
 pub mod Fronts
 pub mod Plain
 pub mod ReadBack
+pub mod Says
+pub mod Numbered
+pub mod Pieces

@@ -17,3 +17,6 @@ pub mod Written
 pub mod Readable
 pub mod Counted
 pub mod Law
+pub mod Found
+pub mod Interned
+pub mod Pieces
