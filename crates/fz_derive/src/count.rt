@@ -1,12 +1,13 @@
 //! How long the texts of types and lines are, before any is written: a type's text may be exponentially longer than what is kept of the type.
 ghost use Rattle.std.specs.Prelude.{◌≡◌, ◌<◌, ◌≤◌, ◌+◌, ℕ, List, length, decimal, min, IfOk};
-ghost use Rattle.std.specs.List.{flat_map};
+ghost use Rattle.std.specs.List.{AllByRecursion};
 ghost use Rattle.fz_ast.specs.Types.{Ty};
 ghost use Rattle.fz_ast.specs.TypeNodes.{IsKnownType, type_at, type_of};
 ghost use Rattle.fz_derive.specs.Counted.{AreCounts, IsCount};
 ghost use Rattle.fz_derive.specs.Held.{AreHeld, line_in, lines_in};
 ghost use Rattle.fz_derive.specs.Said.{said_of};
 ghost use Rattle.fz_derive.specs.Written.{amount_text, derivation_text, infix_text, line_text, said_text, type_text};
+ghost use Rattle.fz_derive.specs.declared.line.Line.{Line};
 ghost use Rattle.fz_frac.specs.Sens.{distance_of};
 
 use crate::line::{Line, Said};
@@ -99,7 +100,7 @@ fn line_length(lengths: &[usize], line: &Line) -> usize
 }
 
 fn lines_length(lengths: &[usize], lines: &[Line]) -> usize
-    requires { (T : List Ty) → length T ≡ length lengths.now → AreHeld T lines.now }
+    requires { AllByRecursion (λ (l : Line). l.ty < length lengths.now) lines.now }
     ensures { (T : List Ty) → AreCounts T lengths.now → IsCount (derivation_text (lines_in T lines.now)) result }
 {
     let mut length = 0usize;
