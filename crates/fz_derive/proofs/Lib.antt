@@ -4,6 +4,7 @@ pub mod Digits
 pub mod Fronts
 pub mod Plain
 pub mod ReadBack
+pub mod Pending
 pub mod Says
 pub mod Numbered
 pub mod Pieces

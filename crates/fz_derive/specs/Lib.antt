@@ -16,6 +16,8 @@ pub mod Least
 pub mod Written
 pub mod Readable
 pub mod Counted
+pub mod Pending
+pub mod Unwritten
 pub mod Law
 pub mod Found
 pub mod Interned
