@@ -4,6 +4,8 @@ pub mod Digits
 pub mod Fronts
 pub mod Plain
 pub mod ReadBack
+pub mod LeastNames
+pub mod LeastDerived
 pub mod Pending
 pub mod Says
 pub mod Numbered
