@@ -3,6 +3,7 @@ pub mod Allowed
 pub mod Bounds
 pub mod ByNames
 pub mod Counted
+pub mod Digits
 pub mod Every
 pub mod Exactly
 pub mod ExampleLines
@@ -15,7 +16,16 @@ pub mod ExamplesOfPrograms
 pub mod ExamplesOfScopes
 pub mod ExamplesOfSums
 pub mod Faultless
+pub mod Fronts
+pub mod LeastDerived
+pub mod LeastNames
+pub mod Numbered
 pub mod Once
+pub mod Pending
+pub mod Pieces
+pub mod Plain
 pub mod Programs
+pub mod ReadBack
+pub mod Says
 pub mod Segments
 pub mod Whole

@@ -14,4 +14,11 @@ pub mod Bound
 pub mod ByPlace
 pub mod Least
 pub mod Written
+pub mod Readable
+pub mod Counted
+pub mod Pending
+pub mod Unwritten
 pub mod Law
+pub mod Found
+pub mod Interned
+pub mod Pieces
