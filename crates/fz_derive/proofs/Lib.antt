@@ -3,3 +3,5 @@ pub mod Examples
 pub mod Says
 pub mod Numbered
 pub mod Pieces
+pub mod Behind
+pub mod Derivations
