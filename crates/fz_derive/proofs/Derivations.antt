@@ -10,6 +10,7 @@ use Rattle.fz_derive.specs.Texts.{line_feed, lacks, IsLineText, BeginWith, NoLin
 use Rattle.fz_derive.specs.Held.{line_in, lines_in, AreHeld}
 use Rattle.fz_derive.specs.Pieces.{NoLineText}
 use Rattle.fz_derive.specs.declared.line.Line.{Line as Kept}
+use Rattle.fz_derive.proofs.Once.{first_once}
 
 -- Lines keep what they say in an arena that grows.
 line_grows : (T U : List Ty) (l : Kept) → Grows T U → l.ty < length T → line_in U l ≡ line_in T l
@@ -64,26 +65,13 @@ not_cut c text front back h e = go front (subst (λ w. lacks c w ≡ true) e h)
     go [] h = let (here, there) = and_parts (not (c == c)) (lacks c back) h in absurd (cc (not-true (c == c) here, eq-eqb c c refl))
     go (b ∷ front) h = let (here, there) = and_parts (not (b == c)) (lacks c (front ++ c ∷ back)) h in go front there
 
--- a text is cut at a byte's first place in one way
-cut_once : (c : ℕ) (front other back after : List ℕ) → lacks c front ≡ true → lacks c other ≡ true → front ++ c ∷ back ≡ other ++ c ∷ after → other ≡ front
-cut_once c [] [] back after h k e = refl
-cut_once c [] (b ∷ other) back after h k e = let same : c ≡ b = cc in absurd (not_cut c (b ∷ other) [] other k (ap (λ x. x ∷ other) (sym same)))
-cut_once c (b ∷ front) [] back after h k e = let same : b ≡ c = cc in absurd (not_cut c (b ∷ front) [] front h (ap (λ x. x ∷ front) same))
-cut_once c (b ∷ front) (d ∷ other) back after h k e =
-    let (h0, h1) = and_parts (not (b == c)) (lacks c front) h in
-    let (k0, k1) = and_parts (not (d == c)) (lacks c other) k in
-    let first : d ≡ b = cc in
-    let rest = cut_once c front other back after h1 k1 cc in
-    ap (λ x. x ∷ other) first ∙ ap (λ w. b ∷ w) rest
-
 -- where no line feed is left, no line is; nor where the first isn't of the form
 pub no_line_ended : (rest : List ℕ) → lacks line_feed rest ≡ true → NoLine rest
 no_line_ended rest h text more l e k is = not_cut line_feed rest text more h e
 
 pub no_line_formed : (rest text after : List ℕ) → rest ≡ text ++ line_feed ∷ after → lacks line_feed text ≡ true → NoLineText text → NoLine rest
 no_line_formed rest text after e h never other more l f k is =
-    let same = cut_once line_feed text other after more h k (sym e ∙ f) in
-    never l (subst (λ w. IsLineText w l) same is)
+    never l (subst (λ w. IsLineText w l) (first_once line_feed other text more after k h (sym f ∙ e)).0 is)
 
 module _ (bytes : List ℕ) (T : List Ty) (lines : List Kept) (rest : List ℕ) (b : AreBegun bytes T lines rest) where
   pub no_line_at : (n k : ℕ) → length lines ≡ k → k < n → NoLine rest → IsFaultyLine bytes n k
