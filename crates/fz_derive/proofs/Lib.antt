@@ -1,8 +1,10 @@
 -- The proofs of this crate.
 pub mod Allowed
+pub mod Behind
 pub mod Bounds
 pub mod ByNames
 pub mod Counted
+pub mod Derivations
 pub mod Digits
 pub mod Every
 pub mod Exactly
