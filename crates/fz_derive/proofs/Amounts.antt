@@ -38,3 +38,26 @@ number_by (Err x) d e h k i = let g : is_out e ≡ true = out_same_true d e h (i
 pub one_refl : (o : Option Distance) → AreOne o o
 one_refl (Some d) = ≈-refl d
 one_refl None = tt
+
+-- numbers that are equal as fractions are in range together
+pub ranged_alike : (d e : Distance) → d ≈ e → AreOne (ranged d) (ranged e)
+ranged_alike d e h = go (is_out d) refl
+  where
+    go : (b : Bool) → is_out d ≡ b → AreOne (ranged d) (ranged e)
+    go true i = rw (i, out_same_true d e h i) tt
+    go false i = rw (i, out_same d e h i) h
+
+pub with_alike : (o u : Option Distance) (b : Distance) → AreOne o u → AreOne (with_number o (sum_of b)) (with_number u (sum_of b))
+with_alike (Some d) (Some e) b h = ranged_alike (add b d) (add b e) (add_alike (≈-refl b) h)
+with_alike None None b h = tt
+with_alike (Some d) None b h = absurd h
+with_alike None (Some e) b h = absurd h
+
+module _ (r d : Distance) (h : r ≈ d) where
+  -- r a
+  pub product_alike : (a : Distance) → AreOne (product_of r a) (product_of d a)
+  product_alike a = ranged_alike (mul r a) (mul d a) (mul_alike h (≈-refl a))
+
+  -- b + r a
+  pub bound_alike : (a b : Distance) → AreOne (with_number (product_of r a) (sum_of b)) (with_number (product_of d a) (sum_of b))
+  bound_alike a b = with_alike (product_of r a) (product_of d a) b (product_alike a)

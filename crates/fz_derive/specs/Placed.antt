@@ -1,6 +1,7 @@
 -- The numbers that the code's numbers stand for: parts' lines stand at places.
-use Rattle.std.specs.Prelude.{ℕ, ◌<◌, ◌≡◌, List, length, Option, Some, None, Result, Ok, Err, ⊤}
+use Rattle.std.specs.Prelude.{true, false, ℕ, ◌<◌, ◌≡◌, List, length, Option, Some, None, Result, Ok, Err, ⊤}
 use Rattle.fz_frac.specs.Distance.{Distance, ◌≈◌}
+use Rattle.fz_frac.specs.Lowest.{is_out}
 use Rattle.fz_frac.specs.Sens.{distance_of}
 use Rattle.fz_frac.specs.declared.frac.Range.{Range}
 use Rattle.fz_frac.specs.declared.sens.Sens.{Sens}
@@ -62,3 +63,8 @@ IsNumber (Ok s) (Some d) = distance_of s ≈ d
 IsNumber (Ok s) None = ⊥
 IsNumber (Err e) (Some d) = ⊥
 IsNumber (Err e) None = ⊤
+
+-- a number of the row itself, and none where it is out of range
+abbrev pub IsFactor : Option Sens → Distance → Type 0
+IsFactor (Some r) d = (is_out d ≡ false) × (distance_of r ≈ d)
+IsFactor None d = is_out d ≡ true
