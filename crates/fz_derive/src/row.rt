@@ -1,6 +1,6 @@
 //! What its rule gives a node: a type, and a number at each name.
 ghost use Rattle.std.specs.Prelude.{◌≡◌, Some};
-ghost use Rattle.fz_derive.specs.declared.shape.Shape.TheVariants.{Known, Of, Truth};
+ghost use Rattle.fz_derive.specs.declared.shape.Shape.TheVariants.{Known, Of, Truth, Unlimited};
 
 use crate::numbers::Numbers;
 use crate::shape::Shape;
@@ -46,6 +46,16 @@ pub fn truth(numbers: Numbers) -> Option<Row>
 {
     Some(Row {
         shape: Shape::Truth,
+        numbers,
+    })
+}
+
+/// `A -> B`
+pub fn unlimited(a: u32, b: u32, numbers: Numbers) -> Option<Row>
+    ensures { result ≡ Some (record { shape = Unlimited a b; numbers = numbers }) }
+{
+    Some(Row {
+        shape: Shape::Unlimited(a, b),
         numbers,
     })
 }
