@@ -1,5 +1,5 @@
 -- Numbers of a rule, as the code has them: up to equality of fractions.
-use Rattle.std.proofs.Common.{◌≡◌, ℕ, ◌<◌, refl, sym, ◌∙◌, Bool, true, false, List, length, get_or, IfOk, IsTrue, ◌↔◌, true≢false}
+use Rattle.std.proofs.Common.{◌≡◌, ℕ, zero, suc, ◌<◌, ◌≤◌, refl, arith, sym, ap, ◌∙◌, [], ◌∷◌, Bool, true, false, List, length, get_or, IfOk, IsTrue, ◌↔◌, true≢false}
 use Rattle.std.specs.Prelude.{Result, Ok, Err, IsErr, Option, Some, None}
 use Rattle.std.proofs.lemmas.List.{get_or-map}
 use Rattle.fz_frac.specs.Distance.{Distance, add, mul, greater, is_le, ◌≈◌, ◌⊑◌}
@@ -20,6 +20,13 @@ use Rattle.fz_derive.specs.declared.line.Line.{Line as Kept}
 pub line_of : (T : List Ty) (ls : List Kept) (k : ℕ) (l : Kept) → k < length ls → line_at (lines_in T ls) k ≡ line_in T (get_or ls k l)
 unfolding line_at
 line_of T ls k l h = get_or-map (line_in T) ls k l _ h
+
+-- past the last line
+pub no_line : (T : List Ty) (ls : List Kept) (k : ℕ) → length ls ≤ k → (line_at (lines_in T ls) k).says ≡ []
+unfolding line_at
+no_line T [] k h = refl
+no_line T (l ∷ ls) zero h = absurd (omega (arith, h))
+no_line T (l ∷ ls) (suc k) h = no_line T ls k (omega (arith, h))
 
 pub add_alike : {a b c d : Distance} → a ≈ b → c ≈ d → add a c ≈ add b d
 add_alike h k = record { le = h.le ⊕ k.le; ge = h.ge ⊕ k.ge }

@@ -34,22 +34,6 @@ number_of lines (LetPair r e y z b) =
 number_of lines (Cases r e y a z b) =
     bound_sums (greater_at (without (name_of y) (said_at lines a)) (without (name_of z) (said_at lines b))) (distance_of r) (said_at lines e)
 
--- its places are below n
-abbrev pub ArePlaces : ℕ → Kept → Type 0
-ArePlaces n Zero = ⊤
-ArePlaces n (One y) = ⊤
-ArePlaces n (Same e) = e < n
-ArePlaces n (Scaled r e) = e < n
-ArePlaces n (Sum a b) = (a < n) × (b < n)
-ArePlaces n (Greater a b) = (a < n) × (b < n)
-ArePlaces n (Endless a b) = (a < n) × (b < n)
-ArePlaces n (Mapped f b) = (f < n) × (b < n)
-ArePlaces n (Chosen e a b) = (e < n) × (a < n) × (b < n)
-ArePlaces n (Under y e) = e < n
-ArePlaces n (Let r e y b) = (e < n) × (b < n)
-ArePlaces n (LetPair r e y z b) = (e < n) × (b < n)
-ArePlaces n (Cases r e y a z b) = (e < n) × (a < n) × (b < n)
-
 -- the same number, or both out of range
 abbrev pub AreOne : Option Distance → Option Distance → Type 0
 AreOne (Some a) (Some b) = a ≈ b

@@ -1,12 +1,12 @@
 //! The number that a rule gives a node at one name, of the numbers that its parts' lines say.
-ghost use Rattle.std.specs.Prelude.{◌≡◌, ◌<◌, length, List, Some, bytes_eq};
+ghost use Rattle.std.specs.Prelude.{◌≡◌, List, bytes_eq};
 ghost use Rattle.fz_ast.specs.Names.{name_of};
 ghost use Rattle.fz_ast.specs.Types.{Ty};
 ghost use Rattle.fz_frac.specs.Distance.{Distance, Inf, ◌≈◌};
 ghost use Rattle.fz_frac.specs.Sens.{distance_of};
 ghost use Rattle.fz_derive.specs.Held.{lines_in};
 ghost use Rattle.fz_derive.specs.Numbers.{without, sum_of, product_of, with_number};
-ghost use Rattle.fz_derive.specs.Placed.{ArePlaces, IsNumber, number_of, said_at};
+ghost use Rattle.fz_derive.specs.Placed.{IsNumber, number_of, said_at};
 
 use crate::line::Line;
 use fz_ast::Name;
@@ -50,17 +50,19 @@ pub fn is_same(a: &Name, b: &Name) -> bool
     a.as_bytes() == b.as_bytes()
 }
 
-/// What line `k` says of a name.
+/// What line `k` says of a name: 0 past the last line.
 pub fn amount_at(lines: &[Line], k: usize, name: &Name) -> Sens
-    requires { k < length lines.now }
     ensures { (T : List Ty) → distance_of result ≡ said_at (lines_in T lines.now) k (name_of name.now) }
 {
-    lines[k].amount(name)
+    if k < lines.len() {
+        lines[k].amount(name)
+    } else {
+        Sens::whole(0)
+    }
 }
 
 /// What line `k` says of a name other than `hidden`, and 0 for that one.
 pub fn amount_without(lines: &[Line], hidden: &Name, k: usize, name: &Name) -> Sens
-    requires { k < length lines.now }
     ensures { (T : List Ty) → distance_of result ≡ without (name_of hidden.now) (said_at (lines_in T lines.now) k) (name_of name.now) }
 {
     if is_same(hidden, name) {
@@ -72,7 +74,6 @@ pub fn amount_without(lines: &[Line], hidden: &Name, k: usize, name: &Name) -> S
 
 // What line `k` says of a name other than `x` and `y`, and 0 for these.
 fn amount_without_two(lines: &[Line], x: &Name, y: &Name, k: usize, name: &Name) -> Sens
-    requires { k < length lines.now }
     ensures { (T : List Ty) → distance_of result
         ≡ without (name_of x.now) (without (name_of y.now) (said_at (lines_in T lines.now) k)) (name_of name.now) }
 {
@@ -125,7 +126,6 @@ fn endless_both(a: Sens, b: Sens) -> Result<Sens, Range>
 impl Numbers {
     /// The number at one name.
     pub fn at(&self, lines: &[Line], x: &Name) -> Result<Sens, Range>
-        requires { ArePlaces (length lines.now) self.now }
         ensures { (T : List Ty) → IsNumber result (number_of (lines_in T lines.now) self.now (name_of x.now)) }
     {
         match *self {

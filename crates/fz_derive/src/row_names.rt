@@ -57,7 +57,6 @@ fn quotient(a: Sens, r: Sens) -> Option<Sens>
 /// `let x = e in b`
 pub fn let_name(arena: &Arena, lines: &[Line], x: &Name, e: Part, b: Part) -> Option<Row>
     requires b_known { b.ty < length arena.now }
-    requires b_placed { b.at < length lines.now }
     ensures { (T : List Ty) → let L = lines_in T lines.now in
         IsRow arena.now L result (let_row (name_of x.now) (part_line arena.now L e) (part_line arena.now L b)) }
 {
@@ -70,7 +69,6 @@ pub fn let_name(arena: &Arena, lines: &[Line], x: &Name, e: Part, b: Part) -> Op
 pub fn let_bang(arena: &Arena, lines: &[Line], x: &Name, e: Part, b: Part) -> Option<Row>
     requires e_known { e.ty < length arena.now }
     requires b_known { b.ty < length arena.now }
-    requires b_placed { b.at < length lines.now }
     ensures { (T : List Ty) → let L = lines_in T lines.now in
         IsRow arena.now L result (let_bang_row (name_of x.now) (part_line arena.now L e) (part_line arena.now L b)) }
 {
@@ -94,7 +92,6 @@ pub fn let_pair(
 ) -> Option<Row>
     requires e_known { e.ty < length arena.now }
     requires b_known { b.ty < length arena.now }
-    requires b_placed { b.at < length lines.now }
     ensures { (T : List Ty) → let L = lines_in T lines.now in
         IsRow arena.now L result (let_pair_row (name_of x.now) (name_of y.now) (part_line arena.now L e) (part_line arena.now L b)) }
 {
@@ -120,8 +117,6 @@ pub fn cases(
     requires e_known { e.ty < length arena.now }
     requires a_known { a.ty < length arena.now }
     requires b_known { b.ty < length arena.now }
-    requires a_placed { a.at < length lines.now }
-    requires b_placed { b.at < length lines.now }
     ensures { (T : List Ty) → let L = lines_in T lines.now in
         IsRow arena.now L result (case_row (name_of x.now) (name_of y.now) (part_line arena.now L e) (part_line arena.now L a) (part_line arena.now L b)) }
 {
@@ -141,7 +136,6 @@ pub fn cases(
 fn linear(arena: &Arena, lines: &[Line], x: &Name, w: u32, e: Part) -> Option<Row>
     requires known { e.ty < length arena.now }
     requires written { w < length arena.now }
-    requires placed { e.at < length lines.now }
     ensures { (T : List Ty) → let L = lines_in T lines.now in
         IsRow arena.now L result (fun_row (name_of x.now) (type_at arena.now w) (part_line arena.now L e)) }
 {
@@ -176,7 +170,6 @@ pub fn lambda(
 ) -> Option<Row>
     requires known { e.ty < length arena.now }
     requires written { w < length arena.now }
-    requires placed { e.at < length lines.now }
     ensures { (T : List Ty) → let L = lines_in T lines.now in
         IsRow arena.now L result (lambda_row form (name_of x.now) (type_at arena.now w) (part_line arena.now L e)) }
 {

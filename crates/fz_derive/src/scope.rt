@@ -7,7 +7,7 @@ ghost use Rattle.fz_frac.specs.Sens.{distance_of};
 ghost use Rattle.fz_derive.specs.Faults.{are_in_scope, suffices, suffices_at};
 ghost use Rattle.fz_derive.specs.Held.{lines_in};
 ghost use Rattle.fz_derive.specs.Lines.{Line as Says, amount_in};
-ghost use Rattle.fz_derive.specs.Placed.{ArePlaces, IsNumber, number_of};
+ghost use Rattle.fz_derive.specs.Placed.{IsNumber, number_of};
 ghost use Rattle.fz_derive.specs.Rows.{type_in, var_row};
 ghost use Rattle.fz_derive.specs.Ruled.{IsRow};
 ghost use Rattle.fz_derive.specs.Said.{says_of};
@@ -91,7 +91,6 @@ fn suffices(number: Result<Sens, Range>, said: Sens) -> bool
 
 /// Whether a line says at least the rule's number at each name in scope.
 pub fn suffices_at(scope: &[Bound], lines: &[Line], numbers: &Numbers, line: &Line) -> bool
-    requires { ArePlaces (length lines.now) numbers.now }
     ensures { (T U : List Ty) → result
         ≡ suffices_at (context_in T scope.now) (number_of (lines_in U lines.now) numbers.now) (amount_in (says_of line.now.says.items)) }
 {
