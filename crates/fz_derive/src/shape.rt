@@ -1,11 +1,13 @@
 //! What a rule asks of a part's type, and the type that it gives a node. No type is added to the arena.
-ghost use Rattle.std.specs.Prelude.{◌≡◌, ◌<◌, length};
+ghost use Rattle.std.specs.Prelude.{◌≡◌, ◌<◌, length, IfOk};
+ghost use Rattle.fz_ast.specs.Arena.{Grows};
 ghost use Rattle.fz_ast.specs.Types.{BoolT, NumT, TextT, UnitT, BagT, WithT, UnlimitedT, same_type};
 ghost use Rattle.fz_ast.specs.TypeNodes.{type_at, type_of, IsKnownType};
+ghost use Rattle.fz_derive.specs.Interned.{IsNumberOf};
 ghost use Rattle.fz_derive.specs.Rows.{is_bag};
 ghost use Rattle.fz_derive.specs.Shapes.{shape_type, IsKnownShape, AreTensorParts, AreSumParts, AreBangParts, AreUnlimitedParts};
 
-use fz_ast::{Arena, TypeForm};
+use fz_ast::{Arena, NoMemory, TypeForm};
 use fz_frac::Sens;
 
 /// A type, of which parts are numbers in an arena. It may be in no arena itself.
@@ -179,6 +181,42 @@ impl Shape {
             Shape::Of(form) => is_of(arena, t, form),
             Shape::Truth => is_truth(arena, t),
             Shape::Unlimited(a, b) => is_unlimited(arena, t, a, b),
+        }
+    }
+}
+
+// `bool`
+fn truth(arena: &mut Arena) -> Result<u32, NoMemory>
+    ensures grows { Grows arena.old arena.new }
+    ensures is { IfOk result (λ n. IsNumberOf arena.new n BoolT) }
+{
+    let unit = arena.intern(TypeForm::Unit)?;
+    arena.intern(TypeForm::Sum(unit, unit))
+}
+
+// `A -> B`
+fn unlimited(arena: &mut Arena, a: u32, b: u32) -> Result<u32, NoMemory>
+    requires a_known { a < length arena.old }
+    requires b_known { b < length arena.old }
+    ensures grows { Grows arena.old arena.new }
+    ensures is { IfOk result (λ n. IsNumberOf arena.new n (UnlimitedT (type_at arena.old a) (type_at arena.old b))) }
+{
+    let taken = arena.intern(TypeForm::Bang(Sens::Inf, a))?;
+    arena.intern(TypeForm::Arrow(taken, b))
+}
+
+impl Shape {
+    /// Its number in the arena, to which it is added where it isn't there.
+    pub fn number(&self, arena: &mut Arena) -> Result<u32, NoMemory>
+        requires { IsKnownShape (length arena.old) self.now }
+        ensures grows { Grows arena.old arena.new }
+        ensures is { IfOk result (λ n. IsNumberOf arena.new n (shape_type arena.old self.now)) }
+    {
+        match *self {
+            Shape::Known(n) => Ok(n),
+            Shape::Of(form) => arena.intern(form),
+            Shape::Truth => truth(arena),
+            Shape::Unlimited(a, b) => unlimited(arena, a, b),
         }
     }
 }
