@@ -11,25 +11,19 @@ use Rattle.metric_values.specs.Values.{Env, NumV, Value}
 use Rattle.term_meanings.specs.Environments.{NearEnv, TypedEnv, dot}
 use Rattle.term_meanings.specs.Means.{Means}
 use Rattle.term_meanings.specs.Near.{Near, Typed}
-use Rattle.term_meanings.specs.Scopes.{AllTypes, Closed, Context, Under}
+use Rattle.term_meanings.specs.Scopes.{AllTypes, Context}
 use Rattle.term_meanings.specs.Sensitivities.{Sensitivities}
-use Rattle.fz_derive.specs.ByPlace.{Derivable}
+use Rattle.fz_derive.specs.ByPlace.{Derivable, by_place}
 use Rattle.fz_derive.specs.Derivable.{Derives, IsDerivable}
 use Rattle.fz_derive.specs.Faults.{fault_in}
 use Rattle.fz_derive.specs.Judged.{fault_of, greatest_said, names_of, IsJudged, IsMisjudged}
-use Rattle.fz_derive.specs.Least.{least, lines_of}
+use Rattle.fz_derive.specs.Least.{Derived, least, lines_of}
 use Rattle.fz_derive.specs.Lines.{Line, line_at, amount_in}
 use Rattle.fz_derive.specs.Nodes.{nodes_of}
-use Rattle.fz_derive.specs.Numbers.{Amounts, without}
-
--- the numbers of the names in scope by their places: a hidden name is at 0
-abbrev pub by_place : Context → Amounts → Sensitivities
-by_place Closed D = []
-by_place (Under x A Γ) D = D x ∷ by_place Γ (without x D)
 
 -- what is derived by names is derived by places
 abbrev pub DerivedByPlace : Type 0
-DerivedByPlace = (Γ : Context) (e : Term) (l : Line) (below : List Line) → AllTypes Γ → TermLimits e → Derives Γ e (l ∷ below) → Derivable Γ e l.ty (by_place Γ (amount_in l.says))
+DerivedByPlace = (Γ : Context) (e : Term) (l : Line) (below : List Line) → TermLimits e → Derives Γ e (l ∷ below) → Derivable Γ e l.ty (by_place Γ (amount_in l.says))
 
 -- what is derived of a term bounds how far its values on near environments are apart
 abbrev pub DerivedIsBounded : Type 0
@@ -69,4 +63,14 @@ LinesAreNodes = (Γ : Context) (e : Term) (lines : List Line) → Derives Γ e l
 
 -- the least derivation of a term, where there is one, is a derivation
 abbrev pub LeastIsDerived : Type 0
-LeastIsDerived = (Γ : Context) (e : Term) → (d : _) → least Γ e ≡ Some d → Derives Γ e (lines_of d)
+LeastIsDerived = (Γ : Context) (e : Term) (d : Derived) → least Γ e ≡ Some d → Derives Γ e (lines_of d)
+
+-- bytes are judged in one way: a number, and one alone, or a least line at fault, and one alone
+abbrev pub OneNumber : Type 0
+OneNumber = (ts : Signature) (e : Term) (bytes : List ℕ) (r s : Distance) → IsJudged ts e bytes r → IsJudged ts e bytes s → r ≡ s
+
+abbrev pub NumberOrLine : Type 0
+NumberOrLine = (ts : Signature) (e : Term) (bytes : List ℕ) (r : Distance) (k : ℕ) → IsJudged ts e bytes r → IsMisjudged ts e bytes k → ⊥
+
+abbrev pub OneLine : Type 0
+OneLine = (ts : Signature) (e : Term) (bytes : List ℕ) (j k : ℕ) → IsMisjudged ts e bytes j → IsMisjudged ts e bytes k → j ≡ k

@@ -2,7 +2,6 @@
 pub mod Lines
 pub mod Said
 pub mod Held
-pub mod Goals
 pub mod Texts
 pub mod Numbers
 pub mod Rows

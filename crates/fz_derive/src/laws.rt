@@ -1,1 +1,30 @@
 //! What is proved of derivations.
+ghost use Rattle.fz_derive.specs.Law.{DerivableExactly, DerivableHasValue, DerivableIsBounded, DerivedByPlace, DerivedHasValue, DerivedIsBounded, LinesAreNodes, NumberOrLine, OneLine, OneNumber};
+
+/// What is derived by names is derived by the places of names, and what is derived so bounds how far a term's value moves, by meanings
+/// alone; and the term has a value.
+pub fn derived_is_bounded()
+    ensures places { DerivedByPlace }
+    ensures bound { DerivedIsBounded }
+    ensures value { DerivedHasValue }
+{}
+
+/// And so of a whole program: its numbers on two datasets differ by at most the greatest of what its first line says times how far
+/// these are apart; and it has a number on each.
+pub fn derivable_is_bounded()
+    ensures bound { DerivableIsBounded }
+    ensures value { DerivableHasValue }
+{}
+
+/// No line is at fault exactly where the lines are a derivation, which has a line for each node.
+pub fn faultless_is_derivable()
+    ensures exact { DerivableExactly }
+    ensures lines { LinesAreNodes }
+{}
+
+/// Bytes are judged in one way: a number, and one alone, or a least line at fault, and one alone.
+pub fn one_judgement()
+    ensures number { OneNumber }
+    ensures either { NumberOrLine }
+    ensures line { OneLine }
+{}
