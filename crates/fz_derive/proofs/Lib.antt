@@ -10,3 +10,11 @@ pub mod Once
 pub mod Programs
 pub mod Segments
 pub mod Whole
+pub mod Says
+pub mod Numbered
+pub mod Pieces
+pub mod Shapes
+pub mod Amounts
+pub mod Tests
+pub mod Factors
+pub mod Scopes

@@ -14,3 +14,12 @@ pub mod ByPlace
 pub mod Least
 pub mod Written
 pub mod Law
+pub mod Found
+pub mod Interned
+pub mod Pieces
+pub mod Shapes
+pub mod Placed
+pub mod Ruled
+pub mod Scoped
+pub mod Formed
+pub mod Viewed
