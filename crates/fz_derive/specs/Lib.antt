@@ -23,3 +23,4 @@ pub mod Ruled
 pub mod Scoped
 pub mod Formed
 pub mod Viewed
+pub mod Walked

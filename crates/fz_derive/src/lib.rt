@@ -15,5 +15,6 @@ pub mod row_parts;
 pub mod rows;
 pub mod scope;
 pub mod shape;
+pub mod sizes;
 pub mod tables;
 pub mod write;
