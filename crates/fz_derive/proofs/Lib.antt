@@ -1,5 +1,6 @@
 -- The proofs of this crate.
 pub mod Allowed
+pub mod Amounts
 pub mod Behind
 pub mod Bounds
 pub mod ByNames
@@ -17,6 +18,7 @@ pub mod ExamplesOfPairs
 pub mod ExamplesOfPrograms
 pub mod ExamplesOfScopes
 pub mod ExamplesOfSums
+pub mod Factors
 pub mod Faultless
 pub mod Fronts
 pub mod LeastDerived
@@ -29,5 +31,8 @@ pub mod Plain
 pub mod Programs
 pub mod ReadBack
 pub mod Says
+pub mod Scopes
 pub mod Segments
+pub mod Shapes
+pub mod Tests
 pub mod Whole

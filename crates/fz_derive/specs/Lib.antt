@@ -22,3 +22,10 @@ pub mod Law
 pub mod Found
 pub mod Interned
 pub mod Pieces
+pub mod Shapes
+pub mod Placed
+pub mod Ruled
+pub mod Scoped
+pub mod Formed
+pub mod Viewed
+pub mod Walked
