@@ -14,17 +14,17 @@ use Rattle.fz_derive.specs.Least.{least, lines_of}
 use Rattle.fz_derive.specs.Lines.{Line, line_at}
 use Rattle.fz_derive.specs.Written.{derivation_text}
 
-abbrev people : Name
+abbrev pub people : Name
 people = codes "people"
 
-abbrev orders : Name
+abbrev pub orders : Name
 orders = codes "orders"
 
 abbrev table : Name → Ty → TableType
 table v A = record { name = v; row = A }
 
 -- a table of numbers
-abbrev one_table : Signature
+abbrev pub one_table : Signature
 one_table = table people NumT ∷ []
 
 -- and one of a number and a text after it
@@ -32,10 +32,10 @@ abbrev two_tables : Signature
 two_tables = table people NumT ∷ table orders (TensorT NumT TextT) ∷ []
 
 -- size people
-abbrev size_of_people : Term
+abbrev pub size_of_people : Term
 size_of_people = term (SizeE (var people))
 
-abbrev bag_line : Line
+abbrev pub bag_line : Line
 bag_line = line (BagT NumT) people one
 
 -- the two lines of `size people`: whole, with more at first, with nothing at first, and the first one at inf

@@ -18,6 +18,7 @@ pub mod ExamplesOfPairs
 pub mod ExamplesOfPrograms
 pub mod ExamplesOfScopes
 pub mod ExamplesOfSums
+pub mod ExamplesOfTexts
 pub mod Factors
 pub mod Faultless
 pub mod Fronts
