@@ -48,6 +48,7 @@ type_or_none text = by (tokens_or_none text)
     read : (ts : List Token) → AreTokens text ts → IsTypeOrStuck ts → Either (IsTypeText text)
     read ts h (inl x) = inl (x.0, (ts, h, x.1))
     read ts h (inr x) = inr (λ A p. x.1.none A (subst (λ us. IsTypeOf us A) (only text ts p.0 h p.1) p.2))
+
     by : HasTokens text → Either (IsTypeText text)
     by (inl x) = read x.0 x.1 (type_or_stuck x.0)
     by (inr x) = inr (λ A p. x p.0 p.1)
@@ -59,18 +60,22 @@ said_or_none text = by (tokens_or_none text)
     read x t ts h k (inl d) = inl (record { name = x; amount = d.0 }, (t, ts, h, k, d.1))
     read x t ts h k (inr d) = inr (λ s p. let e : p.0 ∷ p.1 ≡ t ∷ ts = only text (t ∷ ts) (p.0 ∷ p.1) h p.2 in
         let rest : p.1 ≡ ts = cc e in d.1.none s.amount (subst (λ us. IsSensitivityOf us s.amount) rest p.4))
+
     other : (t : Token) (ts : List Token) → AreTokens text (t ∷ ts) → ((x : Name) → t.kind ≡ NameKind x → ⊥) → Either (IsSaidText text)
     other t ts h not_so = inr (λ s p. let e : p.0 ∷ p.1 ≡ t ∷ ts = only text (t ∷ ts) (p.0 ∷ p.1) h p.2 in
         let first : p.0 ≡ t = cc e in not_so s.name (ap (λ (u : Token). u.kind) (sym first) ∙ p.3))
+
     named : (t : Token) (ts : List Token) → AreTokens text (t ∷ ts) → (k : Kind) → t.kind ≡ k → Either (IsSaidText text)
     named t ts h (NameKind x) e = read x t ts h e (sensitivity_or_stuck ts)
     named t ts h (Number m) e = other t ts h (λ x i. let j = sym e ∙ i in cc j)
     named t ts h (Text m) e = other t ts h (λ x i. let j = sym e ∙ i in cc j)
     named t ts h (Reserved m) e = other t ts h (λ x i. let j = sym e ∙ i in cc j)
     named t ts h (Punctuation m) e = other t ts h (λ x i. let j = sym e ∙ i in cc j)
+
     first : (ts : List Token) → AreTokens text ts → Either (IsSaidText text)
     first [] h = inr (λ s p. let e : p.0 ∷ p.1 ≡ [] = only text [] (p.0 ∷ p.1) h p.2 in cc e)
     first (t ∷ ts) h = named t ts h t.kind refl
+
     by : HasTokens text → Either (IsSaidText text)
     by (inl x) = first x.0 x.1
     by (inr x) = inr (λ s p. x (p.0 ∷ p.1) p.2)
@@ -131,6 +136,7 @@ line_or_none text = go (pieces_or_none (slice_split (λ b. b == bar) text))
     by : (l : Line) → ArePieces (slice_split (λ b. b == bar) text) l → AreInOrder l.says ⊎ (AreInOrder l.says → ⊥) → Either (IsLineText text)
     by l h (inl k) = inl (l, record { pieces = h; order = k })
     by l h (inr not_so) = inr (λ m k. not_so (subst (λ (m : Line). AreInOrder m.says) (sym (pieces_once (slice_split (λ b. b == bar) text) l m h k.pieces)) k.order))
+
     go : Either (ArePieces (slice_split (λ b. b == bar) text)) → Either (IsLineText text)
     go (inl x) = by x.0 x.1 (order_or_not (names_said x.0.says))
     go (inr not_so) = inr (λ l h. not_so l h.pieces)
@@ -179,9 +185,11 @@ lines_or_faulty (suc n) bytes = go (first_or_none line_feed bytes) (λ more. lin
         more_of : ((x.0 < n) × NoLine x.1.1) ⊎ ((x.0 ≡ n) × (x.1.1 ≢ [])) → ((suc x.0 < suc n) × NoLine x.1.1) ⊎ ((suc x.0 ≡ suc n) × (x.1.1 ≢ []))
         more_of (inl y) = inl (omega (arith, y.0), y.1)
         more_of (inr y) = inr (ap suc y.0, y.1)
+
     by : (text more : List ℕ) → bytes ≡ text ++ line_feed ∷ more → lacks line_feed text ≡ true → Either (IsLineText text) → AreOrFaulty more n → AreOrFaulty bytes (suc n)
     by text more e h (inl x) r = after text more e h x.0 x.1 r
     by text more e h (inr not_so) r = inr (0, none_at_first bytes n (λ v w l i k p. not_so l (subst (λ u. IsLineText u l) (first_once line_feed v text w more k h (sym i ∙ e)).0 p)))
+
     go : HasFirst line_feed bytes → ((more : List ℕ) → AreOrFaulty more n) → AreOrFaulty bytes (suc n)
     go (inl x) f = by x.0 x.1 x.2 x.3 (line_or_none x.0) (f x.1)
     go (inr h) f = inr (0, none_at_first bytes n (λ v w l i k p. lacking line_feed v w (subst (λ u. lacks line_feed u ≡ true) i h)))
@@ -192,6 +200,7 @@ all_bytes ts e bytes = go (lines_or_faulty (nodes_of e) bytes)
     by : (L : List Line) → AreLines bytes L → length L ≡ nodes_of e → (o : Option ℕ) → fault_of ts e L ≡ o → ((r : Distance) × IsJudged ts e bytes r) ⊎ ((k : ℕ) × IsMisjudged ts e bytes k)
     by L h n None i = inl (greatest_said (line_at L 0).says, record { lines = L; are = h; all = n; right = i; greatest = refl })
     by L h n (Some k) i = inr (k, inr (record { lines = L; are = h; all = n; wrong = i }))
+
     go : AreOrFaulty bytes (nodes_of e) → ((r : Distance) × IsJudged ts e bytes r) ⊎ ((k : ℕ) × IsMisjudged ts e bytes k)
     go (inl x) = by x.0 x.1 x.2 (fault_of ts e x.0) refl
     go (inr x) = inr (x.0, inl x.1)
