@@ -1,3 +1,4 @@
 pub mod Done
 pub mod Unique
+pub mod Bounded
 mod Examples

@@ -7,7 +7,7 @@ use Rattle.answer_path.specs.Admission.{Admission, accepted, admission_of, refus
 use Rattle.answer_path.proofs.Readings.{one_reading}
 use Rattle.fz_derive.specs.Least.{Derived, lines_of}
 use Rattle.fz_derive.specs.Written.{derivation_text}
-use Rattle.fz_derive.proofs.Unique.{one_no, one_yes, yes_or_no}
+use Rattle.fz_derive.proofs.Once.{number_or_line, one_line, one_number}
 use Rattle.derivation_commands.specs.Task.{Subject, Task, to_derive, to_judge}
 use Rattle.derivation_commands.specs.Outcome.{IsDeriveOutcome, IsDerivedBy, IsJudgeOutcome, IsJudgedBy, IsOutcomeOf, Outcome, if_short, no_text, refused, too_long, written, yes_text}
 
@@ -23,11 +23,11 @@ one_judged (unlexed place) tables derivation a b first second = first ∙ sym se
 one_judged (stuck token) tables derivation a b first second = first ∙ sym second
 one_judged (nested depth) tables derivation a b first second = first ∙ sym second
 one_judged (read e) tables derivation a b (inl (r, is, at)) (inl (s, also, here)) =
-    at ∙ ap (λ d. written (yes_text d)) (one_yes tables e derivation r s is also) ∙ sym here
-one_judged (read e) tables derivation a b (inl (r, is, at)) (inr (k, isnt, here)) = absurd (yes_or_no tables e derivation r k is isnt)
-one_judged (read e) tables derivation a b (inr (k, isnt, here)) (inl (r, is, at)) = absurd (yes_or_no tables e derivation r k is isnt)
+    at ∙ ap (λ d. written (yes_text d)) (one_number is also) ∙ sym here
+one_judged (read e) tables derivation a b (inl (r, is, at)) (inr (k, isnt, here)) = absurd (number_or_line is isnt)
+one_judged (read e) tables derivation a b (inr (k, isnt, here)) (inl (r, is, at)) = absurd (number_or_line is isnt)
 one_judged (read e) tables derivation a b (inr (j, is, at)) (inr (k, also, here)) =
-    at ∙ ap (λ n. refused (no_text n)) (one_no tables e derivation j k is also) ∙ sym here
+    at ∙ ap (λ n. refused (no_text n)) (one_line is also) ∙ sym here
 
 derive_once : (tables : Signature) (program : List ℕ) (a b : Outcome) → IsDeriveOutcome tables program a → IsDeriveOutcome tables program b → a ≡ b
 derive_once tables program a b first second =

@@ -2,3 +2,4 @@ pub mod Task
 pub mod Outcome
 pub mod Held
 pub mod Ends
+pub mod Promise

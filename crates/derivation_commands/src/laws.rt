@@ -3,8 +3,15 @@
 ghost use Rattle.std.specs.Prelude.{◌≡◌};
 ghost use Rattle.derivation_commands.specs.Task.{Task};
 ghost use Rattle.derivation_commands.specs.Outcome.{IsOutcomeOf, Outcome};
+ghost use Rattle.derivation_commands.specs.Promise.{AYesBoundsTheValues};
 
 /// What comes of a derivation that is to be written or judged is one.
 pub fn outcomes_are_unique()
     ensures { (task : Task) (a b : Outcome) → IsOutcomeOf task a → IsOutcomeOf task b → a ≡ b }
+{}
+
+/// Where a derivation gets a yes, whoever wrote it, the values of the program on two datasets differ by at most the number of the yes times how far
+/// these are apart, and there is one on each.
+pub fn a_yes_bounds_the_values()
+    ensures { AYesBoundsTheValues }
 {}

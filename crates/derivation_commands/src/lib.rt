@@ -11,5 +11,5 @@ mod reading;
 pub use crate::derive::derive_file;
 pub use crate::ending::Ending;
 pub use crate::judge::judge_file;
-pub use crate::laws::outcomes_are_unique;
+pub use crate::laws::{a_yes_bounds_the_values, outcomes_are_unique};
 pub use crate::lines::{refusal_line, sensitivity_line};
