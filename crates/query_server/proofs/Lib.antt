@@ -32,6 +32,7 @@ pub mod ExamplesOfOrder
 pub mod ExamplesOfDisks
 pub mod ExamplesOfService
 pub mod ExamplesOfGrants
+mod ExamplesOfDerivations
 mod ExamplesOfRecords
 mod ExamplesOfMirrors
 pub mod Granting
