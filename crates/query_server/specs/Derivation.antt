@@ -51,5 +51,5 @@ derivation_duty task = record {
   may_stop = Same;
   names_disk = λ old new text. ⊥;
   statuses = task_statuses task;
-  judges = None;
+  admits = None;
 }
