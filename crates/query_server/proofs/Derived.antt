@@ -85,7 +85,7 @@ derived_end held left old new shelf steps given end same is =
 -- a fault that is passed on
 fault_of : (given : Result Ending Stop) → ended_as given ≡ Err Fault → IsErrOf given Fault
 fault_of (Ok ending) is = cc is
-fault_of (Err stop) is = let same : stop ≡ Fault = cc is in same
+fault_of (Err stop) is = let same : stop ≡ Fault = cc is in ap Err same
 
 pub derived_fault : (given : Result Ending Stop) (end : Ended) → end ≡ ended_as given → end ≡ Err Fault → IsErrOf given Fault
 derived_fault given end same is = fault_of given (sym same ∙ is)
