@@ -7,7 +7,8 @@ use Rattle.fz_frac.specs.declared.sens.Sens.{Sens}
 use Rattle.fz_frac.proofs.Laws.{⊑-refl, none-least, add-comm, add-none_r, none-add, mul-none, ◌⨾◌, ◌⊕◌, ◌⊗◌, ≈-refl, ≈-sym, ≈-trans, is_le-yes, le-is_le, greater-left, greater-right, greater-least, quotient-le, le-quotient}
 use Rattle.fz_frac.proofs.Lowest.{out_same, out_same_true, sens_fits, inf_fits, endless_fits}
 use Rattle.fz_ast.specs.Limits.{IsBang}
-use Rattle.linear_types.specs.Sensitivities.{Sensitivities, first, rest, each, plus, join, scale, above_zero}
+use Rattle.term_meanings.proofs.Quotient.{over_any}
+use Rattle.term_meanings.specs.Sensitivities.{Sensitivities, first, rest, each, plus, join, scale, above_zero}
 use Rattle.linear_types.specs.Inferred.{any_out}
 use Rattle.linear_types.specs.Places.{AllAlike, AreAlike, IsCause, IsGiven, distances}
 use Rattle.linear_types.specs.declared.places.EnvFault.{EnvFault}
@@ -51,10 +52,6 @@ above_zero_alike {a} {b} h = let e = is_le_alike h (≈-refl none) in rw e (go (
     go : (t : Bool) → cond t one a ≈ cond t one b
     go true = ≈-refl one
     go false = h
-
-pub over_any : (t : Distance) → quotient t Inf ≡ cond (is_le t none) none one
-over_any (Fin p q) = refl
-over_any Inf = refl
 
 quotient_mono : (a b r s : Distance) → IsBang r → IsBang s → a ⊑ b → r ≈ s → quotient a r ⊑ quotient b s
 quotient_mono a b (Fin p q) (Fin m n) i j h k = le-quotient a (quotient b (Fin m n)) p q i.0 (h ⨾ quotient-le b (quotient b (Fin m n)) m n j.0 (⊑-refl _) ⨾ (⊑-refl (quotient b (Fin m n)) ⊗ k.ge))

@@ -1,5 +1,5 @@
 -- The definitions of this crate.
-pub mod Sensitivities
+pub use Rattle.term_meanings.specs.Sensitivities
 pub mod Typing
 pub mod Inferred
 pub mod Rule

@@ -1,37 +1,15 @@
 -- The typing rules: the type of a term in a context, and how sensitive its value is to each name.
 -- One constructor a rule. Each scalar is the rule's own. De is the sensitivities of a part e, without the names that the rule binds.
-use Rattle.std.specs.Prelude.{◌≡◌, ℕ, true, false, List, [], ◌∷◌, ℤ, unsigned_abs, max, bytes_eq, ⊤}
-use Rattle.fz_frac.specs.Distance.{Distance, Fin, Inf, ◌⊑◌, none, one, greater, quotient}
-use Rattle.fz_ast.specs.Types.{Ty, NumT, TextT, UnitT, TensorT, WithT, SumT, ArrowT, BangT, BagT, BoolT, UnlimitedT, is_ground, is_flat, WellFormed, formed}
+use Rattle.std.specs.Prelude.{◌≡◌, ℕ, true, List, [], ℤ}
+use Rattle.fz_frac.specs.Distance.{Distance, Inf, ◌⊑◌, one, greater, quotient}
+use Rattle.fz_ast.specs.Types.{Ty, NumT, TextT, UnitT, TensorT, WithT, SumT, ArrowT, BangT, BagT, BoolT, UnlimitedT, is_ground, is_flat}
 use Rattle.fz_ast.specs.declared.span.Span.{Span}
 use Rattle.fz_ast.specs.Terms.{Name, Term, at, VarE, NumE, TextE, UnitE, PairE, WithE, FstE, SndE, LetPairE}
 use Rattle.fz_ast.specs.Terms.{InlE, InrE, CaseE, IfE, FunE, FnE, AppE, BangE, LetBangE, LetE, PlusE, MinusE}
 use Rattle.fz_ast.specs.Terms.{TimesE, LeE, EqE, ClipE, LeastE, GreatestE, SizeE, SumE, UnionE, MapE, FilterE, SplitE}
-use Rattle.fz_ast.specs.Limits.{IsNumber, IsText, IsBang, TypeLimits}
-use Rattle.linear_types.specs.Sensitivities.{Sensitivities, first, rest, plus, join, scale, above_zero}
-
--- names with their types, the innermost first
-pub data Context : Type 0 where
-  Closed : Context
-  Under : (x : Name) (A : Ty) (Γ : Context) → Context
-
--- the innermost x of the context has type A; its sensitivity is 1 at its place
-pub data IsBound : Context → Name → Ty → Sensitivities → Type 0 where
-  here : {x y : Name} {A : Ty} {Γ : Context} → bytes_eq y x ≡ true → IsBound (Under y A Γ) x A (one ∷ [])
-  there : {x y : Name} {A B : Ty} {Γ : Context} {D : Sensitivities} → bytes_eq y x ≡ false → IsBound Γ x A D → IsBound (Under y B Γ) x A (none ∷ D)
-
--- a type that can be written: well formed, with bang numbers above 0
-pub record IsType (A : Ty) : Type 0 where
-  pub well_formed : formed A ≡ WellFormed
-  pub limits : TypeLimits A
-
--- the size of a factor
-abbrev pub size_of : ℤ → Distance
-size_of k = Fin (unsigned_abs k) 1
-
--- the greater size of two bounds
-abbrev pub widest_of : ℤ → ℤ → Distance
-widest_of lo hi = Fin (max (unsigned_abs lo) (unsigned_abs hi)) 1
+use Rattle.fz_ast.specs.Limits.{IsNumber, IsText, IsBang}
+pub use Rattle.term_meanings.specs.Scopes.{Context, Closed, Under, IsBound, here, there, IsType, AllTypes, size_of, widest_of}
+use Rattle.term_meanings.specs.Sensitivities.{Sensitivities, first, rest, plus, join, scale, above_zero}
 
 pub data Typing : Context → Term → Ty → Sensitivities → Type 0 where
   -- x has its type, at 1
@@ -128,8 +106,3 @@ pub data Typing : Context → Term → Ty → Sensitivities → Type 0 where
   -- split f b : bag A * bag A where f : A -> bool and b : bag A, at inf Df + Db
   is_split : {Γ : Context} {s : Span} {f b : Term} {A : Ty} {D E : Sensitivities} → Typing Γ f (UnlimitedT A BoolT) D → Typing Γ b (BagT A) E
       → Typing Γ (at s (SplitE f b)) (TensorT (BagT A) (BagT A)) (plus (scale Inf D) E)
-
--- each name has a type that can be written
-abbrev pub AllTypes : Context → Type 0
-AllTypes Closed = ⊤
-AllTypes (Under x A Γ) = IsType A × AllTypes Γ

@@ -1,19 +1,17 @@
-pub mod Flatness
-pub mod FlatTyping
-pub mod Sums
-pub mod Heights
+pub use Rattle.term_meanings.proofs.Flatness
+pub use Rattle.term_meanings.proofs.FlatTyping
+pub use Rattle.term_meanings.proofs.Sums
+pub use Rattle.term_meanings.proofs.Heights
 pub mod Fine
-pub mod Bags
-pub mod Nearness
+pub use Rattle.term_meanings.proofs.Bags
+pub use Rattle.term_meanings.proofs.Nearness
 pub mod Unique
-pub mod Closeness
+pub use Rattle.term_meanings.proofs.Closeness
 pub mod Metric
 pub mod Grounds
 pub mod Programs
 pub mod Needed
 pub mod Worked
 pub mod Refusals
-mod Meanings
 pub mod Blanks
 pub mod Reached
-mod Nearby

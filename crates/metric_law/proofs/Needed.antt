@@ -1,20 +1,19 @@
 -- Each rule is needed: one program for each wrong rule.
 use Rattle.std.proofs.Common.{arith, inl, inr, refl}
-use Rattle.std.proofs.lemmas.Int.{ints}
 use Rattle.std.proofs.lemmas.List.Elements.{All-cons, All-nil}
-use Rattle.std.specs.Prelude.{List, [], codes, false, pos, true, ℕ, ℤ, ◌*◌, ◌+◌, ◌<◌, ◌∷◌, ◌≡◌, ◌≤◌}
+use Rattle.std.specs.Prelude.{List, [], codes, false, pos, true, ℕ, ℤ, ◌*◌, ◌+◌, ◌<◌, ◌∷◌, ◌≤◌}
 use native.Mathlib.Nat.{mul-le-mul_right}
 use Rattle.fz_frac.proofs.Laws.{add-comm, add-none_r, den_pos, mul-comm, mul-one, none-add, none-least, one-mul, ⊑-refl, ◌⊕◌, ◌⊗◌, ◌⨾◌}
 use Rattle.fz_frac.specs.Distance.{Distance, Fin, Inf, add, den, mul, none, one, ◌⊑◌}
 use Rattle.fz_frac.specs.Lowest.{gcd, gcd_in}
 use Rattle.fz_ast.specs.Bare.{nowhere}
-use Rattle.fz_ast.specs.Limits.{IsBang, IsNumber}
+use Rattle.fz_ast.specs.Limits.{IsBang}
 use Rattle.fz_ast.specs.Terms.{BangE, CaseE, EqE, FilterE, FnE, FunE, LeE, LetBangE, LetE, MapE, NumE, PairE, SplitE, Term, TextE, VarE, at}
 use Rattle.fz_ast.specs.Types.{BagT, BangT, BoolT, NumT, TensorT, TextT}
 use Rattle.linear_types.specs.Typing.{Closed, Context, IsType, Typing, Under, here, is_at_most, is_bang, is_fn, is_num, is_text, is_var, there}
 use Rattle.metric_law.proofs.Bags.{sizes}
+use Rattle.metric_law.proofs.Nearness.{no_num, small}
 use Rattle.metric_values.proofs.Removal.{removal_least}
-use Rattle.metric_values.specs.Distances.{gap}
 use Rattle.metric_values.specs.Pairing.{Differ, at_front, in_both, none_left}
 use Rattle.metric_values.specs.Values.{BagV, BangV, Bind, Empty, Env, Flat, FnV, FunV, NumF, NumV, PairV, TextV, UnitV, truth, value_of}
 use Rattle.metric_law.specs.Law.{NearEnv, TypedEnv, near_bind, near_empty, typed_bind, typed_empty}
@@ -29,9 +28,6 @@ number = Under (codes "n") NumT Closed
 abbrev pub at_number : ℤ → Env
 at_number z = Bind (codes "n") (NumV z) Empty
 
-pub small : (k : ℕ) → k ≤ 100 → IsNumber (pos k)
-small k h = omega (arith, ints)
-
 pub number_typed : (k : ℕ) → k ≤ 100 → TypedEnv number (at_number (pos k))
 number_typed k h = typed_bind (typed_num (small k h)) typed_empty
 
@@ -43,9 +39,6 @@ number_near = near_bind (near_num (record { le = omega arith })) near_empty
 
 pub is_n : Typing number (at nowhere (VarE (codes "n"))) NumT (one ∷ [])
 is_n = is_var (here refl)
-
-pub no_num : (y z : ℤ) (m p q : ℕ) → m ≡ gap y z → p * 1 < m * den q → NearNum (NumV y) (NumV z) (Fin p q) → ⊥
-no_num y z m p q e l (near_num h) = let k : gap y z * den q ≤ p * 1 = h.le in let i : m * den q ≤ p * 1 = rw e k in omega (arith, l, i)
 
 no_truth : {p q : ℕ} → Near BoolT (truth true) (truth false) (Fin p q) → ⊥
 no_truth (near_lr h) = h.le

@@ -17,7 +17,8 @@ use Rattle.metric_values.specs.Numbers.{clamp, clip, clipped_sum}
 use Rattle.metric_values.specs.Pairing.{Differ, at_front, in_both, none_left, on_right}
 use Rattle.metric_values.specs.Values.{BagV, BangV, Bind, Empty, Env, Flat, FnV, InlV, InrV, NumF, NumV, PairV, Value, truth, value_of}
 use Rattle.metric_law.proofs.Bags.{sums}
-use Rattle.metric_law.proofs.Needed.{is_n, num_type, small}
+use Rattle.metric_law.proofs.Nearness.{small}
+use Rattle.metric_law.proofs.Needed.{is_n, num_type}
 use Rattle.metric_law.specs.Law.{dot, near_bind, near_empty, typed_bind, typed_empty}
 use Rattle.metric_law.specs.Means.{Maps, Means, MeansIn, apply_fn}
 use Rattle.metric_law.specs.Near.{Near, NearBag, NearNum, Typed, near_bag, near_bang, near_inl, near_inr, near_lr, near_num, near_pair, near_rl, typed_bag, typed_bang, typed_inl, typed_inr, typed_num, typed_pair}

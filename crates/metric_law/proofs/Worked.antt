@@ -11,7 +11,8 @@ use Rattle.linear_types.specs.Typing.{Typing, here, is_fun, is_plus, is_var, the
 use Rattle.metric_values.specs.Tables.{rows_of}
 use Rattle.metric_values.specs.Typed.{TypedFlat}
 use Rattle.metric_values.specs.Values.{BagV, BangV, Flat, FnV, FunV, NumF, NumV}
-use Rattle.metric_law.proofs.Needed.{at_number, num_type, number, number_near, number_typed, small}
+use Rattle.metric_law.proofs.Nearness.{small}
+use Rattle.metric_law.proofs.Needed.{at_number, num_type, number, number_near, number_typed}
 use Rattle.metric_law.specs.Means.{Means, apply, apply_fn}
 use Rattle.metric_law.specs.Worked.{Answers, Datasets, LooserScalar, Premises, adds_n, bang_undone, clipped, counted, counted_twice, filtered_and_mapped, worked_tables, scaled_argument, some_ages, span, split_in_halves, three_ages, unused_names}
 

@@ -1,37 +1,21 @@
 -- The law: a term's type bounds how far its value moves.
-use Rattle.std.specs.Prelude.{List, [], true, ℤ, ◌↔◌, ◌∷◌, ◌≡◌}
-use Rattle.fz_frac.specs.Distance.{Distance, Fin, add, mul, none, ◌⊑◌}
+use Rattle.std.specs.Prelude.{List, true, ℤ, ◌↔◌, ◌≡◌}
+use Rattle.fz_frac.specs.Distance.{Distance, Fin, mul, none, ◌⊑◌}
 use Rattle.fz_ast.specs.Limits.{IsNumber, TermLimits}
 use Rattle.fz_ast.specs.Signature.{IsSignature, Signature}
 use Rattle.fz_ast.specs.Terms.{FilterE, LetBangE, Name, SplitE, Term, at}
 use Rattle.fz_ast.specs.declared.span.Span.{Span}
 use Rattle.fz_ast.specs.Types.{BagT, BangT, BoolT, TensorT, Ty, UnlimitedT, is_ground}
 use Rattle.linear_types.specs.Program.{Accepted, sensitivity_of}
-use Rattle.linear_types.specs.Sensitivities.{Sensitivities, first, plus, rest, scale}
-use Rattle.linear_types.specs.Typing.{AllTypes, Closed, Context, Typing, Under}
+use Rattle.term_meanings.specs.Sensitivities.{Sensitivities, first, plus, rest, scale}
+use Rattle.linear_types.specs.Typing.{AllTypes, Context, Typing, Under}
 use Rattle.metric_values.specs.Distances.{distance_between, gap}
 use Rattle.metric_values.specs.Tables.{Dataset, IsDataset, apart, rows_of}
 use Rattle.metric_values.specs.Typed.{TypedFlat, TypedGround}
-use Rattle.metric_values.specs.Values.{Bind, Empty, Env, Flat, NumV, Value, value_of}
-use Rattle.metric_law.specs.Means.{Means}
-use Rattle.metric_law.specs.Near.{Near, Typed}
-
--- each name has a value of its type
-pub data TypedEnv : Context → Env → Type 0 where
-  typed_empty : TypedEnv Closed Empty
-  typed_bind : {x : Name} {A : Ty} {Γ : Context} {v : Value} {γ : Env} → Typed A v → TypedEnv Γ γ → TypedEnv (Under x A Γ) (Bind x v γ)
-
--- each name's two values are near, at its distance in the list
-pub data NearEnv : Context → Env → Env → List Distance → Type 0 where
-  near_empty : NearEnv Closed Empty Empty []
-  near_bind : {x : Name} {A : Ty} {Γ : Context} {v w : Value} {γ γ' : Env} {d : Distance} {δ : List Distance}
-      → Near A v w d → NearEnv Γ γ γ' δ → NearEnv (Under x A Γ) (Bind x v γ) (Bind x w γ') (d ∷ δ)
-
--- the sum of sensitivity times distance
-abbrev pub dot : Sensitivities → List Distance → Distance
-dot [] δ = none
-dot (t ∷ D) [] = none
-dot (t ∷ D) (d ∷ δ) = add (mul t d) (dot D δ)
+use Rattle.metric_values.specs.Values.{Env, Flat, NumV, Value, value_of}
+pub use Rattle.term_meanings.specs.Environments.{TypedEnv, typed_empty, typed_bind, NearEnv, near_empty, near_bind, dot}
+use Rattle.term_meanings.specs.Means.{Means}
+use Rattle.term_meanings.specs.Near.{Near, Typed}
 
 -- near environments give near values, at the sum of sensitivity times distance
 abbrev pub Bounds : Context → Term → Ty → Sensitivities → Type 0

@@ -1,5 +1,5 @@
-pub mod Means
-pub mod Near
+pub use Rattle.term_meanings.specs.Means
+pub use Rattle.term_meanings.specs.Near
 pub mod Blanks
 pub mod Law
 pub mod Unsound

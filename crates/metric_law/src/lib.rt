@@ -1,4 +1,4 @@
-//! What a program means, and the law that its type bounds how far its value moves.
+//! The law that a program's type bounds how far its value moves.
 #![tactic(auto)]
 
 ghost use Rattle.fz_ast.specs.Limits.{IsBang, IsNumber};

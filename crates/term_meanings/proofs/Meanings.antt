@@ -6,7 +6,7 @@ use Rattle.fz_ast.specs.Bare.{nowhere}
 use Rattle.fz_ast.specs.Terms.{AppE, BangE, CaseE, ClipE, EqE, FalseE, FilterE, FnE, FstE, FunE, GreatestE, IfE, InlE, InrE, LeE, LeastE, LetBangE, LetE, LetPairE, MapE, MinusE, Name, NumE, PairE, PlusE, SizeE, SndE, SplitE, SumE, Term, TermForm, TextE, TimesE, TrueE, UnionE, UnitE, VarE, WithE, at}
 use Rattle.fz_ast.specs.Types.{BangT, NumT, UnitT}
 use Rattle.metric_values.specs.Values.{BagV, BangV, Bind, Empty, Env, Flat, FnV, FunV, InlV, InrV, NumF, NumV, PairV, TextF, TextV, UnitV, Value}
-use Rattle.metric_law.specs.Means.{Means, MeansIn, apply, apply_fn}
+use Rattle.term_meanings.specs.Means.{Means, MeansIn, apply, apply_fn}
 
 -- terms that stand nowhere
 

@@ -1,17 +1,18 @@
 -- What near values are near at.
 use Rattle.std.proofs.Common.{ap, arith, refl}
 use Rattle.std.proofs.lemmas.Int.{clamps, ints}
-use Rattle.std.specs.Prelude.{List, [], map, pos, ℕ, ℤ, ◌+ℤ◌, ◌+◌, ◌∷◌, ◌≡◌, ◌≤◌}
+use Rattle.std.specs.Prelude.{List, [], map, pos, ℕ, ℤ, ◌*◌, ◌+ℤ◌, ◌+◌, ◌<◌, ◌∷◌, ◌≡◌, ◌≤◌}
 use Rattle.fz_frac.proofs.Laws.{add-comm, add-none, mul-none, none-add, none-least, ⊑-inf, ⊑-refl, ◌⊕◌, ◌⨾◌}
-use Rattle.fz_frac.specs.Distance.{Distance, Fin, Inf, add, none, ◌⊑◌}
+use Rattle.fz_frac.specs.Distance.{Distance, Fin, Inf, add, den, none, ◌⊑◌}
+use Rattle.fz_ast.specs.Limits.{IsNumber}
 use Rattle.fz_ast.specs.Types.{ArrowT, BagT, BangT, NumT, SumT, TensorT, TextT, Ty, UnitT, WithT}
 use Rattle.metric_values.proofs.Metric.{gap_zero, no_divisor, whole, whole_none}
 use Rattle.metric_values.specs.Distances.{gap}
 use Rattle.metric_values.specs.Numbers.{clamp}
 use Rattle.metric_values.specs.Values.{BangF, BangV, Flat, InlF, InlV, InrF, InrV, NumF, NumV, PairF, TextF, UnitF, Value, value_of}
-use Rattle.metric_law.proofs.Bags.{all_differ}
-use Rattle.metric_law.proofs.Flatness.{Ground, IsFlat}
-use Rattle.metric_law.specs.Near.{Near, Typed, far_text, near_bag, near_bang, near_inl, near_inr, near_lr, near_num, near_pair, near_rl, near_text, near_unit, near_with, typed_bag, typed_bang, typed_inl, typed_inr, typed_num, typed_pair, typed_text, typed_unit}
+use Rattle.term_meanings.proofs.Bags.{all_differ}
+use Rattle.term_meanings.proofs.Flatness.{Ground, IsFlat}
+use Rattle.term_meanings.specs.Near.{Near, NearNum, Typed, far_text, near_bag, near_bang, near_inl, near_inr, near_lr, near_num, near_pair, near_rl, near_text, near_unit, near_with, typed_bag, typed_bang, typed_inl, typed_inr, typed_num, typed_pair, typed_text, typed_unit}
 
 pub near_more : (A : Ty) (v w : Value) {d d' : Distance} → Near A v w d → d ⊑ d' → Near A v w d'
 near_more NumT _ _ (near_num h) k = near_num (h ⨾ k)
@@ -107,3 +108,10 @@ pub numbers_inj : (ys zs : List ℤ) → map NumF ys ≡ map NumF zs → ys ≡ 
 numbers_inj [] [] h = refl
 numbers_inj (y ∷ ys) (z ∷ zs) h = let r = numbers_inj ys zs (cc) in cc
 numbers_inj ys zs h = cc
+
+-- numbers that are further apart aren't near, and small ones are numbers
+pub no_num : (y z : ℤ) (m p q : ℕ) → m ≡ gap y z → p * 1 < m * den q → NearNum (NumV y) (NumV z) (Fin p q) → ⊥
+no_num y z m p q e l (near_num h) = let k : gap y z * den q ≤ p * 1 = h.le in let i : m * den q ≤ p * 1 = rw e k in omega (arith, l, i)
+
+pub small : (k : ℕ) → k ≤ 100 → IsNumber (pos k)
+small k h = omega (arith, ints)

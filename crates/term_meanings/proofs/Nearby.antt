@@ -7,11 +7,10 @@ use Rattle.fz_ast.specs.Bare.{nowhere}
 use Rattle.fz_ast.specs.Terms.{Term, TextE, TimesE, VarE, at}
 use Rattle.fz_ast.specs.Types.{ArrowT, NumT}
 use Rattle.metric_values.specs.Values.{Empty, FunV, NumV, TextV, Value}
-use Rattle.metric_law.proofs.Nearness.{near_more}
-use Rattle.metric_law.proofs.Needed.{no_num, small}
-use Rattle.metric_law.specs.Law.{dot}
-use Rattle.metric_law.specs.Means.{Applies, Means, apply}
-use Rattle.metric_law.specs.Near.{Near, NearNum, Typed, TypedNum, near_num, typed_num}
+use Rattle.term_meanings.proofs.Nearness.{near_more, no_num, small}
+use Rattle.term_meanings.specs.Environments.{dot}
+use Rattle.term_meanings.specs.Means.{Applies, Means, apply}
+use Rattle.term_meanings.specs.Near.{Near, NearNum, Typed, TypedNum, near_num, typed_num}
 
 abbrev fun : Term → Value
 fun e = FunV (codes "x") e Empty
