@@ -20,7 +20,7 @@ use Rattle.fz_outside.specs.Draws.{first_draws}
 use Rattle.exact_bernoulli.specs.Meter.{draw_limit}
 use Rattle.discrete_laplace.specs.Noise.{noise_of}
 use Rattle.answer_path.specs.Reading.{read, IsReading}
-use Rattle.answer_path.specs.Judgement.{Judgement, HasValue}
+use Rattle.answer_path.specs.Admission.{Admission, HasValue}
 use Rattle.part_views.specs.Holding.{Holding}
 use Rattle.owner_house.specs.Owner.{Owner, IsOwnerOf, signature_of_view, rows_of_view}
 use Rattle.answer_path.specs.Query.{Query}
@@ -37,7 +37,7 @@ unfolding IsVerdict
 money_says owner start records query p q money c is = (
   read c.0,
   c.1,
-  subst (λ (j : Judgement). IsVerdictBy owner.entry start records query j (verdict_by_money (ask_for query p q) money)) (sym c.2)
+  subst (λ (j : Admission). IsVerdictBy owner.entry start records query j (verdict_by_money (ask_for query p q) money)) (sym c.2)
       (ap (verdict_by_money (ask_for query p q)) (sym is)),
 )
 
@@ -45,7 +45,7 @@ money_says owner start records query p q money c is = (
 pub program_says : (owner : Owner) (start : ℕ) (records : List Record) (query : Query) (refusal : ProgramRefusal) → IsRefusedFor (signature_of_view owner query.view) query.program refusal
     → IsVerdict owner.entry (signature_of_view owner query.view) start records query (program_refused refusal)
 unfolding IsVerdict
-program_says owner start records query refusal h = (h.0, h.1, subst (λ (j : Judgement). IsVerdictBy owner.entry start records query j (program_refused refusal)) (sym h.2) refl)
+program_says owner start records query refusal h = (h.0, h.1, subst (λ (j : Admission). IsVerdictBy owner.entry start records query j (program_refused refusal)) (sym h.2) refl)
 
 pub self : (records : List Record) → IsPrefix records records
 self records = ([], append-nil records)

@@ -13,7 +13,7 @@ use Rattle.linear_types.proofs.Scope.{accepted_is_bounded}
 use Rattle.part_views.specs.Views.{signature_in, rows_in}
 use Rattle.part_views.proofs.Laws.{views_are_datasets}
 use Rattle.answer_path.specs.Reading.{read, IsReading}
-use Rattle.answer_path.specs.Judgement.{accepted, judgement_of}
+use Rattle.answer_path.specs.Admission.{accepted, admission_of}
 use Rattle.answer_path.specs.Program.{IsCharged}
 use Rattle.answer_path.specs.Laws.{ChargedAreBounded, ChargedHaveValues}
 use Rattle.answer_path.proofs.Programs.{accepted_are_bounded, accepted_have_values, accepted_is, read_limits}
@@ -41,7 +41,7 @@ pub terms_of : (e p q : ℕ) → IsEpsilon e → 0 < q → gcd p q ≡ 1 → Are
 terms_of e p q epsilon above one = record { above = epsilon.least; most = epsilon.most; positive = above; lowest = subst (λ g. IsGcd p q g) one (gcd_is p q) }
 
 -- An accepted program's sensitivity is finite.
-pub accepted_finite : (tables : Signature) (program : List ℕ) (e : Term) (r : Distance) → IsReading program (read e) → judgement_of tables (read e) ≡ accepted e r → is_endless r ≡ false
+pub accepted_finite : (tables : Signature) (program : List ℕ) (e : Term) (r : Distance) → IsReading program (read e) → admission_of tables (read e) ≡ accepted e r → is_endless r ≡ false
 accepted_finite tables program e r reads is =
     let i = accepted_is tables e e r is in
     let b = accepted_is_bounded tables e i.0 i.1 (read_limits program e reads) i.2 in

@@ -33,7 +33,7 @@ use Rattle.wire_lines.specs.declared.refusal.MoneyRefusal.TheVariants.{OverBudge
 use Rattle.wire_lines.specs.declared.refusal.NumberRefusal.TheVariants.{Exhausted as NoNoise, Lost as NoAnswer}
 use Rattle.wire_lines.specs.declared.refusal.TypeFault.TheVariants.{Unbound, Mismatch, NotGround, NotFlat}
 use Rattle.answer_path.specs.Reading.{unlexed, stuck, nested, read}
-use Rattle.answer_path.specs.Judgement.{refused_for, accepted, fault_refusal, shape_refusal, judgement_of, HasValue}
+use Rattle.answer_path.specs.Admission.{refused_for, accepted, fault_refusal, shape_refusal, admission_of, HasValue}
 use Rattle.owner_house.specs.Owner.{Owner}
 use Rattle.answer_path.specs.Query.{Query}
 use Rattle.part_views.specs.Views.{signature_in, rows_in}
@@ -92,33 +92,33 @@ too_wide_is : shape_refusal (TooWide (span 5 9) 65) ≡ too_wide 5 9 65
 too_wide_is = refl
 
 -- What a program comes to.
-unlexed_is : judgement_of [] (unlexed 12) ≡ refused_for (no_token 12)
-unfolding judgement_of
+unlexed_is : admission_of [] (unlexed 12) ≡ refused_for (no_token 12)
+unfolding admission_of
 unlexed_is = refl
 
-stuck_is : judgement_of [] (stuck 3) ≡ refused_for (no_term 3)
-unfolding judgement_of
+stuck_is : admission_of [] (stuck 3) ≡ refused_for (no_term 3)
+unfolding admission_of
 stuck_is = refl
 
-nested_is : judgement_of [] (nested 65) ≡ refused_for (too_nested 65)
-unfolding judgement_of
+nested_is : admission_of [] (nested 65) ≡ refused_for (too_nested 65)
+unfolding admission_of
 nested_is = refl
 
-pub size_judged : judgement_of (people ∷ []) (read size_term) ≡ accepted size_term (Fin 1 1)
-unfolding judgement_of depth_limit gcd gcd_in
-size_judged = refl
+pub size_admitted : admission_of (people ∷ []) (read size_term) ≡ accepted size_term (Fin 1 1)
+unfolding admission_of depth_limit gcd gcd_in
+size_admitted = refl
 
-number_judged : judgement_of (people ∷ []) (read (at (span 0 1) (NumE (pos 1)))) ≡ accepted (at (span 0 1) (NumE (pos 1))) (Fin 0 1)
-unfolding judgement_of depth_limit gcd gcd_in
-number_judged = refl
+number_admitted : admission_of (people ∷ []) (read (at (span 0 1) (NumE (pos 1)))) ≡ accepted (at (span 0 1) (NumE (pos 1))) (Fin 0 1)
+unfolding admission_of depth_limit gcd gcd_in
+number_admitted = refl
 
 -- without its table the name is unbound, and a table alone is no number
-pub no_table : judgement_of (words ∷ []) (read size_term) ≡ refused_for (ill_typed Unbound 5 11)
-unfolding judgement_of
+pub no_table : admission_of (words ∷ []) (read size_term) ≡ refused_for (ill_typed Unbound 5 11)
+unfolding admission_of
 no_table = refl
 
-table_alone : judgement_of (people ∷ []) (read (at (span 0 6) (VarE (codes "people")))) ≡ refused_for no_number
-unfolding judgement_of gcd gcd_in
+table_alone : admission_of (people ∷ []) (read (at (span 0 6) (VarE (codes "people")))) ≡ refused_for no_number
+unfolding admission_of gcd gcd_in
 table_alone = refl
 
 -- the value of the size is how many rows that table has
@@ -280,7 +280,7 @@ owner budget capacity = record {
 }
 
 pub charged : IsCharged (people ∷ []) size_people 1 1
-charged = (size_term, size_reads, size_judged)
+charged = (size_term, size_reads, size_admitted)
 
 just_enough : IsVerdict (owner 1000000 2).entry (people ∷ []) 0 [] (a_query size_people) (granted an_ask (a_grant 0 1000000 1))
 unfolding cost_of cost_of_charges partition_cost budget_of signature_in

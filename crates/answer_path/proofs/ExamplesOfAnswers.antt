@@ -20,7 +20,7 @@ use Rattle.wire_lines.specs.declared.refusal.MoneyRefusal.TheVariants.{OverBudge
 use Rattle.wire_lines.specs.declared.refusal.NumberRefusal.TheVariants.{Exhausted as NoNoise, Lost as NoAnswer}
 use Rattle.wire_lines.specs.declared.refusal.TypeFault.TheVariants.{Unbound}
 use Rattle.answer_path.specs.Reading.{Reading, read, IsReading}
-use Rattle.answer_path.specs.Judgement.{Judgement, refused_for, accepted, judgement_of}
+use Rattle.answer_path.specs.Admission.{Admission, refused_for, accepted, admission_of}
 use Rattle.owner_house.specs.Owner.{Owner}
 use Rattle.answer_path.specs.Query.{Query}
 use Rattle.part_views.specs.Views.{signature_in}
@@ -31,7 +31,7 @@ use Rattle.answer_path.specs.Answered.{HasWorthIn, IsAnswered, IsAsked, IsSaidFo
 use Rattle.answer_path.proofs.Answering.{money_says, program_says}
 use Rattle.answer_path.proofs.Readings.{one_reading}
 use Rattle.answer_path.proofs.SizePeople.{size_people, size_term, size_reads}
-use Rattle.answer_path.proofs.Examples.{a_grant, a_query, an_ask, before, draws_of_minus_one, minus_one, no_table, owner, people, reserved, settled_as_lost, settled_by_three, charged, size_judged, words}
+use Rattle.answer_path.proofs.Examples.{a_grant, a_query, an_ask, before, draws_of_minus_one, minus_one, no_table, owner, people, reserved, settled_as_lost, settled_by_three, charged, size_admitted, words}
 
 abbrev query : Query
 query = a_query size_people
@@ -59,13 +59,13 @@ unfolding signature_in
 refused_before_the_budget = program_says (stranger 0 0) 0 before query unknown (read size_term, size_reads, no_table)
 
 -- what the program's one reading comes to
-judged_once : (reading : Reading) → IsReading size_people reading → judgement_of (words ∷ []) reading ≡ refused_for unknown
-judged_once reading reads = subst (λ (r : Reading). judgement_of (words ∷ []) r ≡ refused_for unknown) (one_reading size_people (read size_term) reading size_reads reads) no_table
+admitted_once : (reading : Reading) → IsReading size_people reading → admission_of (words ∷ []) reading ≡ refused_for unknown
+admitted_once reading reads = subst (λ (r : Reading). admission_of (words ∷ []) r ≡ refused_for unknown) (one_reading size_people (read size_term) reading size_reads reads) no_table
 
 verdict_on_a_stranger : (budget capacity : ℕ) (verdict : Verdict) → IsVerdict (stranger budget capacity).entry (words ∷ []) 0 before query verdict → verdict ≡ program_refused unknown
 unfolding IsVerdict
 verdict_on_a_stranger budget capacity verdict (reading, reads, by) =
-    subst (λ (j : Judgement). IsVerdictBy (stranger budget capacity).entry 0 before query j verdict) (judged_once reading reads) by
+    subst (λ (j : Admission). IsVerdictBy (stranger budget capacity).entry 0 before query j verdict) (admitted_once reading reads) by
 
 not_the_budget : (refusal : MoneyRefusal) → IsVerdict (stranger 0 0).entry (words ∷ []) 0 before query (money_refused refusal) → ⊥
 not_the_budget refusal h = absurd (cc (verdict_on_a_stranger 0 0 (money_refused refusal) h))
@@ -243,17 +243,17 @@ not_unanswered_otherwise : IsUnanswered (refused (by_number (NoAnswer 0))) [] �
 not_unanswered_otherwise h = absurd (cc (h.0))
 
 -- A program is charged by its own sensitivity.
-pub judged_at_one : (reading : Reading) → IsReading size_people reading → judgement_of (people ∷ []) reading ≡ accepted size_term (Fin 1 1)
-judged_at_one reading reads =
-    subst (λ (r : Reading). judgement_of (people ∷ []) r ≡ accepted size_term (Fin 1 1)) (one_reading size_people (read size_term) reading size_reads reads) size_judged
+pub admitted_at_one : (reading : Reading) → IsReading size_people reading → admission_of (people ∷ []) reading ≡ accepted size_term (Fin 1 1)
+admitted_at_one reading reads =
+    subst (λ (r : Reading). admission_of (people ∷ []) r ≡ accepted size_term (Fin 1 1)) (one_reading size_people (read size_term) reading size_reads reads) size_admitted
 
 not_charged_twice : IsCharged (people ∷ []) size_people 2 1 → ⊥
 not_charged_twice (e, reads, is) =
-    let both : accepted size_term (Fin 1 1) ≡ accepted e (Fin 2 1) = sym (judged_at_one (read e) reads) ∙ is in absurd (cc (both))
+    let both : accepted size_term (Fin 1 1) ≡ accepted e (Fin 2 1) = sym (admitted_at_one (read e) reads) ∙ is in absurd (cc (both))
 
 not_charged_half : IsCharged (people ∷ []) size_people 1 2 → ⊥
 not_charged_half (e, reads, is) =
-    let both : accepted size_term (Fin 1 1) ≡ accepted e (Fin 1 2) = sym (judged_at_one (read e) reads) ∙ is in absurd (cc (both))
+    let both : accepted size_term (Fin 1 1) ≡ accepted e (Fin 1 2) = sym (admitted_at_one (read e) reads) ∙ is in absurd (cc (both))
 
 -- ---- refused before the budget is asked: 10 to 37 and 90, and no other reply
 

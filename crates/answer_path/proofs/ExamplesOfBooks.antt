@@ -20,7 +20,7 @@ use Rattle.wire_lines.specs.declared.refusal.NumberRefusal.TheVariants.{Unknown 
 use Rattle.budget_ledger.specs.Account.{Account}
 use Rattle.owner_desk.specs.Passes.{Pass, Told}
 use Rattle.part_views.specs.Views.{signature_in}
-use Rattle.answer_path.specs.Judgement.{Judgement}
+use Rattle.answer_path.specs.Admission.{Admission}
 use Rattle.answer_path.specs.Query.{Query}
 use Rattle.answer_path.specs.Verdict.{ask_for, granted, IsVerdict, IsVerdictBy}
 use Rattle.answer_path.specs.Answered.{IsAnswered, IsAsked, granted_record}
@@ -31,7 +31,7 @@ use Rattle.answer_path.specs.Idle.{AddsNone, IsAlone, IsIdle}
 use Rattle.answer_path.proofs.Answering.{money_says}
 use Rattle.answer_path.proofs.SizePeople.{size_people}
 use Rattle.answer_path.proofs.Examples.{a_grant, a_query, an_ask, before, charged, draws_of_minus_one, minus_one, owner, people, reserved, settled_by_three}
-use Rattle.answer_path.proofs.ExamplesOfAnswers.{judged_at_one}
+use Rattle.answer_path.proofs.ExamplesOfAnswers.{admitted_at_one}
 
 abbrev query : Query
 query = a_query size_people
@@ -73,7 +73,7 @@ granted_once : (asking : Ask) (grant : Grant) → IsVerdict (owner 9000000 100).
     → granted asking grant ≡ granted an_ask (a_grant 1 1000000 3)
 unfolding IsVerdict cost_of cost_of_charges partition_cost budget_of
 granted_once asking grant (reading, reads, by) =
-    subst (λ (j : Judgement). IsVerdictBy (owner 9000000 100).entry 0 before query j (granted asking grant)) (judged_at_one reading reads) by
+    subst (λ (j : Admission). IsVerdictBy (owner 9000000 100).entry 0 before query j (granted asking grant)) (admitted_at_one reading reads) by
 
 pending_is : (next : Record) → IsGrantPending (owner 9000000 100) 0 query (refused (by_disk Fault)) [] before (Some (failed next)) → next ≡ reserved 1
 unfolding signature_in

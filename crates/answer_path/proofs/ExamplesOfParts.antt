@@ -21,7 +21,7 @@ use Rattle.wire_lines.specs.Refusal.{ill_typed}
 use Rattle.wire_lines.specs.declared.refusal.MoneyRefusal.TheVariants.{OverBudget as NoBudget}
 use Rattle.wire_lines.specs.declared.refusal.TypeFault.TheVariants.{Unbound}
 use Rattle.answer_path.specs.Reading.{Reading, read, IsReading}
-use Rattle.answer_path.specs.Judgement.{Judgement, accepted, judgement_of, refused_for, HasValue}
+use Rattle.answer_path.specs.Admission.{Admission, accepted, admission_of, refused_for, HasValue}
 use Rattle.owner_house.specs.Owner.{Owner, signature_of_view}
 use Rattle.answer_path.specs.Query.{Query}
 use Rattle.answer_path.specs.Program.{IsCharged}
@@ -96,35 +96,35 @@ not_of_a_third_partition : IsQueryOf (owner 10).entry (query (Part 2 0) 6) → �
 not_of_a_third_partition is = is.view
 
 -- Alone or beside the words, the people have a size of sensitivity 1.
-alone_judged : judgement_of (residents ∷ []) (read size_term) ≡ accepted size_term (Fin 1 1)
-unfolding judgement_of depth_limit gcd gcd_in
-alone_judged = refl
+alone_admitted : admission_of (residents ∷ []) (read size_term) ≡ accepted size_term (Fin 1 1)
+unfolding admission_of depth_limit gcd gcd_in
+alone_admitted = refl
 
-beside_judged : judgement_of (residents ∷ words ∷ []) (read size_term) ≡ accepted size_term (Fin 1 1)
-unfolding judgement_of depth_limit gcd gcd_in
-beside_judged = refl
+beside_admitted : admission_of (residents ∷ words ∷ []) (read size_term) ≡ accepted size_term (Fin 1 1)
+unfolding admission_of depth_limit gcd gcd_in
+beside_admitted = refl
 
 charged_in_a_city : (part : ℕ) → IsCharged (signature_of_view (owner 10) (Part 0 part)) size_people 1 1
 unfolding signature_in
-charged_in_a_city part = (size_term, size_reads, alone_judged)
+charged_in_a_city part = (size_term, size_reads, alone_admitted)
 
 charged_in_the_whole : IsCharged (signature_of_view (owner 10) Whole) size_people 1 1
 unfolding signature_in
-charged_in_the_whole = (size_term, size_reads, beside_judged)
+charged_in_the_whole = (size_term, size_reads, beside_admitted)
 
 -- In a part of the words the people are unbound, and nothing is granted.
 refused_in_odd : IsVerdict (owner 10).entry (signature_of_view (owner 10) odd) 0 [] (query odd 6) (program_refused (ill_typed Unbound 5 11))
 unfolding signature_in
 refused_in_odd = program_says (owner 10) 0 [] (query odd 6) (ill_typed Unbound 5 11) (read size_term, size_reads, no_table)
 
-judged_in_odd : (reading : Reading) → IsReading size_people reading → judgement_of (words ∷ []) reading ≡ refused_for (ill_typed Unbound 5 11)
-judged_in_odd reading reads =
-    subst (λ (r : Reading). judgement_of (words ∷ []) r ≡ refused_for (ill_typed Unbound 5 11)) (one_reading size_people (read size_term) reading size_reads reads) no_table
+admitted_in_odd : (reading : Reading) → IsReading size_people reading → admission_of (words ∷ []) reading ≡ refused_for (ill_typed Unbound 5 11)
+admitted_in_odd reading reads =
+    subst (λ (r : Reading). admission_of (words ∷ []) r ≡ refused_for (ill_typed Unbound 5 11)) (one_reading size_people (read size_term) reading size_reads reads) no_table
 
 not_granted_in_odd : (asking : Ask) (grant : Grant) → IsVerdict (owner 10).entry (signature_of_view (owner 10) odd) 0 [] (query odd 6) (granted asking grant) → ⊥
 unfolding IsVerdict signature_in
 not_granted_in_odd asking grant (reading, reads, by) =
-    absurd (cc (subst (λ (j : Judgement). IsVerdictBy (owner 10).entry 0 [] (query odd 6) j (granted asking grant)) (judged_in_odd reading reads) by))
+    absurd (cc (subst (λ (j : Admission). IsVerdictBy (owner 10).entry 0 [] (query odd 6) j (granted asking grant)) (admitted_in_odd reading reads) by))
 
 -- What the size is worth: each part has its own rows, a key that no row has none, and a row of another city is in the whole alone.
 worth_in_york : HasWorthIn (owner 10) (query york 6) (pos 2)

@@ -14,7 +14,7 @@ use Rattle.wire_lines.specs.Refusal.{ill_typed, unbounded, no_number, too_deep, 
 use Rattle.wire_lines.specs.declared.refusal.TypeFault.TheVariants.{Unbound}
 use Rattle.answer_path.specs.declared.program.Accepted.{Accepted}
 use Rattle.answer_path.specs.Reading.{read, IsReading}
-use Rattle.answer_path.specs.Judgement.{TakesTooManyWalks, refused_for, walks_too_much, accepted, judgement_of}
+use Rattle.answer_path.specs.Admission.{TakesTooManyWalks, refused_for, walks_too_much, accepted, admission_of}
 use Rattle.answer_path.specs.Code.{IsAccepted}
 use Rattle.answer_path.proofs.SizePeople.{span}
 use Rattle.answer_path.proofs.Told.{accepted_walks_little}
@@ -48,23 +48,23 @@ chained n =
     (clipped n (applied (codes "g") number)))
 
 -- at the limit, and one past it
-as_deep_as_may_be : (judgement_of worked_tables (read (chained 43)) ≡ accepted (chained 43) (Fin 0 1))
-    × (judgement_of worked_tables (read (chained 44)) ≡ refused_for (too_deep 6 7))
-unfolding judgement_of depth_limit gcd gcd_in is_out
+as_deep_as_may_be : (admission_of worked_tables (read (chained 43)) ≡ accepted (chained 43) (Fin 0 1))
+    × (admission_of worked_tables (read (chained 44)) ≡ refused_for (too_deep 6 7))
+unfolding admission_of depth_limit gcd gcd_in is_out
 as_deep_as_may_be = (refl, refl)
 
 -- the typing rules come first: an unbound name, a table without a bound, and a value that is no number
-unbound_first : judgement_of worked_tables (read (at (span 0 9) (PlusE (chained 44) (name (codes "z"))))) ≡ refused_for (ill_typed Unbound 1 2)
-unfolding judgement_of depth_limit gcd gcd_in is_out
+unbound_first : admission_of worked_tables (read (at (span 0 9) (PlusE (chained 44) (name (codes "z"))))) ≡ refused_for (ill_typed Unbound 1 2)
+unfolding admission_of depth_limit gcd gcd_in is_out
 unbound_first = refl
 
-unbounded_first : judgement_of worked_tables (read (at (span 0 9) (IfE (at (span 0 9) (LeE (at (span 0 9) (SizeE (name (codes "people")))) number)) (chained 44) number)))
+unbounded_first : admission_of worked_tables (read (at (span 0 9) (IfE (at (span 0 9) (LeE (at (span 0 9) (SizeE (name (codes "people")))) number)) (chained 44) number)))
     ≡ refused_for (unbounded (codes "people"))
-unfolding judgement_of depth_limit gcd gcd_in is_out
+unfolding admission_of depth_limit gcd gcd_in is_out
 unbounded_first = refl
 
-no_number_first : judgement_of worked_tables (read (at (span 0 9) (PairE (chained 44) number))) ≡ refused_for no_number
-unfolding judgement_of depth_limit gcd gcd_in is_out
+no_number_first : admission_of worked_tables (read (at (span 0 9) (PairE (chained 44) number))) ≡ refused_for no_number
+unfolding admission_of depth_limit gcd gcd_in is_out
 no_number_first = refl
 
 -- n times let f = fun (x : num) => f (f x) in .., and then the term
@@ -76,12 +76,12 @@ twice (suc n) e = let_in (codes "f") (function (codes "x") (applied (codes "f") 
 abbrev repeated : ℕ → Term
 repeated n = let_in (codes "f") (function (codes "x") (clipped 33 (at (span 6 7) (VarE (codes "x"))))) (twice 9 (clipped n (applied (codes "f") number)))
 
-just_long : judgement_of worked_tables (read (repeated 14)) ≡ accepted (repeated 14) (Fin 0 1)
-unfolding judgement_of depth_limit gcd gcd_in is_out
+just_long : admission_of worked_tables (read (repeated 14)) ≡ accepted (repeated 14) (Fin 0 1)
+unfolding admission_of depth_limit gcd gcd_in is_out
 just_long = refl
 
-too_long_is : judgement_of worked_tables (read (repeated 15)) ≡ refused_for (too_long 6 7)
-unfolding judgement_of depth_limit gcd gcd_in is_out
+too_long_is : admission_of worked_tables (read (repeated 15)) ≡ refused_for (too_long 6 7)
+unfolding admission_of depth_limit gcd gcd_in is_out
 too_long_is = refl
 
 -- n times let x = union x x in .., from this name, and then the term
@@ -89,12 +89,12 @@ abbrev doublings : ℕ → Name → Term → Term
 doublings zero x e = e
 doublings (suc n) x e = let_in (codes "x") (at (span 0 9) (UnionE (name x) (name x))) (doublings n (codes "x") e)
 
-just_wide : judgement_of worked_tables (read (doublings 6 (codes "people") (at (span 0 9) (SizeE (name (codes "x")))))) ≡ accepted (doublings 6 (codes "people") (at (span 0 9) (SizeE (name (codes "x"))))) (Fin 64 1)
-unfolding judgement_of depth_limit gcd gcd_in is_out
+just_wide : admission_of worked_tables (read (doublings 6 (codes "people") (at (span 0 9) (SizeE (name (codes "x")))))) ≡ accepted (doublings 6 (codes "people") (at (span 0 9) (SizeE (name (codes "x"))))) (Fin 64 1)
+unfolding admission_of depth_limit gcd gcd_in is_out
 just_wide = refl
 
-too_wide_is : judgement_of worked_tables (read (doublings 6 (codes "people") (at (span 0 9) (SizeE (at (span 6 8) (UnionE (name (codes "x")) (name (codes "people")))))))) ≡ refused_for (too_wide 6 8 65)
-unfolding judgement_of depth_limit gcd gcd_in is_out
+too_wide_is : admission_of worked_tables (read (doublings 6 (codes "people") (at (span 0 9) (SizeE (at (span 6 8) (UnionE (name (codes "x")) (name (codes "people")))))))) ≡ refused_for (too_wide 6 8 65)
+unfolding admission_of depth_limit gcd gcd_in is_out
 too_wide_is = refl
 
 -- 0 * size of the last of n maps, each of which sums the bag before for each row
@@ -111,25 +111,25 @@ unfolding depth_limit
 six_do_not walks = absurd (cc walks.3)
 
 -- so six are accepted, and seven aren't: they have no plan
-pub six_are_judged : judgement_of worked_tables (read (unweighed 6)) ≡ accepted (unweighed 6) (Fin 0 1)
-unfolding judgement_of depth_limit gcd gcd_in is_out
-six_are_judged = refl
+pub six_are_admitted : admission_of worked_tables (read (unweighed 6)) ≡ accepted (unweighed 6) (Fin 0 1)
+unfolding admission_of depth_limit gcd gcd_in is_out
+six_are_admitted = refl
 
-seven_are_judged : judgement_of worked_tables (read (unweighed 7)) ≡ walks_too_much
-unfolding judgement_of depth_limit gcd gcd_in is_out
-seven_are_judged = refl
+seven_are_admitted : admission_of worked_tables (read (unweighed 7)) ≡ walks_too_much
+unfolding admission_of depth_limit gcd gcd_in is_out
+seven_are_admitted = refl
 
 -- a limit that is passed behind too many walks, or before them, is what the program is refused for
-walks_then_wide : judgement_of worked_tables (read (at (span 0 9) (TimesE (pos 0) (nested_and_doubled 7 7)))) ≡ refused_for (too_wide 0 1 128)
-unfolding judgement_of depth_limit gcd gcd_in is_out
+walks_then_wide : admission_of worked_tables (read (at (span 0 9) (TimesE (pos 0) (nested_and_doubled 7 7)))) ≡ refused_for (too_wide 0 1 128)
+unfolding admission_of depth_limit gcd gcd_in is_out
 walks_then_wide = refl
 
-wide_then_walks : judgement_of worked_tables (read (at (span 0 9) (TimesE (pos 0) (doubled_and_nested 7 7)))) ≡ refused_for (too_wide 0 1 128)
-unfolding judgement_of depth_limit gcd gcd_in is_out
+wide_then_walks : admission_of worked_tables (read (at (span 0 9) (TimesE (pos 0) (doubled_and_nested 7 7)))) ≡ refused_for (too_wide 0 1 128)
+unfolding admission_of depth_limit gcd gcd_in is_out
 wide_then_walks = refl
 
-walks_then_narrow : judgement_of worked_tables (read (at (span 0 9) (TimesE (pos 0) (nested_and_doubled 7 6)))) ≡ walks_too_much
-unfolding judgement_of depth_limit gcd gcd_in is_out
+walks_then_narrow : admission_of worked_tables (read (at (span 0 9) (TimesE (pos 0) (nested_and_doubled 7 6)))) ≡ walks_too_much
+unfolding admission_of depth_limit gcd gcd_in is_out
 walks_then_narrow = refl
 
 pub six_have_a_plan : IsPlanOf worked_tables (unweighed 6) (record { depth = 10; turns = 39; width = 1; walks = 64; reach = 15 })
@@ -137,7 +137,7 @@ unfolding depth_limit
 six_have_a_plan = (_, refl)
 
 six_are_accepted : (program : List ℕ) (sens : Sens) → IsReading program (read (unweighed 6)) → distance_of sens ≡ Fin 0 1 → IsAccepted worked_tables program (record { term = unweighed 6; sens = sens })
-six_are_accepted program sens reads is = record { reads = reads; accepts = six_are_judged ∙ ap (accepted (unweighed 6)) (sym is); planned = (_, six_have_a_plan) }
+six_are_accepted program sens reads is = record { reads = reads; accepts = six_are_admitted ∙ ap (accepted (unweighed 6)) (sym is); planned = (_, six_have_a_plan) }
 
 seven_are_not : (program : List ℕ) (a : Accepted) → IsReading program (read (unweighed 7)) → IsAccepted worked_tables program a → ⊥
 seven_are_not program a reads is = accepted_walks_little worked_tables program a is (unweighed 7, reads, seven_walk_too_much)

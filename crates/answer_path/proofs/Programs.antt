@@ -18,7 +18,7 @@ use Rattle.metric_law.proofs.Programs.{program_bound, program_value}
 use Rattle.metric_law.proofs.Unique.{same_value}
 use Rattle.answer_path.specs.Reading.{read, IsReading}
 use Rattle.shape_law.specs.Walk.{WalkOutcome, Shaped, Stops, TooManyWalks, shape}
-use Rattle.answer_path.specs.Judgement.{accepted, judgement_of, judged_by, shaped_by, HasValue}
+use Rattle.answer_path.specs.Admission.{accepted, admission_of, admitted_by, shaped_by, HasValue}
 use Rattle.answer_path.specs.Laws.{OneValue, AcceptedAreBounded, AcceptedHaveValues}
 use Rattle.answer_path.proofs.Readings.{one_reading}
 
@@ -36,8 +36,8 @@ lowest_most (Fin p q) =
 lowest_most Inf = ⊑-refl Inf
 
 -- what it is to be accepted
-pub accepted_is : (ts : Signature) (e t : Term) (r : Distance) → judgement_of ts (read e) ≡ accepted t r → (D : Sensitivities) × (s : Distance) × (sensitivity_of ts e ≡ Accepted D s) × (t ≡ e) × (r ≡ lowest s)
-unfolding judgement_of
+pub accepted_is : (ts : Signature) (e t : Term) (r : Distance) → admission_of ts (read e) ≡ accepted t r → (D : Sensitivities) × (s : Distance) × (sensitivity_of ts e ≡ Accepted D s) × (t ≡ e) × (r ≡ lowest s)
+unfolding admission_of
 accepted_is ts e t r h = go (sensitivity_of ts e) refl h
   where
     shaped : (s : Distance) (o : WalkOutcome) → shaped_by e (lowest s) o ≡ accepted t r → (t ≡ e) × (r ≡ lowest s)
@@ -45,7 +45,7 @@ accepted_is ts e t r h = go (sensitivity_of ts e) refl h
     shaped s (Stops fault) h = absurd (cc h)
     shaped s TooManyWalks h = absurd (cc h)
 
-    go : (a : Acceptance) → sensitivity_of ts e ≡ a → judged_by ts e a ≡ accepted t r → (D : Sensitivities) × (s : Distance) × (sensitivity_of ts e ≡ Accepted D s) × (t ≡ e) × (r ≡ lowest s)
+    go : (a : Acceptance) → sensitivity_of ts e ≡ a → admitted_by ts e a ≡ accepted t r → (D : Sensitivities) × (s : Distance) × (sensitivity_of ts e ≡ Accepted D s) × (t ≡ e) × (r ≡ lowest s)
     go (Accepted D s) q k = let h = shaped s (shape ts e) k in (D, s, q, h.0, h.1)
     go (Faulty f) q k = absurd (cc k)
 

@@ -32,13 +32,13 @@ use Rattle.shape_run.specs.declared.plan.ShapeFault.TheVariants.{TooDeep, TooLon
 use Rattle.shape_run.specs.Plans.{IsPlanOf, IsStopOf}
 use Rattle.wire_lines.specs.Refusal.{ProgramRefusal, Refusal, by_line, by_program, by_money, by_disk, by_number, no_memory}
 use Rattle.answer_path.specs.Reading.{unlexed, stuck, nested, read, IsReading}
-use Rattle.answer_path.specs.Judgement.{HasTooManyWalks, TakesTooManyWalks, accepted, judgement_of, judged_by, refused_for, shaped_by, walks_too_much, fault_refusal}
+use Rattle.answer_path.specs.Admission.{HasTooManyWalks, TakesTooManyWalks, accepted, admission_of, admitted_by, refused_for, shaped_by, walks_too_much, fault_refusal}
 use Rattle.owner_house.specs.Names.{AreNames}
 use Rattle.answer_path.specs.declared.program.Accepted.{Accepted}
-use Rattle.answer_path.specs.declared.program.Judged.{Judged}
-use Rattle.answer_path.specs.declared.program.Unjudged.{Unjudged}
-use Rattle.answer_path.specs.declared.program.Unjudged.TheVariants.{Refused as Said, TooManyWalks as WalksTooMuch}
-use Rattle.answer_path.specs.Code.{IsAccepted, IsJudged, IsProgramRefusal, IsRefusedFor, IsTermRefusal, IsUndecided, IsUnjudged, lex_refusal, parse_refusal, limit_refusal, told_of, HasTable, TellsFault}
+use Rattle.answer_path.specs.declared.program.Admitted.{Admitted}
+use Rattle.answer_path.specs.declared.program.Unadmitted.{Unadmitted}
+use Rattle.answer_path.specs.declared.program.Unadmitted.TheVariants.{Refused as Said, TooManyWalks as WalksTooMuch}
+use Rattle.answer_path.specs.Code.{IsAccepted, IsAdmitted, IsProgramRefusal, IsRefusedFor, IsTermRefusal, IsUndecided, IsUnadmitted, lex_refusal, parse_refusal, limit_refusal, told_of, HasTable, TellsFault}
 use Rattle.answer_path.proofs.Readings.{one_reading}
 use Rattle.answer_path.proofs.Programs.{same_term}
 
@@ -63,7 +63,7 @@ names_in_view ts partitions (Part p j) h = divided (slice_get partitions p)
     divided (Some partition) = one partition.table (slice_get ts partition.table) refl
 
 pub unlexed_refused : (w : List ℕ) (fault : LexFault) (refusal : Refusal) → ExplainsLex w fault → refusal ≡ lex_refusal fault → (ts : Signature) → IsProgramRefusal ts w refusal
-unfolding IsReading judgement_of
+unfolding IsReading admission_of
 unlexed_refused w fault refusal h e ts = subst (λ x. IsProgramRefusal ts w x) (sym e) (go fault h)
   where
     go : (fault : LexFault) → ExplainsLex w fault → IsProgramRefusal ts w (lex_refusal fault)
@@ -76,7 +76,7 @@ unfolding IsReading
 is_read w us e h k = (us, h, k)
 
 pub unparsed_refused : (w : List ℕ) (us : List Token) (fault : ParseFault) (refusal : Refusal) → IsLexed w us → ExplainsParse us fault → refusal ≡ parse_refusal fault → (ts : Signature) → IsProgramRefusal ts w refusal
-unfolding IsReading judgement_of
+unfolding IsReading admission_of
 unparsed_refused w us fault refusal l h e ts = subst (λ x. IsProgramRefusal ts w x) (sym e) (go fault h)
   where
     go : (fault : ParseFault) → ExplainsParse us fault → IsProgramRefusal ts w (parse_refusal fault)
@@ -85,8 +85,8 @@ unparsed_refused w us fault refusal l h e ts = subst (λ x. IsProgramRefusal ts 
     go NoSpace h = tt
 
 faulty : (ts : Signature) (e : Term) (f : Fault) (refusal : Refusal) → sensitivity_of ts e ≡ Faulty f → refusal ≡ by_program (fault_refusal f) → IsTermRefusal ts e refusal
-unfolding judgement_of
-faulty ts e f refusal k r = subst (λ x. IsTermRefusal ts e x) (sym r) (ap (judged_by ts e) k)
+unfolding admission_of
+faulty ts e f refusal k r = subst (λ x. IsTermRefusal ts e x) (sym r) (ap (admitted_by ts e) k)
 
 pub fault_refused : (ts : Signature) (e : Term) (fault : CheckFault) (refusal : Refusal) → IsFirstFault ts e fault → TellsFault ts fault refusal → IsTermRefusal ts e refusal
 fault_refused ts e (Unbound s) refusal k r = faulty ts e k.0 refusal k.1 (r k.0 k.2)
@@ -111,11 +111,11 @@ has_table ts e (NotNum T t) k = tt
 has_table ts e NoPlace k = tt
 
 -- an accepted term comes to what its run without data comes to
-pub by_shape : (ts : Signature) (e : Term) (checked : Checked) → IsChecked ts e checked → judgement_of ts (read e) ≡ shaped_by e (distance_of checked.sens) (shape ts e)
-unfolding judgement_of
-by_shape ts e checked h = ap (judged_by ts e) h.accepted ∙ ap (λ r. shaped_by e r (shape ts e)) (sym h.sens)
+pub by_shape : (ts : Signature) (e : Term) (checked : Checked) → IsChecked ts e checked → admission_of ts (read e) ≡ shaped_by e (distance_of checked.sens) (shape ts e)
+unfolding admission_of
+by_shape ts e checked h = ap (admitted_by ts e) h.accepted ∙ ap (λ r. shaped_by e r (shape ts e)) (sym h.sens)
 
-pub planned_accepted : (ts : Signature) (e : Term) (checked : Checked) (plan : Plan) → IsChecked ts e checked → IsPlanOf ts e plan → judgement_of ts (read e) ≡ accepted e (distance_of checked.sens)
+pub planned_accepted : (ts : Signature) (e : Term) (checked : Checked) (plan : Plan) → IsChecked ts e checked → IsPlanOf ts e plan → admission_of ts (read e) ≡ accepted e (distance_of checked.sens)
 planned_accepted ts e checked plan h p = by_shape ts e checked h ∙ ap (shaped_by e (distance_of checked.sens)) p.1
 
 pub stopped_refused : (ts : Signature) (e : Term) (checked : Checked) (fault : ShapeFault) (refusal : Refusal) → IsChecked ts e checked → IsStopOf ts e fault → refusal ≡ limit_refusal fault
@@ -143,34 +143,34 @@ term_refused ts w e (by_number refusal) h k = absurd k
 pub stopped_walks : (ts : Signature) (e : Term) (checked : Checked) → IsChecked ts e checked → IsStopOf ts e TooManyWalks → TakesTooManyWalks ts e
 stopped_walks ts e checked h walks = (h.D, h.r, h.accepted, walks)
 
--- why a program's term isn't judged is why the program isn't
-pub term_undecided : (ts : Signature) (w : List ℕ) (e : Term) (why : Unjudged) → IsReading w (read e) → IsUnjudged ts e why → IsUndecided ts w why
+-- why a program's term isn't admitted is why the program isn't
+pub term_undecided : (ts : Signature) (w : List ℕ) (e : Term) (why : Unadmitted) → IsReading w (read e) → IsUnadmitted ts e why → IsUndecided ts w why
 term_undecided ts w e (Said refusal) reads is = term_refused ts w e _ reads is
 term_undecided ts w e WalksTooMuch reads walks = (e, reads, walks)
 
 -- and is told as one of its refusals
-pub unjudged_told : (ts : Signature) (e : Term) (why : Unjudged) (refusal : Refusal) → IsUnjudged ts e why → refusal ≡ told_of why → IsTermRefusal ts e refusal
-unjudged_told ts e why refusal is same = subst (IsTermRefusal ts e) (sym same) (go why is)
+pub unadmitted_told : (ts : Signature) (e : Term) (why : Unadmitted) (refusal : Refusal) → IsUnadmitted ts e why → refusal ≡ told_of why → IsTermRefusal ts e refusal
+unadmitted_told ts e why refusal is same = subst (IsTermRefusal ts e) (sym same) (go why is)
   where
-    go : (why : Unjudged) → IsUnjudged ts e why → IsTermRefusal ts e (told_of why)
+    go : (why : Unadmitted) → IsUnadmitted ts e why → IsTermRefusal ts e (told_of why)
     go (Said refusal) is = is
     go WalksTooMuch walks = tt
 
-pub undecided_told : (ts : Signature) (w : List ℕ) (why : Unjudged) (refusal : Refusal) → IsUndecided ts w why → refusal ≡ told_of why → IsProgramRefusal ts w refusal
+pub undecided_told : (ts : Signature) (w : List ℕ) (why : Unadmitted) (refusal : Refusal) → IsUndecided ts w why → refusal ≡ told_of why → IsProgramRefusal ts w refusal
 undecided_told ts w why refusal is same = subst (IsProgramRefusal ts w) (sym same) (go why is)
   where
-    go : (why : Unjudged) → IsUndecided ts w why → IsProgramRefusal ts w (told_of why)
+    go : (why : Unadmitted) → IsUndecided ts w why → IsProgramRefusal ts w (told_of why)
     go (Said refusal) is = is
     go WalksTooMuch walks = tt
 
-pub walks_judged : (ts : Signature) (e : Term) → TakesTooManyWalks ts e → judgement_of ts (read e) ≡ walks_too_much
-unfolding judgement_of
-walks_judged ts e (D, r, typed, walks) = ap (judged_by ts e) typed ∙ ap (shaped_by e (lowest r)) walks
+pub walks_admitted : (ts : Signature) (e : Term) → TakesTooManyWalks ts e → admission_of ts (read e) ≡ walks_too_much
+unfolding admission_of
+walks_admitted ts e (D, r, typed, walks) = ap (admitted_by ts e) typed ∙ ap (shaped_by e (lowest r)) walks
 
 -- so it isn't refused for itself
 pub refused_walks_little : (ts : Signature) (w : List ℕ) (refusal : ProgramRefusal) → IsRefusedFor ts w refusal → HasTooManyWalks ts w → ⊥
 refused_walks_little ts w refusal (reading, reads', is) (e, reads, walks) =
-    let both : walks_too_much ≡ refused_for refusal = sym (walks_judged ts e walks) ∙ ap (judgement_of ts) (one_reading w (read e) reading reads reads') ∙ is in
+    let both : walks_too_much ≡ refused_for refusal = sym (walks_admitted ts e walks) ∙ ap (admission_of ts) (one_reading w (read e) reading reads reads') ∙ is in
     cc both
 
 -- a program that takes too many walks can only be refused for want of memory
@@ -191,5 +191,5 @@ planned_walks_little ts w e plan reads planned (d, reads', walks) =
 pub accepted_walks_little : (ts : Signature) (w : List ℕ) (a : Accepted) → IsAccepted ts w a → HasTooManyWalks ts w → ⊥
 accepted_walks_little ts w a h = planned_walks_little ts w a.term h.planned.0 h.reads h.planned.1
 
-pub judged_walks_little : (ts : Signature) (w : List ℕ) (e : Term) (judged : Judged) → IsReading w (read e) → IsJudged ts e judged → HasTooManyWalks ts w → ⊥
-judged_walks_little ts w e judged reads is = planned_walks_little ts w e judged.plan reads is.planned
+pub admitted_walks_little : (ts : Signature) (w : List ℕ) (e : Term) (admitted : Admitted) → IsReading w (read e) → IsAdmitted ts e admitted → HasTooManyWalks ts w → ⊥
+admitted_walks_little ts w e admitted reads is = planned_walks_little ts w e admitted.plan reads is.planned

@@ -21,7 +21,7 @@ use Rattle.wire_lines.specs.declared.refusal.NumberRefusal.TheVariants.{Exhauste
 use Rattle.owner_house.specs.Owner.{Owner, signature_of_view, rows_of_view}
 pub use Rattle.owner_desk.specs.Passes.{Told}
 use Rattle.answer_path.specs.Query.{Query}
-use Rattle.answer_path.specs.Judgement.{HasValue}
+use Rattle.answer_path.specs.Admission.{HasValue}
 use Rattle.answer_path.specs.Noise.{noise_at}
 use Rattle.answer_path.specs.Verdict.{Verdict, program_refused, money_refused, granted, IsVerdict}
 

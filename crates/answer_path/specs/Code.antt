@@ -27,13 +27,13 @@ use Rattle.shape_run.specs.declared.plan.ShapeFault.TheVariants.{TooDeep, TooLon
 use Rattle.shape_run.specs.Plans.{IsPlanOf}
 use Rattle.wire_lines.specs.Refusal.{ProgramRefusal, no_token, no_term, too_nested, too_deep, too_long, too_wide, Refusal, by_program, no_memory, refusal_at}
 use Rattle.answer_path.specs.Reading.{Reading, read, IsReading}
-use Rattle.answer_path.specs.Judgement.{refused_for, accepted, judgement_of, fault_refusal, HasTooManyWalks, TakesTooManyWalks}
+use Rattle.answer_path.specs.Admission.{refused_for, accepted, admission_of, fault_refusal, HasTooManyWalks, TakesTooManyWalks}
 use Rattle.answer_path.specs.Query.{Query}
 use Rattle.answer_path.specs.Demand.{Demand, asks, recalls, balances, spends}
 use Rattle.answer_path.specs.declared.program.Accepted.{Accepted}
-use Rattle.answer_path.specs.declared.program.Judged.{Judged}
-use Rattle.answer_path.specs.declared.program.Unjudged.{Unjudged}
-use Rattle.answer_path.specs.declared.program.Unjudged.TheVariants.{Refused as Told, TooManyWalks as WalksTooMuch}
+use Rattle.answer_path.specs.declared.program.Admitted.{Admitted}
+use Rattle.answer_path.specs.declared.program.Unadmitted.{Unadmitted}
+use Rattle.answer_path.specs.declared.program.Unadmitted.TheVariants.{Refused as Told, TooManyWalks as WalksTooMuch}
 use Rattle.answer_path.specs.declared.deciding.Decided.{Decided}
 use Rattle.answer_path.specs.declared.query.Query.{Query as QueryAt}
 use Rattle.answer_path.specs.declared.demand.Demand.{Demand as DemandAt}
@@ -42,12 +42,12 @@ use Rattle.answer_path.specs.declared.demand.Demand.TheVariants.{Asks, Recalls, 
 -- The program is this term, which is accepted with this sensitivity. Its run without data has a plan: so it doesn't take too many walks.
 pub record IsAccepted (ts : Signature) (program : List ℕ) (a : Accepted) : Type 0 where
   pub reads : IsReading program (read a.term)
-  pub accepts : judgement_of ts (read a.term) ≡ accepted a.term (distance_of a.sens)
+  pub accepts : admission_of ts (read a.term) ≡ accepted a.term (distance_of a.sens)
   pub planned : (plan : Plan) × IsPlanOf ts a.term plan
 
 -- the program is refused for this
 abbrev pub IsRefusedFor : Signature → List ℕ → ProgramRefusal → Type 0
-IsRefusedFor ts program refusal = (reading : Reading) × IsReading program reading × (judgement_of ts reading ≡ refused_for refusal)
+IsRefusedFor ts program refusal = (reading : Reading) × IsReading program reading × (admission_of ts reading ≡ refused_for refusal)
 
 -- the same of any refusal; memory may run out at any program
 abbrev pub IsProgramRefusal : Signature → List ℕ → Refusal → Type 0
@@ -56,20 +56,20 @@ IsProgramRefusal ts program no_memory = ⊤
 IsProgramRefusal ts program refusal = ⊥
 
 -- The term is accepted with this sensitivity, and this is the plan of its run without data.
-pub record IsJudged (ts : Signature) (e : Term) (judged : Judged) : Type 0 where
-  pub checked : IsChecked ts e judged.checked
-  pub planned : IsPlanOf ts e judged.plan
-  pub accepts : judgement_of ts (read e) ≡ accepted e (distance_of judged.checked.sens)
+pub record IsAdmitted (ts : Signature) (e : Term) (admitted : Admitted) : Type 0 where
+  pub checked : IsChecked ts e admitted.checked
+  pub planned : IsPlanOf ts e admitted.plan
+  pub accepts : admission_of ts (read e) ≡ accepted e (distance_of admitted.checked.sens)
 
--- The program is the term that was judged over these tables, and this is the SHA-256 of its bytes.
+-- The program is the term that was admitted over these tables, and this is the SHA-256 of its bytes.
 pub record IsDecided (ts : Signature) (program : List ℕ) (decided : Decided) : Type 0 where
-  pub reads : IsReading program (read decided.judged.checked.term.now)
-  pub judged : IsJudged ts decided.judged.checked.term.now decided.judged
+  pub reads : IsReading program (read decided.admitted.checked.term.now)
+  pub admitted : IsAdmitted ts decided.admitted.checked.term.now decided.admitted
   pub digest : decided.digest ≡ sha256 program
 
--- the term was judged over the tables of a view of this holding
-abbrev pub IsJudgedIn : Holding → View → Judged → Type 0
-IsJudgedIn holding view judged = IsJudged (signature_in holding.tables holding.partitions view) judged.checked.term.now judged
+-- the term was admitted over the tables of a view of this holding
+abbrev pub IsAdmittedIn : Holding → View → Admitted → Type 0
+IsAdmittedIn holding view admitted = IsAdmitted (signature_in holding.tables holding.partitions view) admitted.checked.term.now admitted
 
 -- a term's value on the rows of a view of this holding
 abbrev pub IsWorth : Holding → View → Term → ℤ → Type 0
@@ -78,22 +78,22 @@ IsWorth holding view e value =
 
 -- a program that is this term is refused for this; memory may run out at any term
 abbrev pub IsTermRefusal : Signature → Term → Refusal → Type 0
-IsTermRefusal ts e (by_program refusal) = judgement_of ts (read e) ≡ refused_for refusal
+IsTermRefusal ts e (by_program refusal) = admission_of ts (read e) ≡ refused_for refusal
 IsTermRefusal ts e no_memory = ⊤
 IsTermRefusal ts e refusal = ⊥
 
--- why the term isn't judged: it is refused, or memory ran out, or it takes too many walks
-abbrev pub IsUnjudged : Signature → Term → Unjudged → Type 0
-IsUnjudged ts e (Told refusal) = IsTermRefusal ts e (refusal_at refusal)
-IsUnjudged ts e WalksTooMuch = TakesTooManyWalks ts e
+-- why the term isn't admitted: it is refused, or memory ran out, or it takes too many walks
+abbrev pub IsUnadmitted : Signature → Term → Unadmitted → Type 0
+IsUnadmitted ts e (Told refusal) = IsTermRefusal ts e (refusal_at refusal)
+IsUnadmitted ts e WalksTooMuch = TakesTooManyWalks ts e
 
 -- the same of a program
-abbrev pub IsUndecided : Signature → List ℕ → Unjudged → Type 0
+abbrev pub IsUndecided : Signature → List ℕ → Unadmitted → Type 0
 IsUndecided ts program (Told refusal) = IsProgramRefusal ts program (refusal_at refusal)
 IsUndecided ts program WalksTooMuch = HasTooManyWalks ts program
 
 -- too many walks are told as want of memory is
-abbrev pub told_of : Unjudged → Refusal
+abbrev pub told_of : Unadmitted → Refusal
 told_of (Told refusal) = refusal_at refusal
 told_of WalksTooMuch = no_memory
 

@@ -1,4 +1,4 @@
--- What is proved of readings and of judgements.
+-- What is proved of readings and of admissions.
 use Rattle.std.specs.Prelude.{◌≡◌, ◌↔◌, ◌⊎◌, ℕ, ℤ, List, [], ◌∷◌, ◌++◌}
 use mathlib.Core.List.{IsPrefix}
 use Rattle.journal_records.specs.declared.records.Record.{Record}
@@ -35,7 +35,7 @@ use Rattle.answer_path.specs.Shut.{Shut, ShutsBy, shut_of}
 use Rattle.answer_path.specs.Idle.{AddsNone, IsAlone, IsIdle, IsShutOut, LeavesBook}
 use Rattle.answer_path.specs.Closing.{Closes}
 use Rattle.answer_path.specs.Reading.{Reading, read, IsReading}
-use Rattle.answer_path.specs.Judgement.{accepted, judgement_of, HasTooManyWalks, HasValue}
+use Rattle.answer_path.specs.Admission.{accepted, admission_of, HasTooManyWalks, HasValue}
 
 -- a program comes to one thing at most
 abbrev pub OneReading : Type 0
@@ -48,7 +48,7 @@ EveryReading = (w : List ℕ) → (reading : Reading) × IsReading w reading
 -- an accepted program has a number within -M..M on each dataset
 abbrev pub AcceptedHaveValues : Type 0
 AcceptedHaveValues =
-    (ts : Signature) (w : List ℕ) (e t : Term) (r : Distance) → IsSignature ts → IsReading w (read e) → judgement_of ts (read e) ≡ accepted t r
+    (ts : Signature) (w : List ℕ) (e t : Term) (r : Distance) → IsSignature ts → IsReading w (read e) → admission_of ts (read e) ≡ accepted t r
     → (X : Dataset) → IsDataset ts X → (z : ℤ) × HasValue ts X w z × IsNumber z
 
 -- a program has one number at most on a dataset
@@ -58,7 +58,7 @@ OneValue = (ts : Signature) (X : Dataset) (w : List ℕ) (y z : ℤ) → HasValu
 -- an accepted program's numbers on two datasets differ by at most its sensitivity times how far the datasets are apart
 abbrev pub AcceptedAreBounded : Type 0
 AcceptedAreBounded =
-    (ts : Signature) (w : List ℕ) (e t : Term) (r : Distance) → IsSignature ts → IsReading w (read e) → judgement_of ts (read e) ≡ accepted t r
+    (ts : Signature) (w : List ℕ) (e t : Term) (r : Distance) → IsSignature ts → IsReading w (read e) → admission_of ts (read e) ≡ accepted t r
     → (X Y : Dataset) → IsDataset ts X → IsDataset ts Y → (y z : ℤ) → HasValue ts X w y → HasValue ts Y w z
     → Fin (gap y z) 1 ⊑ mul r (Fin (apart X Y) 1)
 

@@ -1,5 +1,5 @@
 pub mod Reading
-pub mod Judgement
+pub mod Admission
 pub mod Query
 pub mod Program
 pub mod Noise

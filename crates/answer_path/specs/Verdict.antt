@@ -14,7 +14,7 @@ use Rattle.sha2.specs.Sha256.{sha256}
 use Rattle.fz_frac.specs.Distance.{Fin, Inf}
 use Rattle.fz_ast.specs.Signature.{Signature}
 use Rattle.answer_path.specs.Reading.{Reading, IsReading}
-use Rattle.answer_path.specs.Judgement.{Judgement, refused_for, walks_too_much, accepted, judgement_of}
+use Rattle.answer_path.specs.Admission.{Admission, refused_for, walks_too_much, accepted, admission_of}
 use Rattle.answer_path.specs.Query.{Query}
 
 -- an ask is refused for its program, or by the budget, or is granted a reservation
@@ -39,7 +39,7 @@ verdict_by_money ask (Err fault) = money_refused (money_refusal fault)
 
 -- The budget is asked with the sensitivity of an accepted program. It is finite, so the last case doesn't come. On a program that takes too
 -- many walks there is no verdict: such a line is told that memory ran out, and adds nothing (`WalksAreTold`).
-abbrev pub IsVerdictBy : Entry → (start : ℕ) → List Record → Query → Judgement → Verdict → Type 0
+abbrev pub IsVerdictBy : Entry → (start : ℕ) → List Record → Query → Admission → Verdict → Type 0
 IsVerdictBy entry start records query (refused_for refusal) verdict = verdict ≡ program_refused refusal
 IsVerdictBy entry start records query walks_too_much verdict = ⊥
 IsVerdictBy entry start records query (accepted e (Fin p q)) verdict =
@@ -49,4 +49,4 @@ IsVerdictBy entry start records query (accepted e Inf) verdict = ⊥
 -- First the program is read and checked over the tables of the query's view, then the budget is asked.
 unfoldable pub IsVerdict : Entry → Signature → (start : ℕ) → List Record → Query → Verdict → Type 0
 IsVerdict entry tables start records query verdict =
-    (reading : Reading) × IsReading query.program reading × IsVerdictBy entry start records query (judgement_of tables reading) verdict
+    (reading : Reading) × IsReading query.program reading × IsVerdictBy entry start records query (admission_of tables reading) verdict

@@ -22,12 +22,12 @@ ghost use Rattle.answer_path.specs.Shut.{FailsBy, IsGrantPending, IsSaidOpen, di
 ghost use Rattle.owner_house.specs.Names.{AreNames};
 ghost use Rattle.answer_path.specs.Reading.{read, IsReading};
 ghost use Rattle.answer_path.specs.Turn.{IsTurn, book_refusal, disk_refusal, settled_reply};
-ghost use Rattle.answer_path.specs.Code.{AsksTooManyWalks, IsJudgedIn, IsQueryOf, IsWorth, query_of};
+ghost use Rattle.answer_path.specs.Code.{AsksTooManyWalks, IsAdmittedIn, IsQueryOf, IsWorth, query_of};
 ghost use Rattle.answer_path.specs.Demand.{asks};
 
 use crate::deciding::decide;
 use crate::last_program::LastProgram;
-use crate::program::Judged;
+use crate::program::Admitted;
 use crate::query::Query;
 use budget_core::entry::{Ask, Grant, ReserveFault};
 use budget_ledger::book::{AppendFault, BookFault};
@@ -70,18 +70,18 @@ fn noisy(value: i64, noise: i64) -> i64
 /// How a reservation with this noise is settled: by the program's value on the view's rows, or as lost where memory ran out.
 fn outcome_with(
     alloc: Global,
-    judged: &Judged<'_>,
+    admitted: &Admitted<'_>,
     dataset: &Dataset,
     view: View,
     noise: i64,
 ) -> Outcome
     requires part { HasPart dataset.now.partitions view }
-    requires judged { IsJudgedIn dataset.now view judged.now }
+    requires admitted { IsAdmittedIn dataset.now view admitted.now }
     requires small { unsigned_abs noise < 2 ^ 33 }
-    ensures settled { IsSettledAt (IsWorth dataset.now view (judged.now.checked.term.now)) (Some noise) result }
+    ensures settled { IsSettledAt (IsWorth dataset.now view (admitted.now.checked.term.now)) (Some noise) result }
     ensures fits { (grant : Grant) → HasSmallAnswer (outcome_reply grant result) }
 {
-    match run(alloc, &judged.checked, &judged.plan, dataset.tables(view)) {
+    match run(alloc, &admitted.checked, &admitted.plan, dataset.tables(view)) {
         Ok(value) => Outcome::Answered(noisy(value, noise)),
         Err(_) => Outcome::Lost,
     }
@@ -90,7 +90,7 @@ fn outcome_with(
 /// How an owner's reservation of this number is settled. A number whose draws don't suffice needs no run.
 fn outcome_at<S: Streams>(
     alloc: Global,
-    judged: &Judged<'_>,
+    admitted: &Admitted<'_>,
     dataset: &Dataset,
     streams: &S,
     owner: u32,
@@ -98,16 +98,16 @@ fn outcome_at<S: Streams>(
     number: u32,
 ) -> Outcome
     requires part { HasPart dataset.now.partitions query.now.view }
-    requires judged { IsJudgedIn dataset.now query.now.view judged.now }
+    requires admitted { IsAdmittedIn dataset.now query.now.view admitted.now }
     requires epsilon { IsEpsilon query.now.epsilon }
-    ensures settled { IsSettledAt (IsWorth dataset.now query.now.view (judged.now.checked.term.now))
+    ensures settled { IsSettledAt (IsWorth dataset.now query.now.view (admitted.now.checked.term.now))
         (noise_at query.now.epsilon (S.given streams.now owner number)) result }
     ensures fits { (grant : Grant) → HasSmallAnswer (outcome_reply grant result) }
 {
     let scale = scale_of(query.epsilon);
     let mut words = streams.stream(owner, number);
     match sample(scale.p, scale.q, &mut words) {
-        Ok(noise) => outcome_with(alloc, judged, dataset, query.view, noise),
+        Ok(noise) => outcome_with(alloc, admitted, dataset, query.view, noise),
         Err(_) => Outcome::Exhausted,
     }
 }
@@ -234,14 +234,14 @@ fn settle<'a, R: Wait, D: Disk>(
     }
 }
 
-/// Answers a query whose program, of this SHA-256, is judged: the budget is asked, the noise is drawn, the program is run, and the
+/// Answers a query whose program, of this SHA-256, is admitted: the budget is asked, the noise is drawn, the program is run, and the
 /// reservation is settled. It has the rows, and says nothing that is said before the budget is asked.
-fn answer_judged<'a, R: Wait, D: Disk, S: Streams>(
+fn answer_admitted<'a, R: Wait, D: Disk, S: Streams>(
     rt: &R,
     alloc: Global,
     desk: &Desk<D>,
     pass: &mut Pass<D>,
-    judged: &Judged<'_>,
+    admitted: &Admitted<'_>,
     digest: [u8; 32],
     dataset: &Dataset,
     streams: &S,
@@ -251,8 +251,8 @@ fn answer_judged<'a, R: Wait, D: Disk, S: Streams>(
     requires here { pass.old.lock ≡ desk.now }
     requires query { IsQueryOf pass.old.knows.opened.ledger.entry (query_of query.now) }
     requires part { HasPart dataset.now.partitions query.now.view }
-    requires reads { IsReading query.now.program.now (read (judged.now.checked.term.now)) }
-    requires judged { IsJudgedIn dataset.now query.now.view judged.now }
+    requires reads { IsReading query.now.program.now (read (admitted.now.checked.term.now)) }
+    requires admitted { IsAdmittedIn dataset.now query.now.view admitted.now }
     requires digest { digest ≡ sha256 query.now.program.now }
     ensures turn { (whose : Owner) → IsOwnerOf pass.old.knows.opened.ledger.entry dataset.now whose
         → IsTurn whose (S.given streams.now owner) (query_of query.now) pass.old.knows (replied result) pass.new.knows }
@@ -260,17 +260,17 @@ fn answer_judged<'a, R: Wait, D: Disk, S: Streams>(
     ensures kept { IsKept pass.old pass.new }
     ensures fits { HasSmallAnswer (replied result) }
 {
-    let asking = asking_of(query, digest, fraction_of(judged.checked.sens));
+    let asking = asking_of(query, digest, fraction_of(admitted.checked.sens));
     match desk.reserve(rt, pass, &asking) {
         Err(fault) => Reply::Refused(book_refusal_of(fault)),
         Ok(grant) => {
-            let outcome = outcome_at(alloc, judged, dataset, streams, owner, query, grant.number);
+            let outcome = outcome_at(alloc, admitted, dataset, streams, owner, query, grant.number);
             settle(rt, desk, pass, grant, outcome)
         }
     }
 }
 
-/// Answers a query of the owner of this number: its program is judged without rows, and what that says is told; or else the budget
+/// Answers a query of the owner of this number: its program is admitted without rows, and what that says is told; or else the budget
 /// is asked, the noise is drawn, the program is run on the view's rows, and the reservation is settled.
 /// Out of memory is said before a reservation, and an answer is lost after it.
 pub fn ask<'d, R: Wait, D: Disk, S: Streams>(
@@ -314,18 +314,18 @@ pub fn ask<'d, R: Wait, D: Disk, S: Streams>(
     ensures fits { HasSmallAnswer (replied result) }
 {
     match decide(alloc, last, dataset.sig(query.view), query.program) {
-        Ok(decided) => answer_judged(
+        Ok(decided) => answer_admitted(
             rt,
             alloc,
             desk,
             pass,
-            &decided.judged,
+            &decided.admitted,
             decided.digest,
             dataset,
             streams,
             owner,
             query,
         ),
-        Err(unjudged) => Reply::Refused(unjudged.told()),
+        Err(unadmitted) => Reply::Refused(unadmitted.told()),
     }
 }

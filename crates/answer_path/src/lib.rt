@@ -24,5 +24,5 @@ pub use meeting::meet;
 pub use owner_desk::{Desk, Guarded, Held, Knows, Noted, Pass};
 pub use owner_house::house::House;
 pub use part_views::Dataset;
-pub use program::{Accepted, Judged, check_program, judge, read_program};
+pub use program::{Accepted, Admitted, admit, check_program, read_program};
 pub use query::Query;

@@ -5,7 +5,7 @@ ghost use Rattle.fz_ast.specs.Signature.{Signature};
 ghost use Rattle.wire_lines.specs.Refusal.{refusal_at};
 ghost use Rattle.answer_path.specs.Reading.{read, IsReading};
 ghost use Rattle.owner_house.specs.Names.{AreNames};
-ghost use Rattle.answer_path.specs.Code.{IsAccepted, IsJudged, IsProgramRefusal, IsTermRefusal, IsUnjudged, told_of};
+ghost use Rattle.answer_path.specs.Code.{IsAccepted, IsAdmitted, IsProgramRefusal, IsTermRefusal, IsUnadmitted, told_of};
 
 use crate::refusals::{fault_refusal, lex_refusal, limit_refusal, parse_refusal};
 use fz_ast::{Sig, Term};
@@ -26,26 +26,26 @@ pub struct Accepted {
 
 /// A term that is accepted: what the checker found of it, and the plan of its run.
 #[derive(Drop)]
-pub struct Judged<'a> {
+pub struct Admitted<'a> {
     pub checked: Checked<'a>,
     pub plan: Plan,
 }
 
-/// Why a term or a program isn't judged: it is refused, or memory ran out; or it takes too many walks, which is neither.
+/// Why a term or a program isn't admitted: it is refused, or memory ran out; or it takes too many walks, which is neither.
 #[derive(Clone, Copy)]
-pub enum Unjudged<'a> {
+pub enum Unadmitted<'a> {
     Refused(Refusal<'a>),
     TooManyWalks,
 }
 
-impl<'a> Unjudged<'a> {
+impl<'a> Unadmitted<'a> {
     /// What is told of it: of too many walks the same as of want of memory.
     pub fn told(self) -> Refusal<'a>
         ensures { refusal_at result ≡ told_of self.entry }
     {
         match self {
-            Unjudged::Refused(refusal) => refusal,
-            Unjudged::TooManyWalks => Refusal::NoMemory,
+            Unadmitted::Refused(refusal) => refusal,
+            Unadmitted::TooManyWalks => Refusal::NoMemory,
         }
     }
 }
@@ -74,23 +74,23 @@ pub fn read_program<'s>(alloc: Global, bytes: &[u8]) -> Result<Term, Refusal<'s>
 /// # Errors
 ///
 /// It is ill typed, too sensitive or no number, or goes past a limit of runs; or it takes too many walks; or memory ran out.
-pub(crate) fn judge_apart<'s: 'a, 'a>(
+pub(crate) fn admit_apart<'s: 'a, 'a>(
     alloc: Global,
     sig: &'s Sig,
     term: &'a Term,
-) -> Result<Judged<'a>, Unjudged<'s>>
+) -> Result<Admitted<'a>, Unadmitted<'s>>
     requires { AreNames sig.now }
-    ensures judged { IfOk result (IsJudged sig.now term.now) }
-    ensures unjudged { IfErr result (IsUnjudged sig.now term.now) }
+    ensures admitted { IfOk result (IsAdmitted sig.now term.now) }
+    ensures unadmitted { IfErr result (IsUnadmitted sig.now term.now) }
 {
     let checked = match check(alloc, sig, term) {
         Ok(checked) => checked,
-        Err(fault) => return Err(Unjudged::Refused(fault_refusal(sig, &fault))),
+        Err(fault) => return Err(Unadmitted::Refused(fault_refusal(sig, &fault))),
     };
     match shape(alloc, sig, term) {
-        Ok(plan) => Ok(Judged { checked, plan }),
-        Err(ShapeFault::TooManyWalks) => Err(Unjudged::TooManyWalks),
-        Err(fault) => Err(Unjudged::Refused(limit_refusal(fault))),
+        Ok(plan) => Ok(Admitted { checked, plan }),
+        Err(ShapeFault::TooManyWalks) => Err(Unadmitted::TooManyWalks),
+        Err(fault) => Err(Unadmitted::Refused(limit_refusal(fault))),
     }
 }
 
@@ -98,19 +98,19 @@ pub(crate) fn judge_apart<'s: 'a, 'a>(
 ///
 /// # Errors
 ///
-/// What `judge_apart` says of it.
-pub fn judge<'s: 'a, 'a>(
+/// What `admit_apart` says of it.
+pub fn admit<'s: 'a, 'a>(
     alloc: Global,
     sig: &'s Sig,
     term: &'a Term,
-) -> Result<Judged<'a>, Refusal<'s>>
+) -> Result<Admitted<'a>, Refusal<'s>>
     requires { AreNames sig.now }
-    ensures judged { IfOk result (IsJudged sig.now term.now) }
+    ensures admitted { IfOk result (IsAdmitted sig.now term.now) }
     ensures refused { IfErr result (λ refusal. IsTermRefusal sig.now term.now (refusal_at refusal)) }
 {
-    match judge_apart(alloc, sig, term) {
-        Ok(judged) => Ok(judged),
-        Err(unjudged) => Err(unjudged.told()),
+    match admit_apart(alloc, sig, term) {
+        Ok(admitted) => Ok(admitted),
+        Err(unadmitted) => Err(unadmitted.told()),
     }
 }
 
@@ -118,13 +118,13 @@ pub fn judge<'s: 'a, 'a>(
 ///
 /// # Errors
 ///
-/// What `read_program` or `judge` refuses it for; or memory ran out.
+/// What `read_program` or `admit` refuses it for; or memory ran out.
 pub fn check_program<'s>(alloc: Global, sig: &'s Sig, bytes: &[u8]) -> Result<Accepted, Refusal<'s>>
     requires { AreNames sig.now }
     ensures accepted { IfOk result (IsAccepted sig.now bytes.now) }
     ensures refused { IfErr result (λ refusal. IsProgramRefusal sig.now bytes.now (refusal_at refusal)) }
 {
     let term = read_program(alloc, bytes)?;
-    let sens = judge(alloc, sig, &term)?.checked.sens;
+    let sens = admit(alloc, sig, &term)?.checked.sens;
     Ok(Accepted { term, sens })
 }

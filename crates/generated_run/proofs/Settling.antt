@@ -24,7 +24,7 @@ use Rattle.wire_lines.specs.Reply.{Replied, ended, greeted, refused}
 use Rattle.wire_lines.specs.Request.{request_of}
 use Rattle.session_laws.specs.AnswerPath.Answered.{HasWorthIn, IsSettledAt, IsSettledBy}
 use Rattle.session_laws.specs.AnswerPath.Demand.{asks}
-use Rattle.session_laws.specs.AnswerPath.Judgement.{HasValue}
+use Rattle.session_laws.specs.AnswerPath.Admission.{HasValue}
 use Rattle.session_laws.specs.AnswerPath.Noise.{noise_at}
 use Rattle.session_laws.specs.AnswerPath.Query.{Query}
 use Rattle.session_laws.proofs.AnswerPath.Programs.{one_value}

@@ -7,5 +7,5 @@ mod run;
 
 pub use counting::Tally;
 pub use run::run_generated;
-// The crates above answer their scripts by these, and judge programs.
-pub use script_workers::{Desk, Judged, Passes, answer_script, check_program, judge, read_program};
+// The crates above answer their scripts by these, and admit programs.
+pub use script_workers::{Admitted, Desk, Passes, admit, answer_script, check_program, read_program};

@@ -16,7 +16,7 @@ use Rattle.metric_values.specs.Tables.{Dataset, IsDataset, apart}
 use Rattle.answer_path.specs.OwnerCatalog.Entries.{PartitionEntry}
 use Rattle.answer_path.specs.PartViews.Partitions.{ArePartitions}
 use Rattle.answer_path.specs.PartViews.Views.{signature_in, rows_in}
-use Rattle.answer_path.specs.Judgement.{accepted, judgement_of, HasValue}
+use Rattle.answer_path.specs.Admission.{accepted, admission_of, HasValue}
 use Rattle.answer_path.specs.Reading.{read}
 use Rattle.answer_path.specs.Program.{IsCharged}
 use Rattle.answer_path.proofs.Programs.{accepted_is, same_term}
@@ -44,7 +44,7 @@ charged_lowest tables program p q c =
 pub one_charge : (tables : Signature) (program : List ℕ) (p q r s : ℕ) → IsCharged tables program p q → IsCharged tables program r s → ◌≡◌ {A = ℕ × ℕ} (p, q) (r, s)
 one_charge tables program p q r s c d =
     let same : c.0 ≡ d.0 = same_term program c.0 d.0 c.1 d.1 in
-    let both : accepted c.0 (Fin p q) ≡ accepted d.0 (Fin r s) = sym c.2 ∙ ap (λ (e : Term). judgement_of tables (read e)) same ∙ d.2 in
+    let both : accepted c.0 (Fin p q) ≡ accepted d.0 (Fin r s) = sym c.2 ∙ ap (λ (e : Term). admission_of tables (read e)) same ∙ d.2 in
     let over : p ≡ r = cc (both) in
     let under : q ≡ s = cc (both) in
     λ i. (over i, under i)

@@ -24,7 +24,7 @@ use Rattle.wire_lines.specs.declared.refusal.NumberRefusal.TheVariants.{Exhauste
 use Rattle.sha2.specs.Sha256.{sha256}
 use Rattle.answer_path.specs.OwnerHouse.Owner.{Owner}
 use Rattle.answer_path.specs.Query.{Query}
-use Rattle.answer_path.specs.Judgement.{judgement_of, HasValue}
+use Rattle.answer_path.specs.Admission.{admission_of, HasValue}
 use Rattle.answer_path.specs.Program.{IsCharged}
 use Rattle.answer_path.specs.Noise.{noise_at}
 use Rattle.answer_path.proofs.Programs.{one_value}
@@ -50,7 +50,7 @@ abbrev pub two_rows : Dataset
 two_rows = (NumF (pos 30) ∷ NumF (pos 40) ∷ []) ∷ []
 
 pub size_charged : IsCharged (people ∷ []) size_people 1 1
-unfolding judgement_of depth_limit gcd gcd_in
+unfolding admission_of depth_limit gcd gcd_in
 size_charged = (size_term, size_reads, refl)
 
 pub three_value : HasValue (people ∷ []) three.rows size_people (pos 3)

@@ -25,7 +25,7 @@ use Rattle.answer_path.specs.PartViews.Partitions.{ArePartitions, IsPartitionOf}
 use Rattle.answer_path.specs.PartViews.Views.{signature_in, rows_in}
 use Rattle.sha2.specs.Sha256.{sha256}
 use Rattle.answer_path.specs.ShapeLaw.Walk.{depth_limit}
-use Rattle.answer_path.specs.Judgement.{HasValue, judgement_of}
+use Rattle.answer_path.specs.Admission.{HasValue, admission_of}
 use Rattle.answer_path.specs.OwnerHouse.Owner.{Owner, HasData}
 use Rattle.answer_path.specs.Program.{IsCharged}
 use Rattle.answer_path.specs.Reading.{read, IsReading}
@@ -286,15 +286,15 @@ has_data : HasData (with_keys (2 ∷ 1 ∷ 1 ∷ []))
 has_data = record { tables = tables_signed; rows = rows_typed; partitions = are_partitions; keys = refl }
 
 charged_alone : IsCharged (residents ∷ []) size_people 1 1
-unfolding judgement_of depth_limit gcd gcd_in
+unfolding admission_of depth_limit gcd gcd_in
 charged_alone = (size_term, size_reads, refl)
 
 charged_beside : IsCharged tables size_people 1 1
-unfolding judgement_of depth_limit gcd gcd_in
+unfolding admission_of depth_limit gcd gcd_in
 charged_beside = (size_term, size_reads, refl)
 
 charged_visits : IsReading size_visits (read visits_term) → IsCharged (visits ∷ []) size_visits 1 1
-unfolding judgement_of depth_limit gcd gcd_in
+unfolding admission_of depth_limit gcd gcd_in
 charged_visits reads = (visits_term, reads, refl)
 
 mix_charged : IsReading size_visits (read visits_term)

@@ -19,7 +19,7 @@ use Rattle.budget_core.proofs.Numbers.{outcome_past, outcome_of-append-Reserve, 
 use Rattle.sha2.specs.Sha256.{sha256}
 use Rattle.answer_path.specs.OwnerHouse.Owner.{Owner, signature_of_view, rows_of_view}
 use Rattle.answer_path.specs.Query.{Query}
-use Rattle.answer_path.specs.Judgement.{HasValue}
+use Rattle.answer_path.specs.Admission.{HasValue}
 use Rattle.answer_path.specs.Program.{IsCharged}
 use Rattle.answer_path.specs.Noise.{noise_at}
 use Rattle.answer_path.specs.Answered.{IsSettledAt, IsSettledBy}

@@ -13,19 +13,19 @@ use Rattle.answer_path.specs.OwnerHouse.Owner.{Owner, signature_of_view}
 use Rattle.answer_path.specs.Query.{Query}
 use Rattle.answer_path.specs.Program.{IsCharged}
 use Rattle.answer_path.specs.Reading.{Reading, unlexed, stuck, nested, read, IsReading}
-use Rattle.answer_path.specs.Judgement.{Judgement, refused_for, walks_too_much, accepted, judgement_of}
+use Rattle.answer_path.specs.Admission.{Admission, refused_for, walks_too_much, accepted, admission_of}
 use Rattle.answer_path.specs.Verdict.{granted, ask_for, verdict_by_money, IsVerdictBy, IsVerdict}
 use Rattle.answer_path.proofs.Programs.{accepted_is}
 
 -- a reading that is accepted is of the term that is accepted
-pub accepted_as : (ts : Signature) (reading : Reading) (e : Term) (r : Distance) → judgement_of ts reading ≡ accepted e r → (reading ≡ read e) × (judgement_of ts (read e) ≡ accepted e r)
-unfolding judgement_of
+pub accepted_as : (ts : Signature) (reading : Reading) (e : Term) (r : Distance) → admission_of ts reading ≡ accepted e r → (reading ≡ read e) × (admission_of ts (read e) ≡ accepted e r)
+unfolding admission_of
 accepted_as ts (unlexed place) e r is = absurd (cc (is))
 accepted_as ts (stuck token) e r is = absurd (cc (is))
 accepted_as ts (nested depth) e r is = absurd (cc (is))
 accepted_as ts (read t) e r is =
     let same : e ≡ t = (accepted_is ts t e r is).3 in
-    (ap read (sym same), subst (λ (u : Term). judgement_of ts (read u) ≡ accepted e r) (sym same) is)
+    (ap read (sym same), subst (λ (u : Term). admission_of ts (read u) ≡ accepted e r) (sym same) is)
 
 -- an ask is granted by its sensitivity in its view and the budget
 pub record IsGrantFor (owner : Owner) (start : ℕ) (records : List Record) (query : Query) (asking : Ask) (grant : Grant) : Type 0 where
@@ -45,9 +45,9 @@ money_grants ask asking grant (Err fault) is = absurd (cc (is))
 pub verdict_grants : (owner : Owner) (start : ℕ) (records : List Record) (query : Query) (asking : Ask) (grant : Grant)
     → IsVerdict owner.entry (signature_of_view owner query.view) start records query (granted asking grant) → IsGrantFor owner start records query asking grant
 unfolding IsVerdict
-verdict_grants owner start records query asking grant v = here (judgement_of (signature_of_view owner query.view) v.0) refl v.2
+verdict_grants owner start records query asking grant v = here (admission_of (signature_of_view owner query.view) v.0) refl v.2
   where
-    here : (j : Judgement) → judgement_of (signature_of_view owner query.view) v.0 ≡ j → IsVerdictBy owner.entry start records query j (granted asking grant) → IsGrantFor owner start records query asking grant
+    here : (j : Admission) → admission_of (signature_of_view owner query.view) v.0 ≡ j → IsVerdictBy owner.entry start records query j (granted asking grant) → IsGrantFor owner start records query asking grant
     here (refused_for refusal) was by = absurd (cc (by))
     here walks_too_much was by = absurd by
     here (accepted e Inf) was by = absurd by

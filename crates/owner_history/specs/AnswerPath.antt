@@ -1,7 +1,7 @@
 -- What the crates above read of answer_path, passed on to them.
 
 pub use Rattle.answer_path.specs.Reading
-pub use Rattle.answer_path.specs.Judgement
+pub use Rattle.answer_path.specs.Admission
 pub use Rattle.answer_path.specs.Query
 pub use Rattle.answer_path.specs.Program
 pub use Rattle.answer_path.specs.Noise

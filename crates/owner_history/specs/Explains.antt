@@ -6,7 +6,7 @@ use Rattle.journal_records.specs.declared.records.Reservation.{Reservation}
 use Rattle.journal_records.specs.declared.records.Record.{Record}
 use Rattle.budget_core.specs.Counts.{reservations_of, outcome_of}
 use Rattle.sha2.specs.Sha256.{sha256}
-use Rattle.answer_path.specs.Judgement.{HasValue}
+use Rattle.answer_path.specs.Admission.{HasValue}
 use Rattle.answer_path.specs.OwnerHouse.Owner.{Owner, signature_of_view, rows_of_view}
 use Rattle.answer_path.specs.Program.{IsCharged}
 use Rattle.answer_path.specs.Noise.{noise_at}

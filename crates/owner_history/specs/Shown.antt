@@ -11,7 +11,7 @@ use Rattle.metric_values.specs.Distances.{gap}
 use Rattle.metric_values.specs.Tables.{Dataset}
 use Rattle.answer_path.specs.OwnerCatalog.Entries.{PartitionEntry}
 use Rattle.answer_path.specs.PartViews.Views.{signature_in, rows_in}
-use Rattle.answer_path.specs.Judgement.{HasValue}
+use Rattle.answer_path.specs.Admission.{HasValue}
 
 -- Epsilon times how far a program's value is displaced between two datasets of some tables, where its reservation was
 -- answered; else there is nothing to displace.

@@ -3,8 +3,8 @@
 
 pub mod laws;
 
-// The crates above meet demands by these, and judge programs.
+// The crates above meet demands by these, and admit programs.
 pub use answer_path::{
-    Demand, Desk, Guarded, Held, House, Judged, Knows, LastProgram, Noted, Pass, Query,
-    check_program, judge, meet, read_program,
+    Admitted, Demand, Desk, Guarded, Held, House, Knows, LastProgram, Noted, Pass, Query,
+    admit, check_program, meet, read_program,
 };

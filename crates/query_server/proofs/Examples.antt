@@ -12,8 +12,8 @@ use Rattle.metric_law.specs.Worked.{worked_tables}
 use Rattle.wire_lines.specs.Refusal.{no_token}
 use Rattle.wire_lines.specs.Reply.{reply_text}
 use Rattle.generated_run.specs.AnswerPath.Reading.{IsReading, read, unlexed}
-use Rattle.generated_run.specs.AnswerPath.Judgement.{judgement_of, refused_for}
-use Rattle.generated_run.proofs.AnswerPath.Limits.{seven_walk_too_much, six_are_judged, six_have_a_plan, unweighed}
+use Rattle.generated_run.specs.AnswerPath.Admission.{admission_of, refused_for}
+use Rattle.generated_run.proofs.AnswerPath.Limits.{seven_walk_too_much, six_are_admitted, six_have_a_plan, unweighed}
 use Rattle.generated_run.proofs.AnswerPath.Told.{planned_walks_little, refused_walks_little}
 use Rattle.query_server.specs.Status.{status_code, refused_text, usage_text}
 use Rattle.command_words.specs.Command.{Command, audit, check, gap, init, run}
@@ -173,21 +173,21 @@ gap_takes = (refl, refl, refl)
 nothing_taken : Takes None false false false
 nothing_taken = (refl, refl, refl)
 
--- of the work that is left some is judged, and some isn't
-judged_program : IsForProgram [] (codes "1") (to_check [] (codes "1"))
-judged_program = refl
+-- of the work that is left some has a program to admit, and some has none
+admitted_program : IsForProgram [] (codes "1") (to_check [] (codes "1"))
+admitted_program = refl
 
--- how long the program is that is judged
-length_judged : Option (Signature × List ℕ) → ℕ
-length_judged None = 0
-length_judged (Some judged) = length judged.1
+-- how long the program is that is to be admitted
+length_admitted : Option (Signature × List ℕ) → ℕ
+length_admitted None = 0
+length_admitted (Some admitted) = length admitted.1
 
-judged_other : IsForProgram [] (codes "1") (to_check [] (codes "22")) → ⊥
-unfolding length_judged
-judged_other is = let two : 2 ≡ 1 = ap length_judged is in omega (arith, two)
+admitted_other : IsForProgram [] (codes "1") (to_check [] (codes "22")) → ⊥
+unfolding length_admitted
+admitted_other is = let two : 2 ≡ 1 = ap length_admitted is in omega (arith, two)
 
-judged_none : IsForProgram [] (codes "1") (refused (codes "f")) → ⊥
-judged_none is = cc is
+admitted_none : IsForProgram [] (codes "1") (refused (codes "f")) → ⊥
+admitted_none is = cc is
 
 -- what stays: a count may rise and not fall, a bay has its owners, and files hold what they held
 count_rises : FilesStay (record { held = None; names = []; faults = 1 }) (record { held = None; names = codes "f" ∷ []; faults = 2 })
@@ -217,7 +217,7 @@ faulty_words_need_a_failure text (inr (inr (is, prefix, failed))) = absurd faile
 
 -- a program that begins no token is refused, whatever the datasets are, and nothing else is due
 no_token_refused : (X Y : Dataset) (program : List ℕ) → IsReading program (unlexed 0) → IsGapDue [] X Y program ProgramRefused (codes "no 20 0\n")
-unfolding judgement_of reply_text digits
+unfolding admission_of reply_text digits
 no_token_refused X Y program reads =
     record { reading = unlexed 0; reads = reads; due = (refl, refl); walks = refused_walks_little [] program (no_token 0) (unlexed 0, reads, refl) }
 
@@ -229,8 +229,8 @@ six_maps_accepted : (program : List ℕ) → IsReading program (read (unweighed 
 six_maps_accepted program reads = record {
   reading = read (unweighed 6);
   reads = reads;
-  is_status = sym (ap status_by six_are_judged);
-  is_text = zero_line ∙ sym (ap text_by six_are_judged);
+  is_status = sym (ap status_by six_are_admitted);
+  is_text = zero_line ∙ sym (ap text_by six_are_admitted);
   walks = planned_walks_little worked_tables program (unweighed 6) _ reads six_have_a_plan;
 }
 

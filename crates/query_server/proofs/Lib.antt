@@ -2,7 +2,7 @@ pub mod Prefixes
 pub mod Mirrored
 pub mod Went
 pub mod Enough
-pub mod Judged
+pub mod Admitted
 pub mod WholeViews
 pub mod Bounded
 pub mod Endings

@@ -10,9 +10,9 @@ use Rattle.query_server.specs.Grant.{verdict_on, verdict_status}
 use mathlib.Core.Logic.{◌⊎◌, inl, inr}
 use Rattle.word_streams.specs.Draws.{draws_of}
 use Rattle.generated_run.specs.AnswerPath.Reading.{Reading, IsReading}
-use Rattle.generated_run.specs.AnswerPath.Judgement.{HasTooManyWalks, Judgement, refused_for, walks_too_much, accepted, judgement_of}
+use Rattle.generated_run.specs.AnswerPath.Admission.{HasTooManyWalks, Admission, refused_for, walks_too_much, accepted, admission_of}
 use Rattle.generated_run.proofs.AnswerPath.Readings.{one_reading}
-use Rattle.generated_run.proofs.AnswerPath.Walking.{judged_so}
+use Rattle.generated_run.proofs.AnswerPath.Walking.{admitted_so}
 use Rattle.metric_values.specs.Tables.{Dataset}
 use Rattle.generated_run.specs.SessionCore.Transcript.{Journals}
 use Rattle.command_words.specs.Command.{Command, command_of}
@@ -33,7 +33,7 @@ use Rattle.query_server.specs.Taken.{IsTaken, IsTakenAt}
 use Rattle.query_server.specs.declared.end.Status.{Status}
 use Rattle.query_server.specs.declared.end.Status.TheVariants as code
 use Rattle.catalog_loading.specs.declared.stops.Stop.TheVariants.{Usage, Fault, NoMemory}
-use Rattle.query_server.proofs.Judged.{gap_status}
+use Rattle.query_server.proofs.Admitted.{gap_status}
 use Rattle.query_server.proofs.Contents.{at_held, at_some, at_told, for_contents}
 use Rattle.query_server.proofs.Prefixes.{prefix_empty, prefix_of_prefix, prefix_whole}
 use Rattle.query_server.proofs.Ends.{took_passed}
@@ -93,14 +93,14 @@ finished_at status P fault memory disk (inr (inl is)) = absurd (memory is)
 finished_at status P fault memory disk (inr (inr (inl is))) = absurd (disk is)
 finished_at status P fault memory disk (inr (inr (inr p))) = p
 
-no_verdict : (judgement : Judgement) (status : Status) → (judgement ≡ walks_too_much → ⊥) → status ≡ status_by judgement → (status ≡ code.Done) ⊎ (status ≡ code.ProgramRefused)
+no_verdict : (admission : Admission) (status : Status) → (admission ≡ walks_too_much → ⊥) → status ≡ status_by admission → (status ≡ code.Done) ⊎ (status ≡ code.ProgramRefused)
 no_verdict (refused_for refusal) status little is = inr is
 no_verdict walks_too_much status little is = absurd (little refl)
 no_verdict (accepted e r) status little is = inl is
 
 gap_verdict : (tables : Signature) (X Y : Dataset) (program : List ℕ) (status : Status) (text : List ℕ) → IsGapDue tables X Y program status text → (status ≡ code.Done) ⊎ (status ≡ code.ProgramRefused)
 gap_verdict tables X Y program status text due =
-    no_verdict (judgement_of tables due.reading) status (λ is. due.walks (judged_so tables program due.reading due.reads is)) (gap_status (judgement_of tables due.reading) tables X Y program status text due.due)
+    no_verdict (admission_of tables due.reading) status (λ is. due.walks (admitted_so tables program due.reading due.reads is)) (gap_status (admission_of tables due.reading) tables X Y program status text due.due)
 
 -- the status of a grant that is answered
 verdict_ends : (verdict : Result Left GrantRefusal) (status : Status) → status ≡ verdict_status verdict
@@ -128,7 +128,7 @@ due_status (to_serve workers each loading key) b a script status text (inr (vers
 due_status (to_generate seed asks) b a script status text due = due.0
 due_status (to_grant amount one) b a script status text (inl due) = inr (inr (inr due.is_status))
 due_status (to_grant amount one) b a script status text (inr due) = verdict_ends (verdict_on one due.version due.found amount) status due.is_status
-due_status (to_check tables program) b a script status text due = no_verdict (judgement_of tables due.reading) status (λ is. due.walks (judged_so tables program due.reading due.reads is)) due.is_status
+due_status (to_check tables program) b a script status text due = no_verdict (admission_of tables due.reading) status (λ is. due.walks (admitted_so tables program due.reading due.reads is)) due.is_status
 due_status (to_compare tables X Y program) b a script status text due = gap_verdict tables X Y program status text due
 
 -- the status of what is written, where it is of no failure
@@ -168,25 +168,25 @@ some_same : {A : Type 0} (a b : A) → Some a ≡ Some b → a ≡ b
 some_same a b is = cc
 
 -- a verdict on these tables and this program is by the program's one reading
-judged_by : (over tables : Signature) (other program : List ℕ) (given reading : Reading) (status : Status) → IsForProgram tables program (to_check over other) → IsReading other given
-    → status ≡ status_by (judgement_of over given) → IsReading program reading → status ≡ status_by (judgement_of tables reading)
-judged_by over tables other program given reading status same reads is read =
+admitted_by : (over tables : Signature) (other program : List ℕ) (given reading : Reading) (status : Status) → IsForProgram tables program (to_check over other) → IsReading other given
+    → status ≡ status_by (admission_of over given) → IsReading program reading → status ≡ status_by (admission_of tables reading)
+admitted_by over tables other program given reading status same reads is read =
     let both = some_same {A = Signature × List ℕ} (over, other) (tables, program) same in
     let bytes = ap (λ (p : Signature × List ℕ). p.1) both in
     let one = one_reading program given reading (subst (λ (p : List ℕ). IsReading p given) bytes reads) read in
-    is ∙ ap (λ (p : Signature × List ℕ). status_by (judgement_of p.0 given)) both ∙ ap (λ (r : Reading). status_by (judgement_of tables r)) one
+    is ∙ ap (λ (p : Signature × List ℕ). status_by (admission_of p.0 given)) both ∙ ap (λ (r : Reading). status_by (admission_of tables r)) one
 
 verdict_due : (work : Work) (b a : Shelf) (tables : Signature) (program script : List ℕ) (reading : Reading) (status : Status) (text : List ℕ) → IsForProgram tables program work → IsReading program reading
-    → IsDue work b a script status text → status ≡ status_by (judgement_of tables reading)
-verdict_due (to_check over other) b a tables program script reading status text is reads due = judged_by over tables other program due.reading reading status is due.reads due.is_status reads
+    → IsDue work b a script status text → status ≡ status_by (admission_of tables reading)
+verdict_due (to_check over other) b a tables program script reading status text is reads due = admitted_by over tables other program due.reading reading status is due.reads due.is_status reads
 verdict_due (to_compare over X Y other) b a tables program script reading status text is reads due =
-    judged_by over tables other program due.reading reading status is due.reads (gap_status (judgement_of over due.reading) over X Y other status text due.due) reads
+    admitted_by over tables other program due.reading reading status is due.reads (gap_status (admission_of over due.reading) over X Y other status text due.due) reads
 verdict_due work b a tables program script reading status text is reads due = absurd (cc is)
 
 pub verdict_by : (ending : Work) (b a : Shelf) (tables : Signature) (program script : List ℕ) (reading : Reading) (status : Status) (text : List ℕ) → IsForProgram tables program ending → IsReading program reading
-    → IsWrittenAt ending b a script status text → IfFinished status (status ≡ status_by (judgement_of tables reading))
+    → IsWrittenAt ending b a script status text → IfFinished status (status ≡ status_by (admission_of tables reading))
 verdict_by ending b a tables program script reading status text is reads written =
-    finished_map status (IsDue ending b a script status text) (status ≡ status_by (judgement_of tables reading)) (verdict_due ending b a tables program script reading status text is reads)
+    finished_map status (IsDue ending b a script status text) (status ≡ status_by (admission_of tables reading)) (verdict_due ending b a tables program script reading status text is reads)
     (finished_due ending b a script status text written)
 
 -- to a program that takes too many walks nothing is due, and no disk is named: so memory ran out, or something failed

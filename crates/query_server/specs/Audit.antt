@@ -51,5 +51,5 @@ audit_duty loading key = record {
   may_stop = EachDisk (owners_in loading) (λ _. IsOnlySynced);
   names_disk = IsDiskNamed loading key;
   statuses = λ status. (status ≡ Done) ⊎ (status ≡ JournalRefused);
-  judges = None;
+  admits = None;
 }

@@ -5,7 +5,7 @@ use Rattle.fz_frac.specs.Distance.{Distance}
 use Rattle.wire_lines.specs.Refusal.{by_program}
 use Rattle.wire_lines.specs.Reply.{refused as refused_reply, sensitivity_text, reply_text}
 use Rattle.generated_run.specs.AnswerPath.Reading.{Reading, IsReading}
-use Rattle.generated_run.specs.AnswerPath.Judgement.{HasTooManyWalks, Judgement, refused_for, walks_too_much, accepted, judgement_of}
+use Rattle.generated_run.specs.AnswerPath.Admission.{HasTooManyWalks, Admission, refused_for, walks_too_much, accepted, admission_of}
 use Rattle.outside_bays.specs.Bays.{Same}
 use Rattle.catalog_loading.specs.Steps.{FileStep, ◌>>=◌, done, file_read, from}
 use Rattle.catalog_loading.specs.Loaded.{catalog_read, entry_named, owner_loaded}
@@ -32,12 +32,12 @@ abbrev pub accepted_text : Distance → List ℕ
 accepted_text r = codes "ok " ++ sensitivity_text r ++ codes "\n"
 
 -- the status and the text of what a program comes to
-abbrev pub status_by : Judgement → Status
+abbrev pub status_by : Admission → Status
 status_by (refused_for refusal) = ProgramRefused
 status_by walks_too_much = NoMemory
 status_by (accepted e r) = Done
 
-abbrev pub text_by : Judgement → List ℕ
+abbrev pub text_by : Admission → List ℕ
 text_by (refused_for refusal) = reply_text (refused_reply (by_program refusal))
 text_by walks_too_much = memory_text
 text_by (accepted e r) = accepted_text r
@@ -47,8 +47,8 @@ text_by (accepted e r) = accepted_text r
 pub record IsProgramDue (tables : Signature) (program : List ℕ) (status : Status) (text : List ℕ) : Type 0 where
   pub reading : Reading
   pub reads : IsReading program reading
-  pub is_status : status ≡ status_by (judgement_of tables reading)
-  pub is_text : text ≡ text_by (judgement_of tables reading)
+  pub is_status : status ≡ status_by (admission_of tables reading)
+  pub is_text : text ≡ text_by (admission_of tables reading)
   pub walks : HasTooManyWalks tables program → ⊥
 
 abbrev pub check_duty : (tables : Signature) (program : List ℕ) → Duty
@@ -57,5 +57,5 @@ check_duty tables program = record {
   may_stop = Same;
   names_disk = λ old new text. ⊥;
   statuses = λ status. (status ≡ Done) ⊎ (status ≡ ProgramRefused);
-  judges = Some (tables, program);
+  admits = Some (tables, program);
 }

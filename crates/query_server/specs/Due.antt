@@ -95,7 +95,7 @@ IsDiskLine work = (duty_of work).names_disk
 
 -- this program is to be checked or compared over these tables
 abbrev pub IsForProgram : (tables : Signature) → (program : List ℕ) → Work → Type 0
-IsForProgram tables program work = (duty_of work).judges ≡ Some (tables, program)
+IsForProgram tables program work = (duty_of work).admits ≡ Some (tables, program)
 
 -- Memory ran out, or a disk failed: the line of that.
 abbrev pub IsStopLine : Work → (old new : Shelf) → (status : Status) → (text : List ℕ) → Type 0

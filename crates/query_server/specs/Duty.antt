@@ -38,8 +38,8 @@ pub record Duty : Type 1 where
   pub names_disk : (old new : Shelf) → (text : List ℕ) → Type 0
   -- the statuses that may be due
   pub statuses : Status → Type 0
-  -- the program that is to be judged, and the tables that it may name
-  pub judges : Option (Signature × List ℕ)
+  -- the program that is to be admitted, and the tables that it may name
+  pub admits : Option (Signature × List ℕ)
 
 -- where nothing is left to be done: a line with its status
 abbrev pub line_duty : Status → (line : List ℕ) → Duty
@@ -48,7 +48,7 @@ line_duty its line = record {
   may_stop = Same;
   names_disk = λ old new text. ⊥;
   statuses = λ status. status ≡ its;
-  judges = None;
+  admits = None;
 }
 
 -- What is due where a journal is refused: the first one's line. Nothing is written to any disk.

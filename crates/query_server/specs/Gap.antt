@@ -8,7 +8,7 @@ use Rattle.metric_values.specs.Tables.{Dataset, IsDataset, apart}
 use Rattle.wire_lines.specs.Refusal.{by_program}
 use Rattle.wire_lines.specs.Reply.{refused as refused_reply, sensitivity_text, reply_text}
 use Rattle.generated_run.specs.AnswerPath.Reading.{Reading, IsReading}
-use Rattle.generated_run.specs.AnswerPath.Judgement.{HasTooManyWalks, Judgement, HasValue, refused_for, walks_too_much, accepted, judgement_of}
+use Rattle.generated_run.specs.AnswerPath.Admission.{HasTooManyWalks, Admission, HasValue, refused_for, walks_too_much, accepted, admission_of}
 use Rattle.owner_catalog.specs.Entries.{Catalog, OwnerEntry}
 use Rattle.outside_bays.specs.Bays.{Same}
 use Rattle.catalog_loading.specs.Steps.{FileStep, ◌>>=◌, done, file_read, from}
@@ -64,8 +64,8 @@ gap_text distance r first second =
     ++ codes "\nvalues " ++ signed_decimal first ++ codes " " ++ signed_decimal second
     ++ codes "\ngap " ++ decimal (difference first second) ++ codes "\n"
 
--- what a judgement of the program comes to on two datasets of these tables
-abbrev pub IsGapBy : Judgement → (tables : Signature) → (X Y : Dataset) → (program : List ℕ) → (status : Status) → (text : List ℕ) → Type 0
+-- what an admission of the program comes to on two datasets of these tables
+abbrev pub IsGapBy : Admission → (tables : Signature) → (X Y : Dataset) → (program : List ℕ) → (status : Status) → (text : List ℕ) → Type 0
 IsGapBy (refused_for refusal) tables X Y program status text =
     (status ≡ ProgramRefused) × (text ≡ reply_text (refused_reply (by_program refusal)))
 IsGapBy walks_too_much tables X Y program status text = ⊥
@@ -78,7 +78,7 @@ IsGapBy (accepted e r) tables X Y program status text =
 pub record IsGapDue (tables : Signature) (X Y : Dataset) (program : List ℕ) (status : Status) (text : List ℕ) : Type 0 where
   pub reading : Reading
   pub reads : IsReading program reading
-  pub due : IsGapBy (judgement_of tables reading) tables X Y program status text
+  pub due : IsGapBy (admission_of tables reading) tables X Y program status text
   pub walks : HasTooManyWalks tables program → ⊥
 
 abbrev pub gap_duty : (tables : Signature) (X Y : Dataset) (program : List ℕ) → Duty
@@ -87,7 +87,7 @@ gap_duty tables X Y program = record {
   may_stop = Same;
   names_disk = λ old new text. ⊥;
   statuses = λ status. (status ≡ Done) ⊎ (status ≡ ProgramRefused);
-  judges = Some (tables, program);
+  admits = Some (tables, program);
 }
 
 -- The values of an accepted program differ by at most its sensitivity times how far the datasets are apart.

@@ -26,5 +26,5 @@ gen_duty seed asks = record {
   may_stop = Same;
   names_disk = λ old new text. ⊥;
   statuses = λ status. status ≡ Done;
-  judges = None;
+  admits = None;
 }

@@ -102,5 +102,5 @@ grant_duty one amount = record {
   may_stop = MayStopGrant one amount;
   names_disk = λ old new text. (text ≡ disk_text (its_name one)) × NoOtherRose one.number old new;
   statuses = λ status. (status ≡ code.Done) ⊎ ((status ≡ code.TooLarge) ⊎ ((status ≡ code.JournalFull) ⊎ (status ≡ code.JournalRefused)));
-  judges = None;
+  admits = None;
 }

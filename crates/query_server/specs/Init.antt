@@ -48,5 +48,5 @@ init_duty loading key = record {
   may_stop = MayBeMadeInPart loading key;
   names_disk = IsMakingNamed loading key;
   statuses = λ status. (status ≡ Done) ⊎ (status ≡ JournalRefused);
-  judges = None;
+  admits = None;
 }

@@ -14,7 +14,7 @@ use Rattle.owner_house.specs.Owner.{Owner}
 use Rattle.service_workers.specs.Services.{Door}
 use Rattle.generated_run.specs.AnswerPath.Query.{Query}
 use Rattle.generated_run.specs.AnswerPath.Reading.{Reading, IsReading}
-use Rattle.generated_run.specs.AnswerPath.Judgement.{HasTooManyWalks, judgement_of}
+use Rattle.generated_run.specs.AnswerPath.Admission.{HasTooManyWalks, admission_of}
 use Rattle.owner_house.specs.House.{house_of}
 use Rattle.generated_run.specs.AnswerPath.Demand.{asks}
 use Rattle.generated_run.specs.AnswerPath.Shut.{IsPendingOf}
@@ -79,7 +79,7 @@ abbrev pub VerdictsAreExact : Type 0
 VerdictsAreExact = (words : List (List ℕ)) (before after : Outside) (status : Status) (text : List ℕ) → IsLine words before after status text
     → (held : Contents) (tables : Signature) (program : List ℕ) (reading : Reading) → before.files.held ≡ Some held
     → IsForProgram tables program (work_of words (always held)) → IsReading program reading
-    → IfFinished status (status ≡ status_by (judgement_of tables reading))
+    → IfFinished status (status ≡ status_by (admission_of tables reading))
     × (HasTooManyWalks tables program → (status ≡ NoMemory) ⊎ (status ≡ Fault))
 
 -- Usage comes only where the words are no command, status 1 of a check or a gap alone, 8 of a run, 9 and 10 of a grant, and 4 of a command

@@ -95,5 +95,5 @@ run_duty loading key workers = record {
   may_stop = EachDisk (owners_in loading) (λ _. IsOnlySynced);
   names_disk = IsDiskNamed loading key;
   statuses = λ status. (status ≡ Done) ⊎ ((status ≡ ScriptTooLong) ⊎ (status ≡ JournalRefused));
-  judges = None;
+  admits = None;
 }

@@ -78,5 +78,5 @@ serve_duty loading key workers each = record {
   may_stop = MayStopService loading key workers;
   names_disk = IsDiskNamed loading key;
   statuses = λ status. (status ≡ Done) ⊎ (status ≡ JournalRefused);
-  judges = None;
+  admits = None;
 }

@@ -42,8 +42,8 @@ fn accepted_line(alloc: Global, sens: Sens) -> Result<Vec<u8>, AllocError>
 }
 
 /// What a program comes to over the tables of a dataset.
-#[tactic(auto, using(crate::proofs::Judged::program_accepted))]
-fn judge(alloc: Global, dataset: &Dataset, program: &[u8]) -> Result<End, AllocError>
+#[tactic(auto, using(crate::proofs::Admitted::program_accepted))]
+fn admit(alloc: Global, dataset: &Dataset, program: &[u8]) -> Result<End, AllocError>
     requires { AreNames dataset.now.tables }
     ensures { IfOk result (IsVerdictOn dataset.now.tables program.now) }
 {
@@ -88,6 +88,6 @@ pub(crate) fn check_file<F: Files>(
     ensures cause { IsErrOf result Stop.Fault → HasRisen (F.faults files.old) (F.faults files.new) }
 {
     let candidate = read_candidate(alloc, files, catalog, owner, file)?;
-    let end = judge(alloc, &candidate.dataset, &candidate.program)?;
+    let end = admit(alloc, &candidate.dataset, &candidate.program)?;
     Ok(end)
 }

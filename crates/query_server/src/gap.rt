@@ -6,7 +6,7 @@ ghost use Rattle.fz_frac.specs.Sens.{distance_of};
 ghost use Rattle.metric_law.specs.Means.{Means};
 ghost use Rattle.metric_values.specs.Tables.{apart, rows_of as tables_rows};
 ghost use Rattle.metric_values.specs.Values.{NumV};
-ghost use Rattle.generated_run.specs.AnswerPath.Code.{IsJudged};
+ghost use Rattle.generated_run.specs.AnswerPath.Code.{IsAdmitted};
 ghost use Rattle.owner_house.specs.Names.{AreNames};
 ghost use Rattle.fz_outside.specs.Faults.{HasRisen};
 ghost use Rattle.query_server.specs.Work.{to_compare};
@@ -25,7 +25,7 @@ use catalog_loading::{Stop, find_fitting, find_owner, load_for, open_catalog, re
 use fuzz_eval::run::run;
 use fz_frac::Sens;
 use fz_outside::files::Files;
-use generated_run::{Judged, judge, read_program};
+use generated_run::{Admitted, admit, read_program};
 use owner_books::{put_number, put_sensitivity, put_signed};
 use owner_catalog::Catalog;
 use part_views::Dataset;
@@ -69,11 +69,11 @@ fn comparison_lines(alloc: Global, found: &Comparison) -> Result<Vec<u8>, AllocE
 }
 
 /// The program's value on a dataset of its tables.
-fn value_on(alloc: Global, judged: &Judged<'_>, dataset: &Dataset) -> Result<i64, AllocError>
-    requires { IsJudged dataset.now.tables (judged.now.checked.term.now) judged.now }
-    ensures { IfOk result (λ value. Means (tables_rows dataset.now.tables dataset.now.rows) (judged.now.checked.term.now) (NumV value)) }
+fn value_on(alloc: Global, admitted: &Admitted<'_>, dataset: &Dataset) -> Result<i64, AllocError>
+    requires { IsAdmitted dataset.now.tables (admitted.now.checked.term.now) admitted.now }
+    ensures { IfOk result (λ value. Means (tables_rows dataset.now.tables dataset.now.rows) (admitted.now.checked.term.now) (NumV value)) }
 {
-    match run(alloc, &judged.checked, &judged.plan, rows_of(dataset)) {
+    match run(alloc, &admitted.checked, &admitted.plan, rows_of(dataset)) {
         Ok(value) => Ok(value),
         Err(_) => Err(AllocError),
     }
@@ -82,31 +82,31 @@ fn value_on(alloc: Global, judged: &Judged<'_>, dataset: &Dataset) -> Result<i64
 /// How far two datasets of the same tables are apart, and the program's values on them.
 fn comparison_on(
     alloc: Global,
-    judged: &Judged<'_>,
+    admitted: &Admitted<'_>,
     first: &Dataset,
     second: &Dataset,
 ) -> Result<Comparison, AllocError>
-    requires judged { IsJudged first.now.tables (judged.now.checked.term.now) judged.now }
+    requires admitted { IsAdmitted first.now.tables (admitted.now.checked.term.now) admitted.now }
     requires tables { second.now.tables ≡ first.now.tables }
     ensures distance { IfOk result (λ found. found.distance ≡ apart first.now.rows second.now.rows) }
-    ensures sens { IfOk result (λ found. found.sens ≡ judged.now.checked.sens) }
-    ensures first { IfOk result (λ found. Means (tables_rows first.now.tables first.now.rows) (judged.now.checked.term.now) (NumV found.first)) }
-    ensures second { IfOk result (λ found. Means (tables_rows first.now.tables second.now.rows) (judged.now.checked.term.now) (NumV found.second)) }
+    ensures sens { IfOk result (λ found. found.sens ≡ admitted.now.checked.sens) }
+    ensures first { IfOk result (λ found. Means (tables_rows first.now.tables first.now.rows) (admitted.now.checked.term.now) (NumV found.first)) }
+    ensures second { IfOk result (λ found. Means (tables_rows first.now.tables second.now.rows) (admitted.now.checked.term.now) (NumV found.second)) }
 {
     let Ok(distance) = tables_apart(alloc, rows_of(first), rows_of(second)) else {
         return Err(AllocError);
     };
-    let first_value = value_on(alloc, judged, first)?;
-    let second_value = value_on(alloc, judged, second)?;
+    let first_value = value_on(alloc, admitted, first)?;
+    let second_value = value_on(alloc, admitted, second)?;
     Ok(Comparison {
         distance,
-        sens: judged.checked.sens,
+        sens: admitted.checked.sens,
         first: first_value,
         second: second_value,
     })
 }
 
-/// Compares a program on two datasets of the same tables: it is read and judged first.
+/// Compares a program on two datasets of the same tables: it is read and admitted first.
 fn compare(
     alloc: Global,
     first: &Dataset,
@@ -121,11 +121,11 @@ fn compare(
         Ok(term) => term,
         Err(refusal) => return refuse(alloc, &refusal),
     };
-    let judged = match judge(alloc, tables_of(first), &term) {
-        Ok(judged) => judged,
+    let admitted = match admit(alloc, tables_of(first), &term) {
+        Ok(admitted) => admitted,
         Err(refusal) => return refuse(alloc, &refusal),
     };
-    let comparison = comparison_on(alloc, &judged, first, second)?;
+    let comparison = comparison_on(alloc, &admitted, first, second)?;
     Ok(End::Done(comparison_lines(alloc, &comparison)?))
 }
 

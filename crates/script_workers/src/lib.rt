@@ -14,4 +14,4 @@ pub use answer::answer_script;
 // The crates above hold their passes by these, too.
 pub use session_core::passes::{Bundle, Passes, Token};
 pub use session_core::server::Server;
-pub use session_core::{Desk, Judged, check_program, judge, read_program};
+pub use session_core::{Admitted, Desk, admit, check_program, read_program};

@@ -30,7 +30,7 @@ use Rattle.owner_history.specs.AnswerPath.Query.{Query}
 use Rattle.owner_history.specs.AnswerPath.Demand.{Demand, asks, recalls, balances, spends}
 use Rattle.owner_history.specs.AnswerPath.Reading.{Reading, IsReading}
 use Rattle.owner_history.specs.AnswerPath.Code.{AsksTooManyWalks}
-use Rattle.owner_history.specs.AnswerPath.Judgement.{HasTooManyWalks, Judgement, refused_for, walks_too_much, accepted, judgement_of}
+use Rattle.owner_history.specs.AnswerPath.Admission.{HasTooManyWalks, Admission, refused_for, walks_too_much, accepted, admission_of}
 use Rattle.owner_history.specs.AnswerPath.Program.{IsCharged}
 use Rattle.owner_history.specs.AnswerPath.Noise.{noise_at}
 use Rattle.owner_history.specs.AnswerPath.Verdict.{Verdict, program_refused, money_refused, granted, money_refusal, ask_for, verdict_by_money, IsVerdictBy, IsVerdict}
@@ -44,7 +44,7 @@ use Rattle.owner_history.proofs.AnswerPath.Readings.{one_reading}
 use Rattle.owner_history.proofs.AnswerPath.Programs.{one_value}
 use Rattle.owner_history.proofs.AnswerPath.Charged.{charged_have_values, accepted_finite}
 use Rattle.owner_history.proofs.AnswerPath.Existing.{every_reading}
-use Rattle.owner_history.proofs.AnswerPath.Walking.{judged_so, no_verdict}
+use Rattle.owner_history.proofs.AnswerPath.Walking.{admitted_so, no_verdict}
 use Rattle.owner_history.specs.Granted.{IsRecallBorneOut}
 use Rattle.owner_history.proofs.Prefixes.{prefix_self, prefix_by, prefix_trans, prefix_length}
 use Rattle.owner_history.proofs.Recalls.{recall_borne}
@@ -245,18 +245,18 @@ demand_closes one owner draws start balances seen after x before now met (stays,
 demand_closes one owner draws start (spends analyst) seen after x before now met (stays, same) own own_now = closing_once now.failure before.failure (sym own_now ∙ same ∙ own)
 
 -- there is one verdict
-judged_once : (entry : Entry) (start : ℕ) (records : List Record) (query : Query) (j : Judgement) (v w : Verdict) → IsVerdictBy entry start records query j v → IsVerdictBy entry start records query j w → v ≡ w
-judged_once entry start records query (refused_for refusal) v w f g = f ∙ sym g
-judged_once entry start records query (accepted e (Fin p q)) v w f g = f ∙ sym g
-judged_once entry start records query walks_too_much v w f g = absurd f
-judged_once entry start records query (accepted e Inf) v w f g = absurd f
+admitted_once : (entry : Entry) (start : ℕ) (records : List Record) (query : Query) (j : Admission) (v w : Verdict) → IsVerdictBy entry start records query j v → IsVerdictBy entry start records query j w → v ≡ w
+admitted_once entry start records query (refused_for refusal) v w f g = f ∙ sym g
+admitted_once entry start records query (accepted e (Fin p q)) v w f g = f ∙ sym g
+admitted_once entry start records query walks_too_much v w f g = absurd f
+admitted_once entry start records query (accepted e Inf) v w f g = absurd f
 
 verdict_once : (entry : Entry) (tables : Signature) (start : ℕ) (records : List Record) (query : Query) (v w : Verdict) → IsVerdict entry tables start records query v → IsVerdict entry tables start records query w → v ≡ w
 unfolding IsVerdict
 verdict_once entry tables start records query v w f g =
     let reads : f.0 ≡ g.0 = one_reading query.program f.0 g.0 f.1 g.1 in
-    judged_once entry start records query (judgement_of tables f.0) v w f.2
-    (subst (λ (r : Reading). IsVerdictBy entry start records query (judgement_of tables r) w) (sym reads) g.2)
+    admitted_once entry start records query (admission_of tables f.0) v w f.2
+    (subst (λ (r : Reading). IsVerdictBy entry start records query (admission_of tables r) w) (sym reads) g.2)
 
 -- a reservation is settled in one way, where its answer isn't lost
 settled_once : (HasWorth : ℤ → Type 0) (noise : Option ℤ) (o u : Outcome) → ((y z : ℤ) → HasWorth y → HasWorth z → y ≡ z) → (o ≡ Lost → ⊥) → (u ≡ Lost → ⊥)
@@ -356,29 +356,29 @@ module _ (owner : Owner) (draws : ℕ → ℕ → ℕ) (start : ℕ) (records : 
         had = made.had;
       }
 
-  by_judgement : (reading : Reading) → IsReading query.program reading → (j : Judgement) → judgement_of (signature_of_view owner query.view) reading ≡ j → IsAnswer owner draws start records query
+  by_admission : (reading : Reading) → IsReading query.program reading → (j : Admission) → admission_of (signature_of_view owner query.view) reading ≡ j → IsAnswer owner draws start records query
   unfolding IsAnswered IsVerdict
-  by_judgement reading reads (refused_for refusal) is = record {
+  by_admission reading reads (refused_for refusal) is = record {
     reply = refused (by_program refusal);
     added = [];
-    answered = inl (program_refused refusal, (reading, reads, subst (λ (j : Judgement). IsVerdictBy owner.entry start records query j (program_refused refusal)) (sym is) refl), (refl, refl));
+    answered = inl (program_refused refusal, (reading, reads, subst (λ (j : Admission). IsVerdictBy owner.entry start records query j (program_refused refusal)) (sym is) refl), (refl, refl));
     had = tt;
   }
-  by_judgement reading reads walks_too_much is = record {
+  by_admission reading reads walks_too_much is = record {
     reply = refused no_memory;
     added = [];
     answered = inr (refl, refl);
-    had = judged_so (signature_of_view owner query.view) query.program reading reads is;
+    had = admitted_so (signature_of_view owner query.view) query.program reading reads is;
   }
-  by_judgement reading reads (accepted e Inf) is =
+  by_admission reading reads (accepted e Inf) is =
       let a = accepted_as (signature_of_view owner query.view) reading e Inf is in
-      let bounded = accepted_finite (signature_of_view owner query.view) query.program e Inf (subst (λ (r : Reading). IsReading query.program r) a.0 reads) (ap (judgement_of (signature_of_view owner query.view)) (sym a.0) ∙ is) in
+      let bounded = accepted_finite (signature_of_view owner query.view) query.program e Inf (subst (λ (r : Reading). IsReading query.program r) a.0 reads) (ap (admission_of (signature_of_view owner query.view)) (sym a.0) ∙ is) in
       absurd (cc (bounded))
-  by_judgement reading reads (accepted e (Fin p q)) is =
+  by_admission reading reads (accepted e (Fin p q)) is =
       let a = accepted_as (signature_of_view owner query.view) reading e (Fin p q) is in
       let charged : IsCharged (signature_of_view owner query.view) query.program p q = (e, subst (λ (r : Reading). IsReading query.program r) a.0 reads, a.1) in
       by_money_verdict p q (money_verdict owner.entry start records (ask_for query p q)) refl charged
-      (λ v same. (reading, reads, subst (λ (j : Judgement). IsVerdictBy owner.entry start records query j v) (sym is) same))
+      (λ v same. (reading, reads, subst (λ (j : Admission). IsVerdictBy owner.entry start records query j v) (sym is) same))
 
 -- a reply and what it adds, where nothing fails
 pub record CanBeMet (n : ℕ) (owner : Owner) (draws : ℕ → ℕ → ℕ) (start : ℕ) (demand : Demand) (seen : List Record) : Type 0 where
@@ -401,7 +401,7 @@ pub met_exists : (n : ℕ) (owner : Owner) (draws : ℕ → ℕ → ℕ) (start 
 unfolding IsMetExactly
 met_exists n owner draws start (asks query) seen has =
     let r = every_reading query.program in
-    let a = by_judgement owner draws start seen query has r.0 r.1 (judgement_of (signature_of_view owner query.view) r.0) refl in
+    let a = by_admission owner draws start seen query has r.0 r.1 (admission_of (signature_of_view owner query.view) r.0) refl in
     record { reply = a.reply; told = enumerate_from (length seen) a.added; added = a.added; meets = (a.added, a.answered, refl, refl); had = a.had }
 met_exists n owner draws start (recalls analyst number) seen has =
     let r : Recall = recalled_from start seen number analyst in

@@ -36,7 +36,7 @@ use Rattle.owner_history.specs.PartViews.Views.{signature_in, rows_in}
 use Rattle.owner_history.specs.OwnerHouse.Owner.{Owner, signature_of_view}
 use Rattle.owner_history.specs.AnswerPath.Met.{IsMet, IsMetExactly}
 use Rattle.owner_history.specs.AnswerPath.Query.{Query}
-use Rattle.owner_history.specs.AnswerPath.Judgement.{judgement_of, HasValue}
+use Rattle.owner_history.specs.AnswerPath.Admission.{admission_of, HasValue}
 use Rattle.owner_history.specs.AnswerPath.Program.{IsCharged}
 use Rattle.owner_history.specs.AnswerPath.Noise.{noise_at}
 use Rattle.owner_history.specs.AnswerPath.Verdict.{program_refused, money_refused, granted, ask_for, IsVerdict}
@@ -101,9 +101,9 @@ abbrev pub only : List Record → Journals
 only records zero = records
 only records (suc o) = []
 
--- the program is judged by the rules, and its value is how many rows there are
+-- the program is admitted by the rules, and its value is how many rows there are
 pub size_asked : IsCharged (people ∷ []) size_people 1 1
-unfolding judgement_of gcd gcd_in depth_limit
+unfolding admission_of gcd gcd_in depth_limit
 size_asked = (size_term, size_reads, refl)
 
 pub three_value : HasValue (people ∷ []) (ages_held (pos 20 ∷ pos 30 ∷ pos 40 ∷ [])).rows size_people (pos 3)

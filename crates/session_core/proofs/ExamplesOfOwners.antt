@@ -28,7 +28,7 @@ use Rattle.owner_history.specs.PartViews.Partitions.{ArePartitions}
 use Rattle.owner_history.specs.PartViews.Views.{signature_in, rows_in}
 use Rattle.owner_history.specs.OwnerHouse.Owner.{Owner}
 use Rattle.owner_history.specs.AnswerPath.Met.{IsMetExactly}
-use Rattle.owner_history.specs.AnswerPath.Judgement.{judgement_of, HasValue}
+use Rattle.owner_history.specs.AnswerPath.Admission.{admission_of, HasValue}
 use Rattle.owner_history.specs.AnswerPath.Program.{IsCharged}
 use Rattle.owner_history.specs.AnswerPath.Noise.{noise_at}
 use Rattle.owner_history.specs.AnswerPath.Verdict.{money_refused}
@@ -210,7 +210,7 @@ clinic_value = (size_term, size_reads, (2, (NumF (pos 20) ∷ NumF (pos 30) ∷ 
 
 -- the school's `people`, of its two tables
 school_asked : IsCharged school.tables size_people 1 1
-unfolding judgement_of gcd gcd_in depth_limit
+unfolding admission_of gcd gcd_in depth_limit
 school_asked = (size_term, size_reads, refl)
 
 school_value : HasValue school.tables school.rows size_people (pos 2)

@@ -29,7 +29,7 @@ use Rattle.sha2.specs.Sha256.{sha256}
 use Rattle.owner_history.specs.OwnerHouse.Owner.{Owner}
 use Rattle.owner_history.specs.AnswerPath.Met.{IsMetExactly}
 use Rattle.owner_history.specs.AnswerPath.Query.{Query}
-use Rattle.owner_history.specs.AnswerPath.Judgement.{judgement_of, HasValue}
+use Rattle.owner_history.specs.AnswerPath.Admission.{admission_of, HasValue}
 use Rattle.owner_history.specs.AnswerPath.Program.{IsCharged}
 use Rattle.owner_history.specs.AnswerPath.Noise.{noise_at}
 use Rattle.owner_history.specs.AnswerPath.Verdict.{money_refused}
@@ -201,9 +201,9 @@ exchanges a b c =
 abbrev replies : (a b c : Option ℤ) → List Replied
 replies a b c = map (λ (x : Exchange). x.reply) (exchanges a b c)
 
--- the program is judged over the table that is divided, and counts the rows of its part
+-- the program is admitted over the table that is divided, and counts the rows of its part
 size_asked : IsCharged (townsfolk ∷ []) size_people 1 1
-unfolding judgement_of gcd gcd_in depth_limit
+unfolding admission_of gcd gcd_in depth_limit
 size_asked = (size_term, size_reads, refl)
 
 value_of_a : HasWorthIn clinic (part 0 0 6) (pos 2)

@@ -8,7 +8,7 @@ pub mod passes;
 pub mod script;
 pub mod server;
 
-// The crates above hold an owner's desk and the last program by these, and judge programs.
+// The crates above hold an owner's desk and the last program by these, and admit programs.
 pub use owner_history::{
-    Desk, House, Judged, Knows, LastProgram, check_program, judge, read_program,
+    Admitted, Desk, House, Knows, LastProgram, admit, check_program, read_program,
 };

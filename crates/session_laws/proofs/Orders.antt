@@ -30,7 +30,7 @@ use Rattle.wire_lines.specs.declared.refusal.MoneyRefusal.{MoneyRefusal}
 use Rattle.wire_lines.specs.declared.refusal.MoneyRefusal.TheVariants.{OverBudget, JournalFull, OverShare}
 use Rattle.session_core.specs.OwnerHouse.Owner.{signature_of_view}
 use Rattle.session_core.specs.OwnerHouse.House.{House, owner_named, partition_named, partition_at, key_named}
-use Rattle.session_core.specs.AnswerPath.Judgement.{Judgement, refused_for, walks_too_much, accepted, judgement_of, judged_by, shaped_by, fault_refusal, shape_refusal}
+use Rattle.session_core.specs.AnswerPath.Admission.{Admission, refused_for, walks_too_much, accepted, admission_of, admitted_by, shaped_by, fault_refusal, shape_refusal}
 use Rattle.session_core.specs.AnswerPath.Query.{Query}
 use Rattle.session_core.specs.AnswerPath.Reading.{Reading, unlexed, stuck, nested, read, IsReading}
 use Rattle.session_core.specs.AnswerPath.Verdict.{Verdict, program_refused, money_refused, granted, ask_for, verdict_by_money, IsVerdictBy, IsVerdict}
@@ -56,7 +56,7 @@ money_high refusal = grind arith
 
 charged_once : (tables : Signature) (program : List ℕ) (p q x y : ℕ) → IsCharged tables program p q → IsCharged tables program x y → Fin p q ≡ Fin x y
 charged_once tables program p q x y c d =
-    let both : accepted c.0 (Fin p q) ≡ accepted d.0 (Fin x y) = sym c.2 ∙ ap (judgement_of tables) (one_reading program (read c.0) (read d.0) c.1 d.1) ∙ d.2 in
+    let both : accepted c.0 (Fin p q) ≡ accepted d.0 (Fin x y) = sym c.2 ∙ ap (admission_of tables) (one_reading program (read c.0) (read d.0) c.1 d.1) ∙ d.2 in
     cc (both)
 
 -- ---- an analyst's limit, where there is one
@@ -152,36 +152,36 @@ of_term question subject looks_at t reads refusal (inr (s, u, at, other, of)) =
     subst (λ (v : Subject). RefusesTerm (signature_of_view v.owner v.view) t refusal) subjects
     (subst (λ (v : Term). RefusesTerm (signature_of_view s.owner s.view) v refusal) terms of)
 
--- What a term's judgement refuses it for is such a refusal, and the least; an accepted term has none.
-abbrev IsJudged : (tables : Signature) → Term → Judgement → Type 0
-IsJudged tables t (refused_for refusal) =
+-- What a term's admission refuses it for is such a refusal, and the least; an accepted term has none.
+abbrev IsAdmitted : (tables : Signature) → Term → Admission → Type 0
+IsAdmitted tables t (refused_for refusal) =
     RefusesTerm tables t refusal × ((other : ProgramRefusal) → RefusesTerm tables t other → program_code refusal ≤ program_code other)
-IsJudged tables t (accepted e r) = (other : ProgramRefusal) → RefusesTerm tables t other → ⊥
-IsJudged tables t walks_too_much = (other : ProgramRefusal) → RefusesTerm tables t other → ⊥
+IsAdmitted tables t (accepted e r) = (other : ProgramRefusal) → RefusesTerm tables t other → ⊥
+IsAdmitted tables t walks_too_much = (other : ProgramRefusal) → RefusesTerm tables t other → ⊥
 
 module _ (tables : Signature) (t : Term) where
-  judged_shape : (D : _) (r : Distance) → sensitivity_of tables t ≡ Accepted D r → (o : WalkOutcome) → shape tables t ≡ o
-      → IsJudged tables t (shaped_by t (lowest r) o)
-  judged_shape D r typed (Shaped s k) shaped = here
+  admitted_shape : (D : _) (r : Distance) → sensitivity_of tables t ≡ Accepted D r → (o : WalkOutcome) → shape tables t ≡ o
+      → IsAdmitted tables t (shaped_by t (lowest r) o)
+  admitted_shape D r typed (Shaped s k) shaped = here
     where
       here : (other : ProgramRefusal) → RefusesTerm tables t other → ⊥
       here other (inl (fault, faulty, same)) = cc (faulty, typed)
       here other (inr (fault, stops, same)) = cc (stops, shaped)
-  judged_shape D r typed TooManyWalks shaped = here
+  admitted_shape D r typed TooManyWalks shaped = here
     where
       here : (other : ProgramRefusal) → RefusesTerm tables t other → ⊥
       here other (inl (fault, faulty, same)) = cc (faulty, typed)
       here other (inr (fault, stops, same)) = cc (stops, shaped)
-  judged_shape D r typed (Stops fault) shaped = (inr (fault, shaped, refl), here)
+  admitted_shape D r typed (Stops fault) shaped = (inr (fault, shaped, refl), here)
     where
       here : (other : ProgramRefusal) → RefusesTerm tables t other → program_code (shape_refusal fault) ≤ program_code other
       here other (inl (f, faulty, same)) = absurd (cc (faulty, typed))
       here other (inr (f, stops, same)) =
           let one : f ≡ fault = cc (stops, shaped) in omega (arith, ap program_code same, ap (λ (g : ShapeFault). program_code (shape_refusal g)) one)
 
-  judged_term : (a : Acceptance) → sensitivity_of tables t ≡ a → IsJudged tables t (judged_by tables t a)
-  judged_term (Accepted D r) typed = judged_shape D r typed (shape tables t) refl
-  judged_term (Faulty fault) typed = (inl (fault, typed, refl), here)
+  admitted_term : (a : Acceptance) → sensitivity_of tables t ≡ a → IsAdmitted tables t (admitted_by tables t a)
+  admitted_term (Accepted D r) typed = admitted_shape D r typed (shape tables t) refl
+  admitted_term (Faulty fault) typed = (inl (fault, typed, refl), here)
     where
       here : (other : ProgramRefusal) → RefusesTerm tables t other → program_code (fault_refusal fault) ≤ program_code other
       here other (inl (f, faulty, same)) =
@@ -372,24 +372,24 @@ module _ (start : ℕ → ℕ) (records : ℕ → List Record) where
           never (OverShare spent after limit seen) of = within_limit (limit_of entry analyst) (spent_with entry g the_ask) limit beyond_is of.0 of.1
 
     -- what the verdict on the query is, by what its bytes come to
-    abbrev TheVerdict : Judgement → Verdict → Type 0
+    abbrev TheVerdict : Admission → Verdict → Type 0
     TheVerdict j verdict = IsVerdictBy entry (start subject.number) g the_query j verdict
 
-    term_first : (t : Term) → IsReading program (read t) → (j : Judgement) → judgement_of tables (read t) ≡ j → IsJudged tables t j → (v : Verdict)
+    term_first : (t : Term) → IsReading program (read t) → (j : Admission) → admission_of tables (read t) ≡ j → IsAdmitted tables t j → (v : Verdict)
         → TheVerdict j v → First v
-    term_first t reads (refused_for refusal) judged (could, least) v is =
+    term_first t reads (refused_for refusal) admitted (could, least) v is =
         subst First (sym is) (program_first refusal (inr (subject, t, refl, reads, could))
         (λ other of. least other (of_term the_question subject refl t reads other of)))
-    term_first t reads walks_too_much judged none v is = absurd is
-    term_first t reads (accepted u Inf) judged none v is = absurd is
-    term_first t reads (accepted u (Fin p q)) judged none v is =
-        let a = accepted_as tables (read t) u (Fin p q) judged in
+    term_first t reads walks_too_much admitted none v is = absurd is
+    term_first t reads (accepted u Inf) admitted none v is = absurd is
+    term_first t reads (accepted u (Fin p q)) admitted none v is =
+        let a = accepted_as tables (read t) u (Fin p q) admitted in
         subst First (sym is)
         (money_first p q (u, subst (λ (r : Reading). IsReading program r) a.0 reads, a.1)
         (λ r of. none r (of_term the_question subject refl t reads r of)) _ _ _ refl refl refl)
 
-    verdict_first : (reading : Reading) → IsReading program reading → (v : Verdict) → TheVerdict (judgement_of tables reading) v → First v
-    unfolding judgement_of
+    verdict_first : (reading : Reading) → IsReading program reading → (v : Verdict) → TheVerdict (admission_of tables reading) v → First v
+    unfolding admission_of
     verdict_first (unlexed place) reads v is =
         subst First (sym is) (program_first (no_token place) (inl (inl (place, reads, refl))) (reading_least the_question (unlexed place) reads))
     verdict_first (stuck token) reads v is =
@@ -397,7 +397,7 @@ module _ (start : ℕ → ℕ) (records : ℕ → List Record) where
     verdict_first (nested depth) reads v is =
         subst First (sym is) (program_first (too_nested depth) (inl (inr (inr (depth, reads, refl)))) (reading_least the_question (nested depth) reads))
     verdict_first (read t) reads v is =
-        term_first t reads (judged_by tables t (sensitivity_of tables t)) refl (judged_term tables t (sensitivity_of tables t) refl) v is
+        term_first t reads (admitted_by tables t (sensitivity_of tables t)) refl (admitted_term tables t (sensitivity_of tables t) refl) v is
 
   -- the verdict is that on what a line comes to
   abbrev IsVerdictOf : Meant → Verdict → Type 0

@@ -23,7 +23,7 @@ use Rattle.wire_lines.specs.declared.refusal.MoneyRefusal.{MoneyRefusal}
 use Rattle.wire_lines.specs.declared.refusal.MoneyRefusal.TheVariants.{OverBudget, JournalFull, OverShare}
 use Rattle.session_core.specs.OwnerHouse.Owner.{Owner, signature_of_view}
 use Rattle.session_core.specs.OwnerHouse.House.{House}
-use Rattle.session_core.specs.AnswerPath.Judgement.{fault_refusal, shape_refusal}
+use Rattle.session_core.specs.AnswerPath.Admission.{fault_refusal, shape_refusal}
 use Rattle.session_core.specs.AnswerPath.Program.{IsCharged}
 use Rattle.session_core.specs.AnswerPath.Query.{Query}
 use Rattle.session_core.specs.AnswerPath.Reading.{unlexed, stuck, nested, read, IsReading}

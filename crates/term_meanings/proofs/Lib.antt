@@ -9,5 +9,6 @@ pub mod Fine
 pub mod Bags
 pub mod Nearness
 pub mod Closeness
+mod Examples
 mod Meanings
 mod Nearby

@@ -5,7 +5,7 @@ use Rattle.fz_frac.specs.Distance.{Fin}
 use Rattle.fz_frac.specs.Lowest.{gcd, gcd_in}
 use Rattle.shape_law.specs.Walk.{depth_limit}
 use Rattle.query_server.specs.AnswerPath.Reading.{read}
-use Rattle.query_server.specs.AnswerPath.Judgement.{accepted, judgement_of, HasValue}
+use Rattle.query_server.specs.AnswerPath.Admission.{accepted, admission_of, HasValue}
 use Rattle.query_server.proofs.AnswerPath.Programs.{one_value}
 use Rattle.query_server.proofs.AnswerPath.SizePeople.{size_people, size_term, size_reads}
 use Rattle.fz_ast.specs.Signature.{Signature}
@@ -20,9 +20,9 @@ abbrev pub dataset : Dataset
 dataset = rows ∷ []
 
 -- it is accepted at 1, and its run without data is within the limits
-pub judgement : judgement_of tables (read size_term) ≡ accepted size_term (Fin 1 1)
-unfolding judgement_of gcd gcd_in depth_limit
-judgement = refl
+pub admission : admission_of tables (read size_term) ≡ accepted size_term (Fin 1 1)
+unfolding admission_of gcd gcd_in depth_limit
+admission = refl
 
 -- it means how many rows there are ..
 is_three : HasValue tables dataset size_people (pos 3)

@@ -24,7 +24,7 @@ use Rattle.wire_lines.specs.Request.{request_of}
 use Rattle.wire_lines.specs.declared.refusal.NumberRefusal.TheVariants.{Lost as NoAnswer}
 use Rattle.wire_lines.specs.Reply.{Replied, greeted, answered, ended, refused, reply_text}
 use Rattle.query_server.specs.AnswerPath.Reading.{Reading, read}
-use Rattle.query_server.specs.AnswerPath.Judgement.{Judgement, accepted, judgement_of}
+use Rattle.query_server.specs.AnswerPath.Admission.{Admission, accepted, admission_of}
 use Rattle.owner_house.specs.Owner.{Owner, signature_of_view}
 use Rattle.query_server.specs.AnswerPath.Query.{Query}
 use Rattle.query_server.specs.AnswerPath.Noise.{noise_at}
@@ -51,7 +51,7 @@ use Rattle.word_streams.specs.Draws.{draws_of}
 use Rattle.worked_row.specs.Row.{script, row, row_without, row_lost, row_failed, IsRowText}
 use Rattle.worked_row.specs.Held.{catalog, census, loaded_owner, loading, zeros}
 use Rattle.worked_row.proofs.RowDraws.{noise_is_two}
-use Rattle.worked_row.proofs.RowProgram.{judgement, size_is_three, tables}
+use Rattle.worked_row.proofs.RowProgram.{admission, size_is_three, tables}
 
 abbrev pub house : House
 house = house_of loading.register
@@ -94,10 +94,10 @@ unfolding request_of meant_by
 third_meant = refl
 
 -- the verdict, whose program has one reading
-granted_by : (found : Reading) (verdict : Verdict) → found ≡ read size_term → IsVerdictBy owner.entry 0 [] query (judgement_of tables found) verdict → verdict ≡ granted asking grant
+granted_by : (found : Reading) (verdict : Verdict) → found ≡ read size_term → IsVerdictBy owner.entry 0 [] query (admission_of tables found) verdict → verdict ≡ granted asking grant
 unfolding cost_of cost_of_charges partition_cost budget_of
 granted_by found verdict same is =
-    here (subst (λ (j : Judgement). IsVerdictBy owner.entry 0 [] query j verdict) (ap (λ (r : Reading). judgement_of tables r) same ∙ judgement) is)
+    here (subst (λ (j : Admission). IsVerdictBy owner.entry 0 [] query j verdict) (ap (λ (r : Reading). admission_of tables r) same ∙ admission) is)
   where
     here : IsVerdictBy owner.entry 0 [] query (accepted size_term (Fin 1 1)) verdict → verdict ≡ granted asking grant
     here is = is

@@ -16,7 +16,7 @@ returns-in-Ok-clause-settled g c =
     let drawn = noise_is c.args.query.now.epsilon c.scale_of-scale.result.p c.scale_of-scale.result.q draws _ c.scale_of-scale.ensures.numerator c.scale_of-scale.ensures.denominator c.stream-words.ensures.draws in
     let noise : noise_at c.args.query.now.epsilon draws ≡ Some c.in-Ok.noise = drawn ∙ sym c.sample.ensures.noise ∙ ap result_ok c.in-Ok.is in
     let same : to_z w64 (of_z w64 c.in-Ok.noise) ≡ c.in-Ok.noise = to_z-of_z w64 c.in-Ok.noise (fits_signed_from_abs w64 c.in-Ok.noise (omega (arith, c.in-Ok.ensures.small))) in
-    subst (λ (k : Option ℤ). IsSettledAt (IsWorth dataset c.args.query.now.view (c.args.judged.now.checked.term.now)) k c.outcome_with.result)
+    subst (λ (k : Option ℤ). IsSettledAt (IsWorth dataset c.args.query.now.view (c.args.admitted.now.checked.term.now)) k c.outcome_with.result)
     (ap (λ (z : ℤ). Some z) same ∙ sym noise) c.outcome_with.ensures.settled
 
 pub returns-clause-settled : goal.returns-clause-settled
@@ -25,4 +25,4 @@ returns-clause-settled g c =
     let draws = g.S.Streams.given c.args.streams.now c.args.owner c.args.number in
     let drawn = noise_is c.args.query.now.epsilon c.scale_of-scale.result.p c.scale_of-scale.result.q draws _ c.scale_of-scale.ensures.numerator c.scale_of-scale.ensures.denominator c.stream-words.ensures.draws in
     let none : noise_at c.args.query.now.epsilon draws ≡ None = drawn ∙ sym c.sample.ensures.noise ∙ ap result_ok c.in-Err.is in
-    subst (λ (k : Option ℤ). IsSettledAt (IsWorth dataset c.args.query.now.view (c.args.judged.now.checked.term.now)) k Exhausted) (sym none) refl
+    subst (λ (k : Option ℤ). IsSettledAt (IsWorth dataset c.args.query.now.view (c.args.admitted.now.checked.term.now)) k Exhausted) (sym none) refl

@@ -9,6 +9,6 @@ pub run-requires-clause-dataset : goal.run-requires-clause-dataset
 run-requires-clause-dataset c =
     let held = c.tables.ensures.holding in
     let holding = c.args.dataset.now in
-    subst (λ (X : Dataset). IsDataset (c.args.judged.now.checked.sig.now) X) (sym c.tables.ensures.rows)
-    (subst (λ (ts : Signature). IsDataset ts (rows_in holding.partitions c.args.view holding.rows)) (sym c.requires.judged.checked.sig)
+    subst (λ (X : Dataset). IsDataset (c.args.admitted.now.checked.sig.now) X) (sym c.tables.ensures.rows)
+    (subst (λ (ts : Signature). IsDataset ts (rows_in holding.partitions c.args.view holding.rows)) (sym c.requires.admitted.checked.sig)
     (views_are_datasets holding.tables holding.partitions c.args.view holding.rows held.signature held.partitions held.dataset).1)

@@ -18,5 +18,5 @@ returns-in_err-sens-clause-refused c =
 
 pub returns-clause-accepted : goal.returns-clause-accepted
 returns-clause-accepted c =
-    let judged = c.in_ok-sens.ensures.judged in
-    record { reads = c.in_ok-term.ensures.term; accepts = judged.accepts; planned = (_, judged.planned) }
+    let admitted = c.in_ok-sens.ensures.admitted in
+    record { reads = c.in_ok-term.ensures.term; accepts = admitted.accepts; planned = (_, admitted.planned) }

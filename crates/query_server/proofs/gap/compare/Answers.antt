@@ -6,11 +6,11 @@ use Rattle.metric_law.specs.Means.{Means}
 use Rattle.metric_values.specs.Tables.{apart, rows_of}
 use Rattle.metric_values.specs.Values.{NumV}
 use Rattle.generated_run.specs.AnswerPath.Reading.{read}
-use Rattle.generated_run.specs.AnswerPath.Judgement.{accepted, judgement_of}
-use Rattle.generated_run.specs.AnswerPath.Code.{IsJudged}
-use Rattle.generated_run.proofs.AnswerPath.Told.{judged_walks_little}
+use Rattle.generated_run.specs.AnswerPath.Admission.{accepted, admission_of}
+use Rattle.generated_run.specs.AnswerPath.Code.{IsAdmitted}
+use Rattle.generated_run.proofs.AnswerPath.Told.{admitted_walks_little}
 use Rattle.query_server.specs.Gap.{gap_text}
-use Rattle.query_server.proofs.Judged.{gap_accepted}
+use Rattle.query_server.proofs.Admitted.{gap_accepted}
 use Rattle.query_server.proofs.gap.compare.Goals as goal
 
 pub returns-in-Err : goal.returns-in-Err
@@ -23,13 +23,13 @@ returns c =
     let X = c.args.first.now.rows in
     let Y = c.args.second.now.rows in
     let e = c.in-Ok.term in
-    let judged = c.in-Ok-judge.ensures.judged in
-    let r = distance_of c.in-Ok-judge.judged.checked.sens in
+    let admitted = c.in-Ok-admit.ensures.admitted in
+    let r = distance_of c.in-Ok-admit.admitted.checked.sens in
     let found = c.in_ok-comparison.comparison in
     gap_accepted tables X Y c.args.program.now _ e r found.first found.second c.in-Ok.ensures.term
-    (subst (λ (ts : Signature). judgement_of ts (read e) ≡ accepted e r) c.tables_of.ensures.tables judged.accepts)
-    (judged_walks_little tables c.args.program.now e c.in-Ok-judge.judged c.in-Ok.ensures.term (subst (λ (ts : Signature). IsJudged ts e c.in-Ok-judge.judged) c.tables_of.ensures.tables judged))
-    (subst (λ (d : Term). Means (rows_of tables X) d (NumV found.first)) judged.checked.term c.in_ok-comparison.ensures.first)
-    (subst (λ (d : Term). Means (rows_of tables Y) d (NumV found.second)) judged.checked.term c.in_ok-comparison.ensures.second)
+    (subst (λ (ts : Signature). admission_of ts (read e) ≡ accepted e r) c.tables_of.ensures.tables admitted.accepts)
+    (admitted_walks_little tables c.args.program.now e c.in-Ok-admit.admitted c.in-Ok.ensures.term (subst (λ (ts : Signature). IsAdmitted ts e c.in-Ok-admit.admitted) c.tables_of.ensures.tables admitted))
+    (subst (λ (d : Term). Means (rows_of tables X) d (NumV found.first)) admitted.checked.term c.in_ok-comparison.ensures.first)
+    (subst (λ (d : Term). Means (rows_of tables Y) d (NumV found.second)) admitted.checked.term c.in_ok-comparison.ensures.second)
     (c.in_ok-comparison_lines.ensures ∙ ap (λ distance. gap_text distance (distance_of found.sens) found.first found.second) c.in_ok-comparison.ensures.distance
     ∙ ap (λ sens. gap_text (apart X Y) (distance_of sens) found.first found.second) c.in_ok-comparison.ensures.sens)

@@ -1,7 +1,7 @@
 use Rattle.std.proofs.Common.{◌∙◌, ap}
 use Rattle.wire_lines.specs.Refusal.{refusal_at}
 use Rattle.wire_lines.specs.Reply.{refused, reply_text}
-use Rattle.query_server.proofs.Judged.{gap_refused, is_memory, program_refused, refused_by_program}
+use Rattle.query_server.proofs.Admitted.{gap_refused, is_memory, program_refused, refused_by_program}
 use Rattle.query_server.proofs.programs.refuse.Goals as goal
 
 -- want of memory has gone before

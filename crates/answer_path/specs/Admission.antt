@@ -16,12 +16,12 @@ use Rattle.wire_lines.specs.Refusal.{too_deep, too_long, too_wide}
 use Rattle.wire_lines.specs.declared.refusal.TypeFault.TheVariants.{Unbound as unbound, Mismatch as mismatch, NotGround as notground, NotFlat as notflat}
 use Rattle.answer_path.specs.Reading.{Reading, unlexed, stuck, nested, read, IsReading}
 
-pub data Judgement : Type 0 where
-  refused_for : ProgramRefusal → Judgement
+pub data Admission : Type 0 where
+  refused_for : ProgramRefusal → Admission
   -- it passes no limit, and its bags take too many walks
-  walks_too_much : Judgement
+  walks_too_much : Admission
   -- the term, and its sensitivity in lowest terms
-  accepted : Term → Distance → Judgement
+  accepted : Term → Distance → Admission
 
 -- 30 to 34
 abbrev pub fault_refusal : Fault → ProgramRefusal
@@ -41,7 +41,7 @@ shape_refusal (TooLong s) = too_long s.from s.to
 shape_refusal (TooWide s width) = too_wide s.from s.to width
 
 -- A term that the typing rules accept is run without data: it is accepted where that passes no limit and doesn't take too many walks.
-abbrev pub shaped_by : Term → Distance → WalkOutcome → Judgement
+abbrev pub shaped_by : Term → Distance → WalkOutcome → Admission
 shaped_by e r (Shaped s k) = accepted e r
 shaped_by e r (Stops fault) = refused_for (shape_refusal fault)
 shaped_by e r TooManyWalks = walks_too_much
@@ -50,16 +50,16 @@ shaped_by e r TooManyWalks = walks_too_much
 abbrev pub TakesTooManyWalks : Signature → Term → Type 0
 TakesTooManyWalks ts e = (D : Sensitivities) × (r : Distance) × (sensitivity_of ts e ≡ Accepted D r) × (shape ts e ≡ TooManyWalks)
 
-abbrev pub judged_by : Signature → Term → Acceptance → Judgement
-judged_by ts e (Accepted D r) = shaped_by e (lowest r) (shape ts e)
-judged_by ts e (Faulty fault) = refused_for (fault_refusal fault)
+abbrev pub admitted_by : Signature → Term → Acceptance → Admission
+admitted_by ts e (Accepted D r) = shaped_by e (lowest r) (shape ts e)
+admitted_by ts e (Faulty fault) = refused_for (fault_refusal fault)
 
 -- What a program comes to: first by its reading, then by the typing rules, and then by its run without data.
-unfoldable pub judgement_of : Signature → Reading → Judgement
-judgement_of ts (unlexed place) = refused_for (no_token place)
-judgement_of ts (stuck token) = refused_for (no_term token)
-judgement_of ts (nested depth) = refused_for (too_nested depth)
-judgement_of ts (read e) = judged_by ts e (sensitivity_of ts e)
+unfoldable pub admission_of : Signature → Reading → Admission
+admission_of ts (unlexed place) = refused_for (no_token place)
+admission_of ts (stuck token) = refused_for (no_term token)
+admission_of ts (nested depth) = refused_for (too_nested depth)
+admission_of ts (read e) = admitted_by ts e (sensitivity_of ts e)
 
 -- the program's value on some rows of the tables
 unfoldable pub HasValue : Signature → Dataset → List ℕ → ℤ → Type 0

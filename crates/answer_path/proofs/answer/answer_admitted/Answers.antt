@@ -9,7 +9,7 @@ use Rattle.fz_frac.specs.Distance.{Distance}
 use Rattle.fz_frac.specs.Sens.{distance_of}
 use Rattle.wire_lines.specs.Refusal.{Refusal, refusal_at}
 use Rattle.wire_lines.specs.Reply.{Replied, refused, replied}
-use Rattle.answer_path.specs.Judgement.{accepted}
+use Rattle.answer_path.specs.Admission.{accepted}
 use Rattle.part_views.specs.Views.{signature_in}
 use Rattle.owner_house.specs.Owner.{Owner}
 use Rattle.answer_path.specs.Program.{IsCharged}
@@ -22,11 +22,11 @@ use Rattle.answer_path.specs.Code.{query_of}
 use Rattle.answer_path.proofs.Charged.{accepted_finite, terms_of}
 use Rattle.answer_path.proofs.Answering.{owner_with, settled_by_term}
 use Rattle.answer_path.proofs.Turns.{fault_asked, of_owner, settled_asked, settled_small, settled_turn, unreserved_turn}
-use Rattle.answer_path.proofs.answer.answer_judged.Goals as goal
+use Rattle.answer_path.proofs.answer.answer_admitted.Goals as goal
 
 pub fraction_of-requires : goal.fraction_of-requires
 fraction_of-requires g c =
-    accepted_finite (signature_in c.args.dataset.now.tables c.args.dataset.now.partitions c.args.query.now.view) c.args.query.now.program.now (c.args.judged.now.checked.term.now) (distance_of c.args.judged.now.checked.sens) c.requires.reads c.requires.judged.accepts
+    accepted_finite (signature_in c.args.dataset.now.tables c.args.dataset.now.partitions c.args.query.now.view) c.args.query.now.program.now (c.args.admitted.now.checked.term.now) (distance_of c.args.admitted.now.checked.sens) c.requires.reads c.requires.admitted.accepts
 
 pub reserve-requires-clause-of_entry : goal.reserve-requires-clause-of_entry
 reserve-requires-clause-of_entry g c =
@@ -47,7 +47,7 @@ returns-in-Err-clause-turn g c =
     let p = c.fraction_of.result.p in
     let q = c.fraction_of.result.q in
     let accepts : IsCharged (signature_in dataset.tables dataset.partitions query.view) query.program p q =
-    (c.args.judged.now.checked.term.now, c.requires.reads, c.requires.judged.accepts ∙ ap (λ (r : Distance). accepted (c.args.judged.now.checked.term.now) r) c.fraction_of.ensures) in
+    (c.args.admitted.now.checked.term.now, c.requires.reads, c.requires.admitted.accepts ∙ ap (λ (r : Distance). accepted (c.args.admitted.now.checked.term.now) r) c.fraction_of.ensures) in
     let why : HasReserved pass (ask_for query p q) (Err c.in-Err.fault) after =
     subst (λ (asking : Ask). HasReserved pass asking (Err c.in-Err.fault) after) c.asking_of-asking.ensures.asking
     (subst (λ (r : Result Grant BookFault). HasReserved pass c.asking_of-asking.result r after) c.in-Err.is c.reserve.ensures.reserved) in
@@ -71,13 +71,13 @@ returns-in-Ok-clause-turn g c =
     let dataset = c.args.dataset.now in
     let query = query_of c.args.query.now in
     let draws = g.S.Streams.given c.args.streams.now c.args.owner in
-    let term = c.args.judged.now.checked.term.now in
+    let term = c.args.admitted.now.checked.term.now in
     let p = c.fraction_of.result.p in
     let q = c.fraction_of.result.q in
     let grant = c.in-Ok.grant in
     let outcome = c.outcome_at-outcome.result in
     let settled = c.settle.ensures.settled in
-    let accepts : IsCharged (signature_in dataset.tables dataset.partitions query.view) query.program p q = (term, c.requires.reads, c.requires.judged.accepts ∙ ap (λ (r : Distance). accepted term r) c.fraction_of.ensures) in
+    let accepts : IsCharged (signature_in dataset.tables dataset.partitions query.view) query.program p q = (term, c.requires.reads, c.requires.admitted.accepts ∙ ap (λ (r : Distance). accepted term r) c.fraction_of.ensures) in
     let made : HasReserved pass (ask_for query p q) (Ok grant) mid =
     subst (λ (asking : Ask). HasReserved pass asking (Ok grant) mid) c.asking_of-asking.ensures.asking
     (subst (λ (r : Result Grant BookFault). HasReserved pass c.asking_of-asking.result r mid) c.in-Ok.is c.reserve.ensures.reserved) in

@@ -15,7 +15,7 @@ use Rattle.wire_lines.specs.Reply.{refused, reply_text}
 use Rattle.generated_run.specs.AnswerPath.AcceptedProgram.{Accepted}
 use Rattle.generated_run.specs.AnswerPath.Code.{IsAccepted, IsProgramRefusal, IsRefusedFor}
 use Rattle.generated_run.specs.AnswerPath.Reading.{IsReading, read}
-use Rattle.generated_run.specs.AnswerPath.Judgement.{HasTooManyWalks, HasValue, Judgement, refused_for, walks_too_much, accepted, judgement_of}
+use Rattle.generated_run.specs.AnswerPath.Admission.{HasTooManyWalks, HasValue, Admission, refused_for, walks_too_much, accepted, admission_of}
 use Rattle.generated_run.proofs.AnswerPath.Told.{accepted_walks_little, refused_walks_little}
 use Rattle.query_server.specs.Check.{IsProgramDue, accepted_text, status_by, text_by}
 use Rattle.query_server.specs.Gap.{IsGapBy, IsGapDue, gap_text}
@@ -62,22 +62,22 @@ pub gap_refused : (tables : Signature) (X Y : Dataset) (program text : List ℕ)
 gap_refused tables X Y program text refusal (reading, reads, is) same = record {
   reading = reading;
   reads = reads;
-  due = subst (λ (j : Judgement). IsGapBy j tables X Y program code.ProgramRefused text) (sym is) (refl, same);
+  due = subst (λ (j : Admission). IsGapBy j tables X Y program code.ProgramRefused text) (sym is) (refl, same);
   walks = refused_walks_little tables program refusal (reading, reads, is);
 }
 
-pub gap_accepted : (tables : Signature) (X Y : Dataset) (program text : List ℕ) (e : Term) (r : Distance) (y z : ℤ) → IsReading program (read e) → judgement_of tables (read e) ≡ accepted e r
+pub gap_accepted : (tables : Signature) (X Y : Dataset) (program text : List ℕ) (e : Term) (r : Distance) (y z : ℤ) → IsReading program (read e) → admission_of tables (read e) ≡ accepted e r
     → (HasTooManyWalks tables program → ⊥) → Means (rows_of tables X) e (NumV y) → Means (rows_of tables Y) e (NumV z) → text ≡ gap_text (apart X Y) r y z → IsGapDue tables X Y program code.Done text
 unfolding HasValue
 gap_accepted tables X Y program text e r y z reads is walks first second same = record {
   reading = read e;
   reads = reads;
-  due = subst (λ (j : Judgement). IsGapBy j tables X Y program code.Done text) (sym is) (y, z, (e, reads, first), (e, reads, second), refl, same);
+  due = subst (λ (j : Admission). IsGapBy j tables X Y program code.Done text) (sym is) (y, z, (e, reads, first), (e, reads, second), refl, same);
   walks = walks;
 }
 
--- a judgement gives the status
-pub gap_status : (judgement : Judgement) (tables : Signature) (X Y : Dataset) (program : List ℕ) (status : Status) (text : List ℕ) → IsGapBy judgement tables X Y program status text → status ≡ status_by judgement
+-- an admission gives the status
+pub gap_status : (admission : Admission) (tables : Signature) (X Y : Dataset) (program : List ℕ) (status : Status) (text : List ℕ) → IsGapBy admission tables X Y program status text → status ≡ status_by admission
 gap_status (refused_for refusal) tables X Y program status text due = due.0
 gap_status walks_too_much tables X Y program status text due = absurd due
 gap_status (accepted e r) tables X Y program status text (y, z, first, second, is, same) = is
