@@ -173,7 +173,11 @@ def begin(seq):
     return s, True
 
 
-follow['Expression'] = {0}
+# What is read by itself: the end may follow.
+GOALS = ['Expression', 'AnyType', 'Sensitivity']
+for x in GOALS:
+    assert PHRASES[x] == []
+    follow[x] = {0}
 changed = True
 while changed:
     changed = False
@@ -376,7 +380,7 @@ use fz_ast::{Arrow, Binary, Ranged, Side, Unary};
 use fz_lexer::{Sign, Word};
 
 /// What a token has to be.
-#[derive(Clone, Copy, Debug, PartialEq, Eq)]
+#[derive(Clone, Copy)]
 pub enum Terminal {
     Named,
     Numeral,
@@ -388,13 +392,13 @@ pub enum Terminal {
 }
 
 /// What a rule stands for.
-#[derive(Clone, Copy, Debug, PartialEq, Eq)]
+#[derive(Clone, Copy)]
 #[rattlefmt::skip]
 pub enum Phrase {
 ''' + lines(PHRASES) + '''}
 
 /// What stands between two types.
-#[derive(Clone, Copy, Debug, PartialEq, Eq)]
+#[derive(Clone, Copy)]
 pub enum Joint {
     Lollipop,
     Sum,
@@ -403,13 +407,13 @@ pub enum Joint {
 }
 
 /// What is made of the parts that were read last.
-#[derive(Clone, Copy, Debug, PartialEq, Eq)]
+#[derive(Clone, Copy)]
 #[rattlefmt::skip]
 pub enum Action {
 ''' + lines(x + ''.join(f'({k})' for k in dict.fromkeys(k for f, _, k in OPERATIONS.values() if f == x)) for x in FORMS) + '''}
 
 /// What a rule's body is made of.
-#[derive(Clone, Copy, Debug, PartialEq, Eq)]
+#[derive(Clone, Copy)]
 pub enum Item {
     /// A token.
     Take(Terminal),
@@ -420,13 +424,13 @@ pub enum Item {
 }
 
 /// What is on top of the stack before a token.
-#[derive(Clone, Copy, Debug, PartialEq, Eq)]
+#[derive(Clone, Copy)]
 pub enum Top {
     /// Nothing.
     Empty,
     /// Such a token.
     Wants(Terminal),
     /// No rule fits.
-    Refuses,
+    DeadEnd,
 }
 ''')

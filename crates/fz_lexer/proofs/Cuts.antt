@@ -2,14 +2,14 @@
 use Rattle.std.proofs.Common.{◌≡◌, ℕ, zero, suc, ◌+◌, ◌<◌, ◌≤◌, List, [], ◌∷◌, ◌++◌, true, refl, arith, sym, ap, ◌∙◌, subst, inl, inr, take, drop, length, append-nil, length-append, length-drop}
 use Rattle.std.proofs.Math.Seq.{drop-nil, drop-append_seam}
 use Rattle.std.proofs.lemmas.List.{take-append-drop, length-take, drop_all}
-use Rattle.std.specs.Prelude.{◌⊎◌, Some}
+use Rattle.std.specs.Prelude.{◌⊎◌, Some, Result, Ok, Err, IfErr}
 use Rattle.fz_lexer.specs.declared.token.Token.{Token}
 use Rattle.fz_lexer.specs.declared.token.Kind.{Kind}
 use Rattle.fz_lexer.specs.declared.token.LexFault.{LexFault}
 use Rattle.fz_lexer.specs.declared.token.LexFault.TheVariants.{Bad, TooManyTokens, NoMemory}
 use Rattle.fz_lexer.specs.declared.prefix.TokenPrefix.{TokenPrefix}
 use Rattle.fz_lexer.specs.Bytes.{is_blank, every_byte, stops}
-use Rattle.fz_lexer.specs.Tokens.{IsToken, NoToken, Cut, AreTokens, IsLexed, ExplainsLex}
+use Rattle.fz_lexer.specs.Tokens.{IsToken, NoToken, Cut, AreTokens, most_bytes, most_tokens, IsLexed, ExplainsCut, ExplainsLex, ExplainsLine}
 use Rattle.fz_lexer.specs.Prefixes.{IsTokenPrefix}
 use Rattle.fz_lexer.proofs.Runs.{run_same, token_same, token_start}
 
@@ -106,10 +106,10 @@ cut_on ts us w found i j R B r b l h t lj e s u =
 pub prefix_within : (w R : List ℕ) (found : TokenPrefix) (i : ℕ) → R ≡ drop i w → i ≤ length w → IsTokenPrefix R (Some found) → (i + found.len ≤ length w) × (0 < found.len)
 prefix_within w R found i r l t = (omega (arith, t.3, ap length (sym t.2 ∙ r), length-append t.0 t.1, length-drop i w), omega (arith, t.3, t.4))
 
-pub lexed : (ts : List Token) (w : List ℕ) (i : ℕ) → i ≡ length w → Cut 0 w ts i (drop i w) → length w ≤ 16000 → length ts ≤ 4096 → IsLexed w ts
-lexed ts w i e h b c =
+pub cut_whole : (ts : List Token) (w : List ℕ) (i : ℕ) → i ≡ length w → Cut 0 w ts i (drop i w) → AreTokens w ts
+cut_whole ts w i e h =
     let l : length w ≤ i = omega arith in
-    record { tokens = subst (λ x. Cut 0 w ts x []) e (subst (λ x. Cut 0 w ts i x) (drop_all i w l) h); bytes = b; count = c }
+    subst (λ x. Cut 0 w ts x []) e (subst (λ x. Cut 0 w ts i x) (drop_all i w l) h)
 
 -- where a cut ends, no blank stands
 cut_ends : (ts : List Token) (p : ℕ) (w : List ℕ) (q : ℕ) (end : List ℕ) → Cut p w ts q end → stops is_blank end ≡ true
@@ -139,61 +139,106 @@ goes_on [] q r text after last k c s t =
     inr (omega (arith, c.4, ap length x.0), sym x.1)
 goes_on (v ∷ vs) q r text after last k c s t = inl (omega arith)
 
--- what is refused is no text of tokens within the limits
-pub refused : (w : List ℕ) (fault : LexFault) (ts : List Token) → ExplainsLex w fault → IsLexed w ts → fault ≡ NoMemory
-refused w (Bad p) us (inl x) a = absurd (omega (arith, x.0, a.bytes))
-refused w (Bad p) us (inr x) a = elim (split x.1 us 0 w p (length w) x.2 [] x.3 a.tokens) [
-  | inl v ↦ let s = stuck v.0 p (length w) x.2 [] v.2 (cut_ends x.1 0 w p x.2 x.3) x.6 in absurd (omega (arith, x.5, ap length s.2))
-  | inr v ↦ absurd (omega (arith, x.5, cut_length v.0 (length w) p [] x.2 v.2))
+-- there are at most as many tokens as bytes
+pub cut_count : (ts : List Token) (p : ℕ) (w : List ℕ) (q : ℕ) (end : List ℕ) → Cut p w ts q end → length ts + length end ≤ length w
+cut_count [] p w q end h = omega (arith, ap length h.1, length-append h.0 end)
+cut_count (t ∷ ts) p w q end h =
+    omega (arith, cut_count ts t.span.to h.2 q end h.8, (token_start h.1 h.2 t.kind h.5).1, ap length h.3, length-append h.0 (h.1 ++ h.2), length-append h.1 h.2)
+
+-- what is refused is no text of so many tokens
+cut_refused : (most : ℕ) (w : List ℕ) (fault : LexFault) (ts : List Token) → ExplainsCut most w fault → AreTokens w ts → length ts ≤ most → fault ≡ NoMemory
+cut_refused most w (Bad p) us x a c = elim (split x.0 us 0 w p (length w) x.1 [] x.2 a) [
+  | inl v ↦ let s = stuck v.0 p (length w) x.1 [] v.2 (cut_ends x.0 0 w p x.1 x.2) x.5 in absurd (omega (arith, x.4, ap length s.2))
+  | inr v ↦ absurd (omega (arith, x.4, cut_length v.0 (length w) p [] x.1 v.2))
 ]
-refused w (TooManyTokens p) us x a = elim (split x.1 us 0 w p (length w) (x.2 ++ x.3) [] x.5 a.tokens) [
-  | inl v ↦ elim (goes_on v.0 p (length w) x.2 x.3 [] x.4 v.2 (cut_ends x.1 0 w p (x.2 ++ x.3) x.5) x.7) [
-    | inl l ↦ absurd (omega (arith, l, x.6, ap length v.1, length-append x.1 v.0, a.count))
-    | inr e ↦ let f = token_start x.2 x.3 x.4 x.7 in absurd (omega (arith, f.1, ap length e.1, length-append x.2 x.3))
+cut_refused most w (TooManyTokens p) us x a c = elim (split x.0 us 0 w p (length w) (x.1 ++ x.2) [] x.4 a) [
+  | inl v ↦ elim (goes_on v.0 p (length w) x.1 x.2 [] x.3 v.2 (cut_ends x.0 0 w p (x.1 ++ x.2) x.4) x.6) [
+    | inl l ↦ absurd (omega (arith, l, x.5, ap length v.1, length-append x.0 v.0, c))
+    | inr e ↦ let f = token_start x.1 x.2 x.3 x.6 in absurd (omega (arith, f.1, ap length e.1, length-append x.1 x.2))
   ]
-  | inr v ↦ let f = token_start x.2 x.3 x.4 x.7 in absurd (omega (arith, f.1, cut_length v.0 (length w) p [] (x.2 ++ x.3) v.2, length-append x.2 x.3))
+  | inr v ↦ let f = token_start x.1 x.2 x.3 x.6 in absurd (omega (arith, f.1, cut_length v.0 (length w) p [] (x.1 ++ x.2) v.2, length-append x.1 x.2))
 ]
-refused w NoMemory us x a = refl
+cut_refused most w NoMemory us x a c = refl
 
-bad_once : (w : List ℕ) (p q : ℕ) → ExplainsLex w (Bad p) → ExplainsLex w (Bad q) → q ≡ p
-bad_once w p q (inl x) (inl y) = y.1 ∙ sym x.1
-bad_once w p q (inl x) (inr y) = absurd (omega (arith, x.0, y.0))
-bad_once w p q (inr x) (inl y) = absurd (omega (arith, x.0, y.0))
-bad_once w p q (inr x) (inr y) = elim (split x.1 y.1 0 w p q x.2 y.2 x.3 y.3) [
-  | inl v ↦ (stuck v.0 p q x.2 y.2 v.2 (cut_ends x.1 0 w p x.2 x.3) x.6).1
-  | inr v ↦ sym (stuck v.0 q p y.2 x.2 v.2 (cut_ends y.1 0 w q y.2 y.3) y.6).1
+bad_once : (most : ℕ) (w : List ℕ) (p q : ℕ) → ExplainsCut most w (Bad p) → ExplainsCut most w (Bad q) → q ≡ p
+bad_once most w p q x y = elim (split x.0 y.0 0 w p q x.1 y.1 x.2 y.2) [
+  | inl v ↦ (stuck v.0 p q x.1 y.1 v.2 (cut_ends x.0 0 w p x.1 x.2) x.5).1
+  | inr v ↦ sym (stuck v.0 q p y.1 x.1 v.2 (cut_ends y.0 0 w q y.1 y.2) y.5).1
 ]
 
-many_once : (w : List ℕ) (p q : ℕ) → ExplainsLex w (TooManyTokens p) → ExplainsLex w (TooManyTokens q) → q ≡ p
-many_once w p q x y = elim (split x.1 y.1 0 w p q (x.2 ++ x.3) (y.2 ++ y.3) x.5 y.5) [
-  | inl v ↦ elim (goes_on v.0 p q x.2 x.3 (y.2 ++ y.3) x.4 v.2 (cut_ends x.1 0 w p (x.2 ++ x.3) x.5) x.7) [
-    | inl l ↦ absurd (omega (arith, l, x.6, y.6, ap length v.1, length-append x.1 v.0))
+many_once : (most : ℕ) (w : List ℕ) (p q : ℕ) → ExplainsCut most w (TooManyTokens p) → ExplainsCut most w (TooManyTokens q) → q ≡ p
+many_once most w p q x y = elim (split x.0 y.0 0 w p q (x.1 ++ x.2) (y.1 ++ y.2) x.4 y.4) [
+  | inl v ↦ elim (goes_on v.0 p q x.1 x.2 (y.1 ++ y.2) x.3 v.2 (cut_ends x.0 0 w p (x.1 ++ x.2) x.4) x.6) [
+    | inl l ↦ absurd (omega (arith, l, x.5, y.5, ap length v.1, length-append x.0 v.0))
     | inr e ↦ e.0
   ]
-  | inr v ↦ elim (goes_on v.0 q p y.2 y.3 (x.2 ++ x.3) y.4 v.2 (cut_ends y.1 0 w q (y.2 ++ y.3) y.5) y.7) [
-    | inl l ↦ absurd (omega (arith, l, x.6, y.6, ap length v.1, length-append y.1 v.0))
+  | inr v ↦ elim (goes_on v.0 q p y.1 y.2 (x.1 ++ x.2) y.3 v.2 (cut_ends y.0 0 w q (y.1 ++ y.2) y.4) y.6) [
+    | inl l ↦ absurd (omega (arith, l, x.5, y.5, ap length v.1, length-append y.0 v.0))
     | inr e ↦ sym e.0
   ]
 ]
 
 -- a text is not refused in both ways
-one_way : (w : List ℕ) (p q : ℕ) → ExplainsLex w (Bad p) → ExplainsLex w (TooManyTokens q) → ⊥
-one_way w p q (inl x) y = omega (arith, x.0, y.0)
-one_way w p q (inr x) y = elim (split x.1 y.1 0 w p q x.2 (y.2 ++ y.3) x.3 y.5) [
+one_way : (most : ℕ) (w : List ℕ) (p q : ℕ) → ExplainsCut most w (Bad p) → ExplainsCut most w (TooManyTokens q) → ⊥
+one_way most w p q x y = elim (split x.0 y.0 0 w p q x.1 (y.1 ++ y.2) x.2 y.4) [
   | inl v ↦
-      let s = stuck v.0 p q x.2 (y.2 ++ y.3) v.2 (cut_ends x.1 0 w p x.2 x.3) x.6 in
-      x.6 y.2 y.3 y.4 (sym s.2) y.7
-  | inr v ↦ elim (goes_on v.0 q p y.2 y.3 x.2 y.4 v.2 (cut_ends y.1 0 w q (y.2 ++ y.3) y.5) y.7) [
-    | inl l ↦ omega (arith, l, x.4, y.6, ap length v.1, length-append y.1 v.0)
-    | inr e ↦ x.6 y.2 y.3 y.4 e.1 y.7
+      let s = stuck v.0 p q x.1 (y.1 ++ y.2) v.2 (cut_ends x.0 0 w p x.1 x.2) x.5 in
+      x.5 y.1 y.2 y.3 (sym s.2) y.6
+  | inr v ↦ elim (goes_on v.0 q p y.1 y.2 x.1 y.3 v.2 (cut_ends y.0 0 w q (y.1 ++ y.2) y.4) y.6) [
+    | inl l ↦ omega (arith, l, x.3, y.5, ap length v.1, length-append y.0 v.0)
+    | inr e ↦ x.5 y.1 y.2 y.3 e.1 y.6
   ]
 ]
 
+cut_once : (most : ℕ) (w : List ℕ) (fault other : LexFault) → ExplainsCut most w fault → ExplainsCut most w other → (fault ≡ NoMemory → ⊥) → (other ≡ NoMemory → ⊥) → other ≡ fault
+cut_once most w (Bad p) (Bad q) x y m n = ap Bad (bad_once most w p q x y)
+cut_once most w (Bad p) (TooManyTokens q) x y m n = absurd (one_way most w p q x y)
+cut_once most w (TooManyTokens p) (Bad q) x y m n = absurd (one_way most w q p y x)
+cut_once most w (TooManyTokens p) (TooManyTokens q) x y m n = ap TooManyTokens (many_once most w p q x y)
+cut_once most w (Bad p) NoMemory x y m n = absurd (n refl)
+cut_once most w (TooManyTokens p) NoMemory x y m n = absurd (n refl)
+cut_once most w NoMemory other x y m n = absurd (m refl)
+
+-- of a program: it is too long, or its cut has the fault
+abbrev InCut : List ℕ → LexFault → Type 0
+InCut w fault = (most_bytes < length w) × (fault ≡ Bad most_bytes) ⊎ ((length w ≤ most_bytes) × ExplainsCut most_tokens w fault)
+
+in_cut : (w : List ℕ) (fault : LexFault) → ExplainsLex w fault → (fault ≡ NoMemory → ⊥) → InCut w fault
+in_cut w (Bad p) (inl x) m = inl (x.0, ap Bad x.1)
+in_cut w (Bad p) (inr x) m = inr x
+in_cut w (TooManyTokens p) x m = inr x
+in_cut w NoMemory x m = absurd (m refl)
+
+pub refused : (w : List ℕ) (fault : LexFault) (ts : List Token) → ExplainsLex w fault → IsLexed w ts → fault ≡ NoMemory
+refused w (Bad p) us (inl x) a = absurd (omega (arith, x.0, a.bytes))
+refused w (Bad p) us (inr x) a = cut_refused most_tokens w (Bad p) us x.1 a.tokens a.count
+refused w (TooManyTokens p) us x a = cut_refused most_tokens w (TooManyTokens p) us x.1 a.tokens a.count
+refused w NoMemory us x a = refl
+
 pub once : (w : List ℕ) (fault other : LexFault) → ExplainsLex w fault → ExplainsLex w other → (fault ≡ NoMemory → ⊥) → (other ≡ NoMemory → ⊥) → other ≡ fault
-once w (Bad p) (Bad q) x y m n = ap Bad (bad_once w p q x y)
-once w (Bad p) (TooManyTokens q) x y m n = absurd (one_way w p q x y)
-once w (TooManyTokens p) (Bad q) x y m n = absurd (one_way w q p y x)
-once w (TooManyTokens p) (TooManyTokens q) x y m n = ap TooManyTokens (many_once w p q x y)
-once w (Bad p) NoMemory x y m n = absurd (n refl)
-once w (TooManyTokens p) NoMemory x y m n = absurd (n refl)
-once w NoMemory other x y m n = absurd (m refl)
+once w fault other x y m n = elim (in_cut w fault x m) [
+  | inl a ↦ elim (in_cut w other y n) [ inl b ↦ b.1 ∙ sym a.1 | inr b ↦ absurd (omega (arith, a.0, b.0)) ]
+  | inr a ↦ elim (in_cut w other y n) [ inl b ↦ absurd (omega (arith, a.0, b.0)) | inr b ↦ cut_once most_tokens w fault other a.1 b.1 m n ]
+]
+
+-- without limits: more tokens than bytes there are not
+pub line_fault : (w : List ℕ) (fault : LexFault) → ExplainsCut (length w) w fault → ExplainsLine w fault
+line_fault w (Bad p) x = (x.0, x.1, x.2, x.4, x.5)
+line_fault w (TooManyTokens p) x =
+    omega (arith, cut_count x.0 0 w p (x.1 ++ x.2) x.4, x.5, (token_start x.1 x.2 x.3 x.6).1, length-append x.1 x.2)
+line_fault w NoMemory x = tt
+
+pub line_faults : {A : Type 0} (w : List ℕ) (r : Result A LexFault) → IfErr r (λ fault. ExplainsCut (length w) w fault) → IfErr r (λ fault. ExplainsLine w fault)
+line_faults w (Ok ts) h = tt
+line_faults w (Err fault) h = line_fault w fault h
+
+of_line : (w : List ℕ) (fault : LexFault) → ExplainsLine w fault → ExplainsCut (length w) w fault
+of_line w (Bad p) x = (x.0, x.1, x.2, omega (arith, cut_count x.0 0 w p x.1 x.2), x.3, x.4)
+of_line w (TooManyTokens p) x = absurd x
+of_line w NoMemory x = tt
+
+pub line_refused : (w : List ℕ) (fault : LexFault) (ts : List Token) → ExplainsLine w fault → AreTokens w ts → fault ≡ NoMemory
+line_refused w fault ts x a = cut_refused (length w) w fault ts (of_line w fault x) a (omega (arith, cut_count ts 0 w (length w) [] a))
+
+pub line_once : (w : List ℕ) (fault other : LexFault) → ExplainsLine w fault → ExplainsLine w other → (fault ≡ NoMemory → ⊥) → (other ≡ NoMemory → ⊥) → other ≡ fault
+line_once w fault other x y m n = cut_once (length w) w fault other (of_line w fault x) (of_line w other y) m n

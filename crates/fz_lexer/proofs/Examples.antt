@@ -6,13 +6,15 @@ use Rattle.fz_lexer.specs.declared.token.Kind.{Kind}
 use Rattle.fz_lexer.specs.declared.token.Kind.TheVariants.{Name, Number, Text, Reserved, Punctuation}
 use Rattle.fz_lexer.specs.declared.token.Word.TheVariants.{Fun, Fn, Let, In, Case, Of, Inl, Inr, If, Then, Else, Fst, Snd, True, False, Num, Text as TextWord, Unit as UnitWord, Bool as BoolWord, Bag, Inf, Size, Sum, Clip, Least, Greatest, Map, Filter, Split, Union, Do, Release, At}
 use Rattle.fz_lexer.specs.declared.token.Sign.TheVariants.{LeftParenthesis, RightParenthesis, LeftAngle, RightAngle, LeftBracket, RightBracket, Comma, Colon, Is, Bang, Bar, Plus, Minus, Star, Ampersand, Slash, Yields, Arrow, Lollipop, AtMost, EqualTo}
-use Rattle.fz_lexer.specs.declared.token.LexFault.TheVariants.{Bad, TooManyTokens}
+use Rattle.fz_lexer.specs.declared.token.LexFault.{LexFault}
+use Rattle.fz_lexer.specs.declared.token.LexFault.TheVariants.{Bad, TooManyTokens, NoMemory}
 use Rattle.fz_lexer.specs.Bytes.{is_blank, is_digit, is_letter, is_name_byte, is_text_byte, stops, value_from}
 use Rattle.fz_lexer.specs.Words.{spelling}
 use Rattle.fz_lexer.specs.Signs.{mark, may_follow}
-use Rattle.fz_lexer.specs.Tokens.{AreTokens, Cut, IsLexed, IsToken, ExplainsLex}
+use Rattle.fz_lexer.specs.Tokens.{AreTokens, Cut, IsLexed, IsToken, ExplainsLex, ExplainsLine}
 use Rattle.fz_lexer.proofs.Spellings.{same, find_word, word_with}
-use Rattle.fz_lexer.proofs.Lexing.{word_kind, spells, prefix_of, tokens_from, answer, answer_holds, Answer, Tokens, Refused}
+use Rattle.fz_lexer.proofs.Lexing.{word_kind, spells, prefix_of, tokens_from, cut, answer, line_answer, answer_holds, Answer, Tokens, Refused}
+use Rattle.fz_lexer.proofs.Cuts.{line_refused}
 
 -- the numbers below n that pass
 abbrev passing : ℕ → (ℕ → Bool) → List ℕ
@@ -230,9 +232,37 @@ begins_at (t ∷ ts) p w q end h =
 
 told_by_its_first_byte : (w : List ℕ) (place : ℕ) → ExplainsLex w (TooManyTokens place) → BeginsAt w place
 told_by_its_first_byte w place h =
-    let cut = begins_at h.1 0 w place (h.2 ++ h.3) h.5 in
-    record { front = cut.0; rest = h.2 ++ h.3; whole = cut.1; far = omega (arith, cut.2); no_blank = cut.3 }
+    let x = h.1 in
+    let found = begins_at x.0 0 w place (x.1 ++ x.2) x.4 in
+    record { front = found.0; rest = x.1 ++ x.2; whole = found.1; far = omega (arith, found.2); no_blank = found.3 }
 
 behind_a_space : (w : List ℕ) (ts : List Token) (after : List ℕ) → length w ≤ 16000 → length ts ≡ 4096 → Cut 0 w ts 4097 (40 ∷ after)
     → IsToken (40 ∷ []) after (Punctuation LeftParenthesis) → ExplainsLex w (TooManyTokens 4097)
-behind_a_space w ts after short many cut token = (short, ts, 40 ∷ [], after, Punctuation LeftParenthesis, cut, many, token)
+behind_a_space w ts after short many found token = (short, (ts, 40 ∷ [], after, Punctuation LeftParenthesis, found, many, token))
+
+-- a text without limits: the same tokens, and the same bytes that begin none
+type_of_a_line : line_answer (codes "bag ![2/3] num ") ≡ Tokens (at 0 3 (Reserved Bag) ∷ at 4 5 (Punctuation Bang) ∷ at 5 6 (Punctuation LeftBracket) ∷ at 6 7 (Number 2) ∷ at 7 8 (Punctuation Slash) ∷ at 8 9 (Number 3) ∷ at 9 10 (Punctuation RightBracket) ∷ at 11 14 (Reserved Num) ∷ [])
+unfolding line_answer tokens_from prefix_of word_kind spells same find_word word_with is_blank is_digit is_letter is_name_byte is_text_byte mark may_follow spelling
+type_of_a_line = refl
+
+no_bytes_of_a_line : line_answer [] ∷ line_answer (32 ∷ 9 ∷ 13 ∷ 10 ∷ []) ∷ [] ≡ Tokens [] ∷ Tokens [] ∷ []
+unfolding line_answer tokens_from prefix_of word_kind spells same find_word word_with is_blank is_digit is_letter is_name_byte is_text_byte mark may_follow spelling
+no_bytes_of_a_line = refl
+
+bad_byte_of_a_line : line_answer (codes "num $") ∷ line_answer (codes "$") ∷ line_answer (codes "1125899906842625") ∷ line_answer (codes "a#b") ∷ [] ≡ Refused (Bad 4) ∷ Refused (Bad 0) ∷ Refused (Bad 0) ∷ Refused (Bad 1) ∷ []
+unfolding line_answer tokens_from prefix_of word_kind spells same find_word word_with is_blank is_digit is_letter is_name_byte is_text_byte mark may_follow spelling
+bad_byte_of_a_line = refl
+
+-- a text is refused at the token past its limit, and one of as many tokens as the limit passes; a bad byte before it comes first
+tokens_at_the_limit : cut 3 (codes "( ((") ∷ cut 2 (codes "( ((") ∷ cut 2 (codes "($((") ∷ cut 1 (codes "( $") ∷ cut 0 (codes " ") ∷ cut 0 (codes " (") ∷ [] ≡
+    Tokens (at 0 1 (Punctuation LeftParenthesis) ∷ at 2 3 (Punctuation LeftParenthesis) ∷ at 3 4 (Punctuation LeftParenthesis) ∷ []) ∷
+    Refused (TooManyTokens 3) ∷ Refused (Bad 1) ∷ Refused (Bad 2) ∷ Tokens [] ∷ Refused (TooManyTokens 1) ∷ []
+unfolding tokens_from prefix_of word_kind spells same find_word word_with is_blank is_digit is_letter is_name_byte is_text_byte mark may_follow spelling
+tokens_at_the_limit = refl
+
+-- no number of bytes or tokens is too great
+tokens_of_a_long_line : (w : List ℕ) (ts : List Token) → length w ≡ 16001 → length ts ≡ 4097 → AreTokens w ts → (fault : LexFault) → ExplainsLine w fault → fault ≡ NoMemory
+tokens_of_a_long_line w ts b c h fault x = line_refused w fault ts x h
+
+never_too_many : (w : List ℕ) (place : ℕ) → ExplainsLine w (TooManyTokens place) → ⊥
+never_too_many w place x = x

@@ -15,11 +15,11 @@ use Rattle.fz_lexer.specs.declared.sign.TheConstants.{SIGNS}
 use Rattle.fz_lexer.specs.Bytes.{is_blank, is_digit, is_letter, is_name_byte, is_text_byte, every_byte, begins, stops, value_from}
 use Rattle.fz_lexer.specs.Words.{spelling}
 use Rattle.fz_lexer.specs.Signs.{mark, may_follow, SpellsSign, NoSign}
-use Rattle.fz_lexer.specs.Tokens.{IsReservedOrName, Cut, IsLexed, ExplainsLex, IsLexedOrFaulty}
+use Rattle.fz_lexer.specs.Tokens.{IsReservedOrName, Cut, AreTokens, most_bytes, most_tokens, IsLexed, ExplainsCut, ExplainsLex, IsLexedOrFaulty, IsLineOrFaulty}
 use Rattle.fz_lexer.specs.Prefixes.{IsTokenPrefix, token_at}
 use Rattle.fz_lexer.proofs.Spellings.{same, same_self, same_is, word_with, word_back, sign_at, sign_below, sign_place}
 use Rattle.fz_lexer.proofs.Prefixes.{name_found, name_over, number_found, number_over, text_found, text_over, sign_found, sign_over, longest_at}
-use Rattle.fz_lexer.proofs.Cuts.{cut_start, cut_on, prefix_within, lexed}
+use Rattle.fz_lexer.proofs.Cuts.{cut_start, cut_on, prefix_within, cut_whole, line_fault}
 
 -- how many of the first bytes pass
 abbrev pub run : (ℕ → Bool) → List ℕ → ℕ
@@ -177,21 +177,34 @@ pub data Answer : Type 0 where
   Refused : (fault : LexFault) → Answer
 
 -- one more token, or the end: what is left is `rest`, and `more` goes on after a token
-abbrev pub next : (List Token → ℕ → Answer) → List ℕ → List Token → ℕ → List ℕ → Option TokenPrefix → Answer
-next more w ts i [] found = Tokens ts
-next more w ts i (b ∷ rest) None = Refused (Bad i)
-next more w ts i (b ∷ rest) (Some found) =
-    cond (nat_lt (length ts) 4096) (more (ts ++ token_at i found ∷ []) (i + found.len + run is_blank (drop (i + found.len) w))) (Refused (TooManyTokens i))
+abbrev pub next : ℕ → (List Token → ℕ → Answer) → List ℕ → List Token → ℕ → List ℕ → Option TokenPrefix → Answer
+next most more w ts i [] found = Tokens ts
+next most more w ts i (b ∷ rest) None = Refused (Bad i)
+next most more w ts i (b ∷ rest) (Some found) =
+    cond (nat_lt (length ts) most) (more (ts ++ token_at i found ∷ []) (i + found.len + run is_blank (drop (i + found.len) w))) (Refused (TooManyTokens i))
 
--- on from place i, in at most n tokens more
-unfoldable pub tokens_from : ℕ → List ℕ → List Token → ℕ → Answer
-tokens_from zero w ts i = Tokens ts
-tokens_from (suc n) w ts i = next (tokens_from n w) w ts i (drop i w) (prefix_of (drop i w))
+-- on from place i, in at most n steps more
+unfoldable pub tokens_from : ℕ → ℕ → List ℕ → List Token → ℕ → Answer
+tokens_from most zero w ts i = Tokens ts
+tokens_from most (suc n) w ts i = next most (tokens_from most n w) w ts i (drop i w) (prefix_of (drop i w))
 
+-- in at most so many tokens
+abbrev pub cut : ℕ → List ℕ → Answer
+cut most w = tokens_from most (suc (length w)) w [] (run is_blank w)
+
+-- of a program
 unfoldable pub answer : List ℕ → Answer
-answer w = cond (nat_le (length w) 16000) (tokens_from (suc (length w)) w [] (run is_blank w)) (Refused (Bad 16000))
+answer w = cond (nat_le (length w) most_bytes) (cut most_tokens w) (Refused (Bad most_bytes))
+
+-- of a text without limits
+unfoldable pub line_answer : List ℕ → Answer
+line_answer w = cut (length w) w
 
 -- the answer holds
+abbrev pub CutHolds : ℕ → List ℕ → Answer → Type 0
+CutHolds most w (Tokens ts) = AreTokens w ts × (length ts ≤ most)
+CutHolds most w (Refused fault) = (fault ≡ NoMemory → ⊥) × ExplainsCut most w fault
+
 abbrev pub Holds : List ℕ → Answer → Type 0
 Holds w (Tokens ts) = IsLexed w ts
 Holds w (Refused fault) = (fault ≡ NoMemory → ⊥) × ExplainsLex w fault
@@ -207,17 +220,17 @@ known fault h e = let t : true ≡ false = sym h ∙ ap is_bad e in absurd (cc t
 length_tokens : (ts : List Token) (t : Token) → length (ts ++ t ∷ []) ≡ suc (length ts)
 length_tokens ts t = omega (arith, length-append ts (t ∷ []))
 
-module _ (w : List ℕ) (short : length w ≤ 16000) (n : ℕ)
-    (ih : (ts : List Token) (i : ℕ) → length w < i + n → i ≤ length w → length ts ≤ 4096 → Cut 0 w ts i (drop i w) → Holds w (tokens_from n w ts i)) where
-  next_is : (ts : List Token) (i : ℕ) (rest : List ℕ) (found : Option TokenPrefix) → rest ≡ drop i w → (0 < length rest → IsTokenPrefix rest found) → length w < i + suc n → i ≤ length w → length ts ≤ 4096 →
-      Cut 0 w ts i (drop i w) → Holds w (next (tokens_from n w) w ts i rest found)
-  next_is ts i [] found e f l m c h = lexed ts w i (omega (arith, ap length e, length-drop i w)) h short c
-  next_is ts i (b ∷ rest) None e f l m c h = (known (Bad i) refl, inr (short, ts, drop i w, h, c, omega (arith, ap length e), subst (λ x. IsTokenPrefix x None) e (f (omega arith))))
+module _ (most : ℕ) (w : List ℕ) (n : ℕ)
+    (ih : (ts : List Token) (i : ℕ) → length w < i + n → i ≤ length w → length ts ≤ most → Cut 0 w ts i (drop i w) → CutHolds most w (tokens_from most n w ts i)) where
+  next_is : (ts : List Token) (i : ℕ) (rest : List ℕ) (found : Option TokenPrefix) → rest ≡ drop i w → (0 < length rest → IsTokenPrefix rest found) → length w < i + suc n → i ≤ length w → length ts ≤ most →
+      Cut 0 w ts i (drop i w) → CutHolds most w (next most (tokens_from most n w) w ts i rest found)
+  next_is ts i [] found e f l m c h = (cut_whole ts w i (omega (arith, ap length e, length-drop i w)) h, c)
+  next_is ts i (b ∷ rest) None e f l m c h = (known (Bad i) refl, (ts, drop i w, h, c, omega (arith, ap length e), subst (λ x. IsTokenPrefix x None) e (f (omega arith))))
   next_is ts i (b ∷ rest) (Some found) e f l m c h =
       let g : IsTokenPrefix (drop i w) (Some found) = subst (λ x. IsTokenPrefix x (Some found)) e (f (omega arith)) in
       let d : ℕ = i + found.len in
       let p = prefix_within w (drop i w) found i refl m g in
-      elim (cases_Bool (nat_lt (length ts) 4096)) [
+      elim (cases_Bool (nat_lt (length ts) most)) [
         | inl a ↦
             let s = ltb-true _ _ a in
             let x = cut_on ts (ts ++ token_at i found ∷ []) w found i (run is_blank (drop (i + found.len) w)) (drop i w) (drop (i + found.len) w) refl refl m h g
@@ -226,19 +239,28 @@ module _ (w : List ℕ) (short : length w ≤ 16000) (n : ℕ)
         | inr a ↦
             let s = ltb-false _ _ a in
             let cut : Cut 0 w ts i (g.0 ++ g.1) = subst (λ x. Cut 0 w ts i x) g.2 h in
-            rw a (known (TooManyTokens i) refl, (short, ts, g.0, g.1, found.kind, cut, omega (arith, c), g.5))
+            rw a (known (TooManyTokens i) refl, (ts, g.0, g.1, found.kind, cut, omega (arith, c), g.5))
       ]
 
-tokens_are : (w : List ℕ) → length w ≤ 16000 → (n : ℕ) (ts : List Token) (i : ℕ) → length w < i + n → i ≤ length w → length ts ≤ 4096 → Cut 0 w ts i (drop i w) → Holds w (tokens_from n w ts i)
+tokens_are : (most : ℕ) (w : List ℕ) (n : ℕ) (ts : List Token) (i : ℕ) → length w < i + n → i ≤ length w → length ts ≤ most → Cut 0 w ts i (drop i w) → CutHolds most w (tokens_from most n w ts i)
 unfolding tokens_from
-tokens_are w s zero ts i l m c h = absurd (omega arith)
-tokens_are w s (suc n) ts i l m c h = next_is w s n (tokens_are w s n) ts i (drop i w) (prefix_of (drop i w)) refl (prefix_is (drop i w)) l m c h
+tokens_are most w zero ts i l m c h = absurd (omega arith)
+tokens_are most w (suc n) ts i l m c h = next_is most w n (tokens_are most w n) ts i (drop i w) (prefix_of (drop i w)) refl (prefix_is (drop i w)) l m c h
+
+pub cut_holds : (most : ℕ) (w : List ℕ) → CutHolds most w (cut most w)
+cut_holds most w = tokens_are most w (suc (length w)) [] (run is_blank w) (omega arith) (run_within is_blank w) (omega arith) (cut_start w (run is_blank w) (run_within is_blank w) (run_every is_blank w) (run_stops is_blank w))
+
+in_limits : (w : List ℕ) (a : Answer) → length w ≤ most_bytes → CutHolds most_tokens w a → Holds w a
+in_limits w (Tokens ts) l h = record { tokens = h.0; bytes = l; count = h.1 }
+in_limits w (Refused (Bad p)) l h = (h.0, inr (l, h.1))
+in_limits w (Refused (TooManyTokens p)) l h = (h.0, (l, h.1))
+in_limits w (Refused NoMemory) l h = (h.0, tt)
 
 pub answer_holds : (w : List ℕ) → Holds w (answer w)
 unfolding answer
-answer_holds w = elim (cases_Bool (nat_le (length w) 16000)) [
-  | inl e ↦ rw e (tokens_are w (leb-true _ _ e) (suc (length w)) [] (run is_blank w) (omega arith) (run_within is_blank w) (omega arith) (cut_start w (run is_blank w) (run_within is_blank w) (run_every is_blank w) (run_stops is_blank w)))
-  | inr e ↦ rw e (known (Bad 16000) refl, inl (leb-false _ _ e, refl))
+answer_holds w = elim (cases_Bool (nat_le (length w) most_bytes)) [
+  | inl e ↦ rw e (in_limits w (cut most_tokens w) (leb-true _ _ e) (cut_holds most_tokens w))
+  | inr e ↦ rw e (known (Bad most_bytes) refl, inl (leb-false _ _ e, refl))
 ]
 
 either : (w : List ℕ) (a : Answer) → Holds w a → IsLexedOrFaulty w
@@ -247,3 +269,11 @@ either w (Refused fault) h = inr (fault, h.0, h.1)
 
 pub lexed_or_faulty : (w : List ℕ) → IsLexedOrFaulty w
 lexed_or_faulty w = either w (answer w) (answer_holds w)
+
+line_either : (w : List ℕ) (a : Answer) → CutHolds (length w) w a → IsLineOrFaulty w
+line_either w (Tokens ts) h = inl (ts, h.0)
+line_either w (Refused fault) h = inr (fault, h.0, line_fault w fault h.1)
+
+pub line_or_faulty : (w : List ℕ) → IsLineOrFaulty w
+unfolding line_answer
+line_or_faulty w = line_either w (line_answer w) (cut_holds (length w) w)

@@ -62,22 +62,43 @@ Cut p w (t ∷ ts) q end =
 abbrev pub AreTokens : List ℕ → List Token → Type 0
 AreTokens w ts = Cut 0 w ts (length w) []
 
+-- a program has at most so many bytes, and so many tokens
+abbrev pub most_bytes : ℕ
+most_bytes = 16000
+
+abbrev pub most_tokens : ℕ
+most_tokens = 4096
+
 -- the text is these tokens, within the limits
 pub record IsLexed (w : List ℕ) (ts : List Token) : Type 0 where
   pub tokens : AreTokens w ts
-  pub bytes : length w ≤ 16000
-  pub count : length ts ≤ 4096
+  pub bytes : length w ≤ most_bytes
+  pub count : length ts ≤ most_tokens
 
--- what each fault says of the text
+-- What the cutting itself comes to, with a limit of tokens: a byte that begins no token, or one token too many.
+abbrev pub ExplainsCut : ℕ → List ℕ → LexFault → Type 0
+ExplainsCut most w (Bad place) = (ts : List Token) × (end : List ℕ) × Cut 0 w ts place end × (length ts ≤ most) × (0 < length end) × NoToken end
+ExplainsCut most w (TooManyTokens place) =
+    (ts : List Token) × (text : List ℕ) × (after : List ℕ) × (kind : Kind) × Cut 0 w ts place (text ++ after) × (length ts ≡ most) × IsToken text after kind
+ExplainsCut most w NoMemory = ⊤
+
+-- what each fault says of a program's text
 abbrev pub ExplainsLex : List ℕ → LexFault → Type 0
 ExplainsLex w (Bad place) =
-    ((16000 < length w) × (place ≡ 16000)) ⊎
-    ((length w ≤ 16000) × (ts : List Token) × (end : List ℕ) × Cut 0 w ts place end × (length ts ≤ 4096) × (0 < length end) × NoToken end)
-ExplainsLex w (TooManyTokens place) =
-    (length w ≤ 16000) × (ts : List Token) × (text : List ℕ) × (after : List ℕ) × (kind : Kind) ×
-    Cut 0 w ts place (text ++ after) × (length ts ≡ 4096) × IsToken text after kind
+    ((most_bytes < length w) × (place ≡ most_bytes)) ⊎ ((length w ≤ most_bytes) × ExplainsCut most_tokens w (Bad place))
+ExplainsLex w (TooManyTokens place) = (length w ≤ most_bytes) × ExplainsCut most_tokens w (TooManyTokens place)
 ExplainsLex w NoMemory = ⊤
 
 -- the text is tokens, or has a fault other than want of memory
 abbrev pub IsLexedOrFaulty : List ℕ → Type 0
 IsLexedOrFaulty w = ((ts : List Token) × IsLexed w ts) ⊎ ((fault : LexFault) × (fault ≡ NoMemory → ⊥) × ExplainsLex w fault)
+
+-- what each fault says of a text without limits: behind tokens and blanks stands a byte that begins no token
+abbrev pub ExplainsLine : List ℕ → LexFault → Type 0
+ExplainsLine w (Bad place) = (ts : List Token) × (end : List ℕ) × Cut 0 w ts place end × (0 < length end) × NoToken end
+ExplainsLine w (TooManyTokens place) = ⊥
+ExplainsLine w NoMemory = ⊤
+
+-- a text without limits is tokens, or has a fault other than want of memory
+abbrev pub IsLineOrFaulty : List ℕ → Type 0
+IsLineOrFaulty w = ((ts : List Token) × AreTokens w ts) ⊎ ((fault : LexFault) × (fault ≡ NoMemory → ⊥) × ExplainsLine w fault)

@@ -1,7 +1,8 @@
 //! The cut of a program into its tokens.
-ghost use Rattle.std.specs.Prelude.{◌≡◌, ◌≢◌, ◌≤◌, ◌+◌, ◌∷◌, ◌++◌, [], ℕ, List, length, IfOk, IfErr};
+ghost use Rattle.std.specs.Prelude.{◌≡◌, ◌≢◌, ◌<◌, ◌≤◌, ◌+◌, ◌^◌, ◌∷◌, ◌++◌, [], ℕ, List, length, IfOk, IfErr};
 ghost use Rattle.fz_lexer.specs.Prefixes.{token_at};
-ghost use Rattle.fz_lexer.specs.Tokens.{AreTokens, IsLexed, ExplainsLex, IsLexedOrFaulty};
+ghost use Rattle.fz_lexer.specs.Tokens.{AreTokens, IsLexed, ExplainsCut, ExplainsLex, IsLexedOrFaulty};
+ghost use Rattle.fz_lexer.specs.Tokens.{ExplainsLine, IsLineOrFaulty};
 ghost use Rattle.fz_lexer.specs.declared.token.Token.{Token};
 ghost use Rattle.fz_lexer.specs.declared.token.LexFault.{LexFault};
 
@@ -28,7 +29,7 @@ impl From<AllocError> for LexFault {
 
 /// Puts a token that begins at a place to the others.
 fn add(tokens: &mut Vec<Token>, found: TokenPrefix, place: usize) -> Result<(), AllocError>
-    requires { place + found.len ≤ 16000 }
+    requires { place + found.len < 2 ^ 32 }
     ensures { IfOk result (λ _. tokens.new.items ≡ tokens.old.items ++ token_at place found ∷ []) }
 {
     let span = Span {
@@ -42,19 +43,13 @@ fn add(tokens: &mut Vec<Token>, found: TokenPrefix, place: usize) -> Result<(), 
     Ok(())
 }
 
-/// Cuts a program into its tokens.
-///
-/// # Errors
-///
-/// `Bad` where the program is over 16,000 bytes long, or at the first byte that begins no token; `TooManyTokens` where
-/// token 4,097 begins; the earlier place first. `NoMemory` where memory ran out.
-pub fn lex(alloc: Global, bytes: &[u8]) -> Result<Vec<Token>, LexFault>
-    ensures tokens { IfOk result (λ tokens. IsLexed bytes.now tokens.items) }
-    ensures fault { IfErr result (λ fault. ExplainsLex bytes.now fault) }
+/// Cuts a text into at most `most` tokens.
+fn cut(alloc: Global, bytes: &[u8], most: usize) -> Result<Vec<Token>, LexFault>
+    requires { length bytes.now < 2 ^ 32 }
+    ensures tokens { IfOk result (λ tokens. AreTokens bytes.now tokens.items) }
+    ensures count { IfOk result (λ tokens. length tokens.items ≤ most) }
+    ensures fault { IfErr result (λ fault. ExplainsCut most bytes.now fault) }
 {
-    if bytes.len() > MOST_BYTES {
-        return Err(LexFault::Bad { place: 16000 });
-    }
     let mut tokens = Vec::new(alloc);
     let mut place = run(bytes, Class::Blank);
     while place < bytes.len() {
@@ -63,7 +58,7 @@ pub fn lex(alloc: Global, bytes: &[u8]) -> Result<Vec<Token>, LexFault>
                 place: place as u32,
             }),
             Some(found) => {
-                if tokens.len() == MOST_TOKENS {
+                if tokens.len() == most {
                     return Err(LexFault::TooManyTokens {
                         place: place as u32,
                     });
@@ -75,6 +70,38 @@ pub fn lex(alloc: Global, bytes: &[u8]) -> Result<Vec<Token>, LexFault>
         }
     }
     Ok(tokens)
+}
+
+/// Cuts a program into its tokens.
+///
+/// # Errors
+///
+/// `Bad` where the program is over 16,000 bytes long, or at the first byte that begins no token; `TooManyTokens` where
+/// token 4,097 begins; the earlier place first. `NoMemory` where memory ran out.
+pub fn lex(alloc: Global, bytes: &[u8]) -> Result<Vec<Token>, LexFault>
+    ensures tokens { IfOk result (λ tokens. IsLexed bytes.now tokens.items) }
+    ensures fault { IfErr result (λ fault. ExplainsLex bytes.now fault) }
+{
+    if bytes.len() > MOST_BYTES {
+        return Err(LexFault::Bad {
+            place: MOST_BYTES as u32,
+        });
+    }
+    cut(alloc, bytes, MOST_TOKENS)
+}
+
+/// Cuts a text of any length into its tokens.
+///
+/// # Errors
+///
+/// `Bad` at the first byte that begins no token; `NoMemory` where memory ran out.
+pub fn lex_line(alloc: Global, bytes: &[u8]) -> Result<Vec<Token>, LexFault>
+    requires { length bytes.now < 2 ^ 32 }
+    ensures tokens { IfOk result (λ tokens. AreTokens bytes.now tokens.items) }
+    ensures fault { IfErr result (λ fault. ExplainsLine bytes.now fault) }
+{
+    // A token takes a byte at least.
+    cut(alloc, bytes, bytes.len())
 }
 
 /// A program is cut in one way at most.
@@ -96,4 +123,20 @@ pub fn one_fault()
 /// Any bytes are the tokens of a program, or have a fault that is no want of memory.
 pub fn every_text_is_lexed()
     ensures { (w : List ℕ) → IsLexedOrFaulty w }
+{}
+
+/// A text without limits that is refused, other than for want of memory, is no list of tokens.
+pub fn refused_line_is_none()
+    ensures { (w : List ℕ) (fault : LexFault) (ts : List Token) → ExplainsLine w fault → AreTokens w ts → fault ≡ LexFault.NoMemory }
+{}
+
+/// Nothing but want of memory can stand in the place of the fault of a text without limits.
+pub fn one_line_fault()
+    ensures { (w : List ℕ) (fault other : LexFault) → ExplainsLine w fault → ExplainsLine w other →
+        fault ≢ LexFault.NoMemory → other ≢ LexFault.NoMemory → other ≡ fault }
+{}
+
+/// Any bytes are tokens, or have a byte that begins none after tokens.
+pub fn every_line_is_lexed()
+    ensures { (w : List ℕ) → IsLineOrFaulty w }
 {}

@@ -8,5 +8,8 @@ mod sign;
 mod token;
 mod word;
 
-pub use lexer::{every_text_is_lexed, lex, one_cut, one_fault, refused_is_none};
+pub use lexer::{
+    every_line_is_lexed, every_text_is_lexed, lex, lex_line, one_cut, one_fault, one_line_fault,
+    refused_is_none, refused_line_is_none,
+};
 pub use token::{Kind, LexFault, Lexeme, Sign, Token, Word};

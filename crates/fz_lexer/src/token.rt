@@ -135,7 +135,7 @@ pub struct Token {
     pub span: Span,
 }
 
-/// Why bytes are no tokens. Places count bytes from 0.
+/// Why bytes are no tokens. Places count bytes from 0. A program has at most 16,000 bytes and 4,096 tokens.
 #[derive(Clone, Copy, Debug, PartialEq, Eq)]
 pub enum LexFault {
     /// No token begins at this byte; or the program is over 16,000 bytes long, and the place is 16,000.

@@ -4,6 +4,7 @@ pub mod Theory
 pub mod Cutting
 pub mod Words
 pub mod Machine
+pub mod Phrases
 pub mod Entries
 pub mod Makers
 pub mod Making
@@ -13,4 +14,7 @@ pub mod Written
 pub mod Limits
 pub mod Parsing
 pub mod Printing
+pub mod Spans
+pub mod Types
 pub mod Examples
+pub mod ExamplesOfTypes

@@ -3,9 +3,10 @@ use Rattle.std.proofs.Common.{◌≡◌, ℕ, zero, suc, ◌*◌, ◌/◌, ◌^�
 use Rattle.std.specs.Prelude.{pos, neg_ℤ, ⊤}
 use Rattle.std.proofs.lemmas.Bool.{and_parts}
 use Rattle.std.proofs.lemmas.Int.{ints}
-use Rattle.fz_frac.specs.Distance.{Fin}
+use Rattle.fz_frac.specs.Distance.{Distance, Fin}
 use Rattle.fz_frac.specs.Lowest.{gcd, widest}
 use Rattle.fz_frac.proofs.Lowest.{gcd_is, gcd_one, coprime, lowest as lowest_parts}
+use Rattle.fz_ast.specs.Types.{Ty}
 use Rattle.fz_ast.specs.Terms.{Term, at}
 use Rattle.fz_ast.specs.Limits.{IsNumber, IsName, IsText, IsBang, TypeLimits, TermLimits}
 use Rattle.fz_ast.specs.declared.term.Arrow.TheVariants.{Fun, Fn}
@@ -28,14 +29,15 @@ use Rattle.fz_parser.specs.declared.grammar.Joint.TheVariants.{Lollipop, Sum, Te
 use Rattle.fz_parser.specs.declared.grammar.Action.{Action}
 use Rattle.fz_parser.specs.declared.grammar.Action.TheVariants.{Begin, LambdaTerm, LetBangTerm, LetPairTerm, LetTerm, CaseTerm, IfTerm, InfixTerm, NegativeTerm, NegativeTimesTerm, TimesTerm, NumberTerm, UnaryTerm, RangedTerm, InjectTerm, BangTerm, PrefixTerm, NameTerm, TextTerm, TruthTerm, UnitTerm, GroupTerm, PlainInteger, NegativeInteger, WholeFactor, FractionFactor, InfFactor, JoinType, ArrowType, BangType, BagType, NumType, TextType, UnitType, BoolType, GroupType}
 use Rattle.fz_parser.specs.Parts.{What, BegunPart, NamePart, NumberPart, PositivePart, TextPart, IntegerPart, FactorPart, TypePart, TermPart, StackPart, State, sort_of, takes, made, build, shift, token_parts, nothing, part, in_name, in_number, in_positive, in_text, in_integer, in_factor, in_type, in_term, in_lowest_terms, arity, whole}
-use Rattle.fz_parser.specs.Grammar.{Fits, body, empty, only, IsTerm}
+use Rattle.fz_parser.specs.declared.grammar.Phrase.{Phrase}
+use Rattle.fz_parser.specs.Grammar.{Fits, body, empty, alone, IsPhrase, IsTerm, IsTypeOf, IsSensitivityOf}
 use Rattle.fz_parser.specs.Reads.{ReadsIn}
 use Rattle.fz_parser.specs.Tests.{begins_with}
-use Rattle.fz_parser.specs.Steps.{sorts, Level, START}
+use Rattle.fz_parser.specs.Steps.{sorts, Level, IsGoal, START}
 use Rattle.fz_parser.specs.Kept.{sort_at}
 use Rattle.fz_parser.proofs.Making.{ready_at}
 use Rattle.fz_parser.proofs.Words.{level_rule, level_act, level_token}
-use Rattle.fz_parser.proofs.Machine.{sound_start, reads_of}
+use Rattle.fz_parser.proofs.Machine.{sound_start, reads_of, term_goal, type_goal, sensitivity_goal}
 
 -- what is kept of a part
 abbrev IsLimited : What → Type 0
@@ -307,7 +309,7 @@ shift_limited k t s f h = go k t.kind f
     go (Keyword v) kind f = h
     go (Symbol c) kind f = h
 
-limited : (n : ℕ) (σ : List Item) (w : List Token) (s r : State) → ReadsIn n σ w s r → Level σ (sorts s) → AllLimited s.parts → AllLimited r.parts
+limited : {goal : Phrase} (n : ℕ) (σ : List Item) (w : List Token) (s r : State) → ReadsIn n σ w s r → Level goal σ (sorts s) → AllLimited s.parts → AllLimited r.parts
 limited zero [] [] s r h v l = subst (λ x. AllLimited x.parts) h l
 limited zero [] (t ∷ w) s r h v l = absurd h
 limited zero (i ∷ σ) w s r h v l = absurd h
@@ -318,8 +320,21 @@ limited (suc n) (Make a ∷ σ) w s r h v l =
     limited n σ w (build a s) r h (level_act a σ s v) (build_limited a s (and_parts (begins_with (takes a) (sorts s)) _ v.enough).0 l)
 limited (suc n) (Read a ∷ σ) w s r h v l = limited n (body h.0 ++ σ) w s r h.3 (level_rule h.0 a σ (sorts s) h.1 h.2 v) l
 
+-- so is what is read by itself
+part_limits : {goal : Phrase} → IsGoal goal → (ts : List Token) (x : What) → IsPhrase goal ts x → IsLimited x
+part_limits {goal} g ts x h =
+    let d = reads_of ts x h in
+    (limited d.2.0 (START goal) ts empty (alone d.0 d.1 x) d.2.1 (sound_start g).level tt).0
+
 -- names, numbers, texts and bang numbers of a term are within the limits
 pub term_limits : (ts : List Token) (e : Term) → IsTerm ts e → TermLimits e
-term_limits ts e h =
-    let x = reads_of ts e h in
-    (limited x.2.0 START ts empty (only x.0 x.1 e) x.2.1 sound_start.level tt).0
+unfolding IsTerm
+term_limits ts e h = part_limits term_goal ts (TermPart e) h
+
+pub type_limits : (ts : List Token) (T : Ty) → IsTypeOf ts T → TypeLimits T
+unfolding IsTypeOf
+type_limits ts T h = part_limits type_goal ts (TypePart h.0 T) h.1
+
+pub sensitivity_limits : (ts : List Token) (d : Distance) → IsSensitivityOf ts d → IsBang d
+unfolding IsSensitivityOf
+sensitivity_limits ts d h = part_limits sensitivity_goal ts (FactorPart d) h

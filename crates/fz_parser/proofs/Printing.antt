@@ -1,6 +1,7 @@
 -- What is written reads as the term, but for its spans: a derivation for each form, put together of its parts'.
-use Rattle.std.proofs.Common.{◌≡◌, ℕ, suc, ◌/◌, ◌^◌, ◌<◌, ◌≤◌, List, [], ◌∷◌, ◌++◌, refl, arith, sym, subst, length}
-use Rattle.std.specs.Prelude.{ℤ, pos, negsuc}
+use Rattle.std.proofs.Common.{inl, inr, ◌≡◌, ℕ, suc, ◌/◌, ◌^◌, ◌<◌, ◌≤◌, List, [], ◌∷◌, ◌++◌, refl, arith, sym, subst, length}
+use Rattle.std.specs.Prelude.{ℤ, pos, negsuc, nat_eq}
+use Rattle.std.proofs.lemmas.Bool.{cases_Bool, eqb-true}
 use Rattle.std.proofs.lemmas.Int.{ints}
 use Rattle.fz_frac.specs.Distance.{Distance, Fin, Inf}
 use Rattle.fz_frac.specs.Lowest.{gcd}
@@ -20,7 +21,7 @@ use Rattle.fz_parser.specs.declared.grammar.Phrase.{Phrase}
 use Rattle.fz_parser.specs.declared.grammar.Phrase.TheVariants.{Expression, Addition, Multiplication, Application, Atom, Simple, Integer, Sensitivity, AnyType, PrefixType}
 use Rattle.fz_parser.specs.Table.{rules, rule_count}
 use Rattle.fz_parser.specs.Parts.{StackPart, State, IntegerPart, FactorPart, TypePart, TermPart, takes, arity, shift, build, in_lowest_terms}
-use Rattle.fz_parser.specs.Grammar.{Fits, head, body, empty, only, IsTerm}
+use Rattle.fz_parser.specs.Grammar.{Fits, head, body, empty, only, IsTerm, IsTypeOf, IsSensitivityOf}
 use Rattle.fz_parser.specs.Reads.{Reads}
 use Rattle.fz_parser.specs.Steps.{START}
 use Rattle.fz_parser.specs.Printer.{Tokens, word, sign, name_token, number_token, text_token, in_parentheses, in_brackets, written_integer, written_factor, written_type, written}
@@ -226,7 +227,10 @@ infinite = record { reads = λ σ k l ps r h. rule_ 58 (omega arith) refl (take_
 
 fraction : (p q : ℕ) → (0 < p) × (p < 2 ^ 32) → (0 < q) × (q < 2 ^ 32) → gcd p q ≡ 1 → Gives Sensitivity (written_factor (Fin p q)) (factor_part (Fin p q))
 unfolding rules head body takes arity shift build
-fraction p q f g e = record { reads = λ σ k l ps r h. rule_ 55 (omega arith) refl (take_ f (rule_ 56 (omega arith) refl (take_ refl (take_ g (make_ (subst (λ d. Goes σ k (on (factor_part d ∷ ps)) r) (sym (same_fraction p q e)) h)))))) }
+fraction p q f g e = record { reads = λ σ k l ps r h. elim (cases_Bool (nat_eq q 1)) [
+  | inl z ↦ rw z (rule_ 55 (omega arith) refl (take_ f (rule_ 57 (omega arith) refl (make_ (subst (λ n. Goes σ k (on (factor_part (Fin p n) ∷ ps)) r) (eqb-true q 1 z) h)))))
+  | inr z ↦ rw z (rule_ 55 (omega arith) refl (take_ f (rule_ 56 (omega arith) refl (take_ refl (take_ g (make_ (subst (λ d. Goes σ k (on (factor_part d ∷ ps)) r) (sym (same_fraction p q e)) h)))))))
+] }
 
 factor : (r : Distance) → IsBang r → Gives Sensitivity (written_factor r) (factor_part r)
 factor (Fin p q) h = fraction p q (omega (arith, h.0), omega (arith, h.1)) (omega (arith, h.2), omega (arith, h.3)) h.4
@@ -363,5 +367,20 @@ pub reads_back : (e : Term) → TermLimits e → IsTerm (written e []) (bare e)
 unfolding IsTerm
 reads_back e h =
     let start : Goes [] [] (on (term_part (bare e) ∷ [])) (only nowhere 0 (bare e)) = record { reads = (0, refl) } in
-    let g : Goes START (written e []) empty (only nowhere 0 (bare e)) = (expression (back e h)).reads [] [] nowhere [] (only nowhere 0 (bare e)) start in
-    (nowhere, 0, (one START (written e []) empty (only nowhere 0 (bare e))).0 g.reads)
+    let g : Goes (START Expression) (written e []) empty (only nowhere 0 (bare e)) = (expression (back e h)).reads [] [] nowhere [] (only nowhere 0 (bare e)) start in
+    (nowhere, 0, (one (START Expression) (written e []) empty (only nowhere 0 (bare e))).0 g.reads)
+
+-- a type and a sensitivity by themselves
+pub type_reads_back : (T : Ty) → TypeLimits T → IsTypeOf (written_type T []) T
+unfolding IsTypeOf
+type_reads_back T h =
+    let start : Goes [] [] (on (type_part T ∷ [])) (on (type_part T ∷ [])) = record { reads = (0, refl) } in
+    let g : Goes (START AnyType) (written_type T []) empty (on (type_part T ∷ [])) = (any_type (type_back T h)).reads [] [] nowhere [] (on (type_part T ∷ [])) start in
+    (nowhere, (nowhere, 0, (one (START AnyType) (written_type T []) empty (on (type_part T ∷ []))).0 g.reads))
+
+pub sensitivity_reads_back : (d : Distance) → IsBang d → IsSensitivityOf (written_factor d []) d
+unfolding IsSensitivityOf
+sensitivity_reads_back d h =
+    let start : Goes [] [] (on (factor_part d ∷ [])) (on (factor_part d ∷ [])) = record { reads = (0, refl) } in
+    let g : Goes (START Sensitivity) (written_factor d []) empty (on (factor_part d ∷ [])) = (factor d h).reads [] [] nowhere [] (on (factor_part d ∷ [])) start in
+    (nowhere, 0, (one (START Sensitivity) (written_factor d []) empty (on (factor_part d ∷ []))).0 g.reads)

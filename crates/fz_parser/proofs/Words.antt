@@ -1,4 +1,4 @@
--- Each stack stands for some word, finds its parts and leaves one term, and expands only so often.
+-- Each stack stands for some word, finds its parts and leaves one part, and expands only so often.
 use Rattle.std.proofs.Common.{◌≡◌, ℕ, zero, suc, ◌+◌, ◌-◌, ◌<◌, ◌≤◌, List, [], ◌∷◌, ◌++◌, true, false, get_or, refl, arith, sym, ap, ◌∙◌, subst, inl, inr, take, drop, length, append_assoc, drop-cons, reverse}
 use Rattle.std.proofs.lemmas.List.{reverse-append}
 use Rattle.std.specs.Prelude.{◌&&◌, ◌||◌, nat_eq, nat_lt}
@@ -14,7 +14,7 @@ use Rattle.fz_parser.specs.declared.grammar.Action.{Action}
 use Rattle.fz_parser.specs.declared.grammar.Action.TheVariants.{Begin, LambdaTerm, LetBangTerm, LetPairTerm, LetTerm, CaseTerm, IfTerm, InfixTerm, NegativeTerm, NegativeTimesTerm, TimesTerm, NumberTerm, UnaryTerm, RangedTerm, InjectTerm, BangTerm, PrefixTerm, NameTerm, TextTerm, TruthTerm, UnitTerm, GroupTerm, PlainInteger, NegativeInteger, WholeFactor, FractionFactor, InfFactor, JoinType, ArrowType, BangType, BagType, NumType, TextType, UnitType, BoolType, GroupType}
 use Rattle.fz_parser.specs.declared.tables.TheConstants.{ITEMS, STARTS}
 use Rattle.fz_parser.specs.Table.{rule_count}
-use Rattle.fz_parser.specs.Parts.{StackPart, State, shift, build, made, whole, arity, takes, gives, sort_of, term}
+use Rattle.fz_parser.specs.Parts.{StackPart, State, shift, build, made, whole, arity, takes, gives, sort_of}
 use Rattle.fz_parser.specs.Grammar.{head, body}
 use Rattle.fz_parser.specs.Reads.{ReadsIn, Reads}
 use Rattle.fz_parser.specs.Classes.{phrase_number}
@@ -111,7 +111,7 @@ after-append (Take k ∷ β) σ h = after-append β σ _
 after-append (Make a ∷ β) σ h = after-append β σ _
 after-append (Read a ∷ β) σ h = after-append β σ _
 
-pub level_rule : (p : ℕ) (a : Phrase) (σ : List Item) (h : List ℕ) → p < rule_count → head p ≡ a → Level (Read a ∷ σ) h → Level (body p ++ σ) h
+pub level_rule : {goal : Phrase} (p : ℕ) (a : Phrase) (σ : List Item) (h : List ℕ) → p < rule_count → head p ≡ a → Level goal (Read a ∷ σ) h → Level goal (body p ++ σ) h
 level_rule p a σ h l e v =
     let x = and_parts (begins_with (phrase_takes a) h) (fine σ (phrase_gives a ∷ drop (length (phrase_takes a)) h)) v.enough in
     let b = level_at p l in
@@ -181,13 +181,13 @@ sorts-shift Quoted t s = refl
 sorts-shift (Keyword w) t s = refl
 sorts-shift (Symbol c) t s = refl
 
-pub level_act : (a : Action) (σ : List Item) (s : State) → Level (Make a ∷ σ) (sorts s) → Level σ (sorts (build a s))
+pub level_act : {goal : Phrase} (a : Action) (σ : List Item) (s : State) → Level goal (Make a ∷ σ) (sorts s) → Level goal σ (sorts (build a s))
 level_act a σ s v = rw (sorts-build a s) (record { enough = (and_parts (begins_with (takes a) (sorts s)) _ v.enough).1; one = v.one })
 
-pub level_token : (k : Terminal) (σ : List Item) (t : Token) (s : State) → Level (Take k ∷ σ) (sorts s) → Level σ (sorts (shift k t s))
+pub level_token : {goal : Phrase} (k : Terminal) (σ : List Item) (t : Token) (s : State) → Level goal (Take k ∷ σ) (sorts s) → Level goal σ (sorts (shift k t s))
 level_token k σ t s v = rw (sorts-shift k t s) (record { enough = v.enough; one = v.one })
 
-pub one_left : (n : ℕ) (σ : List Item) (w : List Token) (s r : State) → ReadsIn n σ w s r → Level σ (sorts s) → sorts r ≡ term ∷ []
+pub one_left : {goal : Phrase} (n : ℕ) (σ : List Item) (w : List Token) (s r : State) → ReadsIn n σ w s r → Level goal σ (sorts s) → sorts r ≡ phrase_gives goal ∷ []
 one_left zero [] [] s r h v = ap sorts (sym h) ∙ v.one
 one_left zero [] (t ∷ w) s r h v = absurd h
 one_left zero (i ∷ σ) w s r h v = absurd h

@@ -1,6 +1,8 @@
--- What it is for tokens to be a term: each item of a rule's body stands for a part of the text, and the text is cut.
+-- What it is for tokens to be a term, a type or a sensitivity: each item of a rule's body stands for a part of the text, and the text is cut.
 use Rattle.std.specs.Prelude.{◌≡◌, ℕ, zero, suc, ◌^◌, ◌<◌, ◌≤◌, List, [], ◌∷◌, ◌++◌, get_or, length}
 use Rattle.fz_ast.specs.declared.span.Span.{Span}
+use Rattle.fz_frac.specs.Distance.{Distance}
+use Rattle.fz_ast.specs.Types.{Ty}
 use Rattle.fz_ast.specs.Terms.{Term}
 use Rattle.fz_lexer.specs.declared.token.Token.{Token}
 use Rattle.fz_lexer.specs.declared.token.Kind.{Kind}
@@ -10,9 +12,9 @@ use Rattle.fz_parser.specs.declared.grammar.Terminal.TheVariants.{Named, Numeral
 use Rattle.fz_parser.specs.declared.grammar.Item.{Item}
 use Rattle.fz_parser.specs.declared.grammar.Item.TheVariants.{Take, Read, Make}
 use Rattle.fz_parser.specs.declared.grammar.Phrase.{Phrase}
-use Rattle.fz_parser.specs.declared.grammar.Phrase.TheVariants.{Expression}
+use Rattle.fz_parser.specs.declared.grammar.Phrase.TheVariants.{Expression, Sensitivity, AnyType}
 use Rattle.fz_parser.specs.Table.{Rule, rules, rule_count}
-use Rattle.fz_parser.specs.Parts.{State, TermPart, shift, build}
+use Rattle.fz_parser.specs.Parts.{State, What, FactorPart, TypePart, TermPart, shift, build}
 
 -- a token of this kind may stand there; one outside the limits of names, numbers and texts stands nowhere
 abbrev pub Fits : Terminal → Kind → Type 0
@@ -56,14 +58,26 @@ Derives σ w s r = (n : ℕ) × DerivesIn n σ w s r
 abbrev pub empty : State
 empty = record { last = record { from = 0; to = 0 }; parts = [] }
 
+-- one part, which is all that was read
+abbrev pub alone : Span → ℕ → What → State
+alone last from x = record { last = last; parts = record { from = from; what = x } ∷ [] }
+
+-- the tokens are the phrase, and make this part
+abbrev pub IsPhrase : Phrase → List Token → What → Type 0
+IsPhrase goal ts x = (last : Span) × (from : ℕ) × Derives (Read goal ∷ []) ts empty (alone last from x)
+
 -- one part, which is the term
 abbrev pub only : Span → ℕ → Term → State
-only last from e = record { last = last; parts = record { from = from; what = TermPart e } ∷ [] }
+only last from e = alone last from (TermPart e)
 
 -- the tokens are the term
 unfoldable pub IsTerm : List Token → Term → Type 0
-IsTerm ts e = (last : Span) × (from : ℕ) × Derives (Read Expression ∷ []) ts empty (only last from e)
+IsTerm ts e = IsPhrase Expression ts (TermPart e)
 
--- a term begins with these tokens
-abbrev pub BeginsTerm : List Token → Type 0
-BeginsTerm ts = (more : List Token) × (e : Term) × IsTerm (ts ++ more) e
+-- the tokens are the type, whatever its span is
+unfoldable pub IsTypeOf : List Token → Ty → Type 0
+IsTypeOf ts T = (span : Span) × IsPhrase AnyType ts (TypePart span T)
+
+-- the tokens are the sensitivity
+unfoldable pub IsSensitivityOf : List Token → Distance → Type 0
+IsSensitivityOf ts d = IsPhrase Sensitivity ts (FactorPart d)

@@ -1,7 +1,6 @@
 -- What the code's entries stand for.
 use Rattle.std.specs.Prelude.{◌≡◌, ℕ, ◌^◌, ◌<◌, ◌≤◌, List, [], ◌∷◌, reverse, Option, Some, None, ⊤}
 use Rattle.fz_frac.specs.Sens.{distance_of}
-use Rattle.fz_ast.specs.Terms.{Term}
 use Rattle.fz_ast.specs.Parts.{Parts}
 use Rattle.fz_ast.specs.Names.{name_of, text_of}
 use Rattle.fz_ast.specs.TypeNodes.{type_at}
@@ -14,9 +13,11 @@ use Rattle.fz_parser.specs.declared.reader.Held.{Held}
 use Rattle.fz_parser.specs.declared.reader.Held.TheVariants.{Begun, Name, Number, Positive, Text, Integer, Factor, Written, Term as HeldTerm}
 use Rattle.fz_parser.specs.declared.reader.Entry.{Entry}
 use Rattle.fz_parser.specs.declared.reader.Reader.{Reader}
-use Rattle.fz_parser.specs.Grammar.{only, IsTerm}
+use Rattle.fz_parser.specs.declared.grammar.Phrase.{Phrase}
+use Rattle.fz_parser.specs.Grammar.{alone, IsPhrase}
 use Rattle.fz_parser.specs.Parts.{StackPart, What, BegunPart, NamePart, NumberPart, PositivePart, TextPart, IntegerPart}
 use Rattle.fz_parser.specs.Parts.{FactorPart, TypePart, TermPart, State, part, sort_of, token_parts}
+use Rattle.fz_parser.specs.Tests.{phrase_gives}
 
 abbrev pub what_of : Parts → Held → What
 what_of N Begun = BegunPart
@@ -73,6 +74,6 @@ pub record Makes (old new : Reader) (held : Held) (what : What) : Type 0 where
   pub known : IsHeld new.nodes held
   pub is : what_of new.nodes held ≡ what
 
--- the tokens are a term, which is the one part that was read
-abbrev pub IsReadAsTerm : List Token → Reader → Type 0
-IsReadAsTerm ts r = (from : ℕ) × (e : Term) × (state_of r ≡ only r.last from e) × IsInOrder r × IsTerm ts e
+-- the tokens are the goal, which is the one part that was read
+abbrev pub IsReadAs : Phrase → List Token → Reader → Type 0
+IsReadAs goal ts r = (from : ℕ) × (x : What) × (state_of r ≡ alone r.last from x) × IsInOrder r × IsPhrase goal ts x × (sort_of x ≡ phrase_gives goal)

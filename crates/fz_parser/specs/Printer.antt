@@ -1,5 +1,5 @@
--- How a term is written: its tokens, before those of what follows. What is no name, text or pair stands in parentheses.
-use Rattle.std.specs.Prelude.{ℕ, suc, List, ◌∷◌, ℤ, pos, negsuc}
+-- How a term is written: its tokens, before those of what follows. What is no name, text or pair stands in parentheses, and so does each infix type.
+use Rattle.std.specs.Prelude.{ℕ, suc, List, [], ◌∷◌, ℤ, pos, negsuc, cond, nat_eq}
 use Rattle.fz_frac.specs.Distance.{Distance, Fin, Inf}
 use Rattle.fz_ast.specs.Types.{Ty, NumT, TextT, UnitT, TensorT, WithT, SumT, ArrowT, BangT, BagT}
 use Rattle.fz_ast.specs.Terms.{Term, at, VarE, NumE, TextE, UnitE, PairE, WithE, FstE, SndE, LetPairE, InlE, InrE, CaseE, IfE, FunE, FnE, AppE}
@@ -54,8 +54,9 @@ written_integer (negsuc n) k = sign Minus ∷ number_token (suc n) ∷ k
 abbrev pub written_bounds : ℤ → ℤ → Tokens
 written_bounds lo hi = in_brackets (λ k. written_integer lo (sign Comma ∷ written_integer hi k))
 
+-- `2/3`, `2`, `inf`
 abbrev pub written_factor : Distance → Tokens
-written_factor (Fin p q) k = number_token p ∷ sign Slash ∷ number_token q ∷ k
+written_factor (Fin p q) k = number_token p ∷ cond (nat_eq q 1) k (sign Slash ∷ number_token q ∷ k)
 written_factor Inf k = word InfWord ∷ k
 
 abbrev pub written_type : Ty → Tokens
@@ -108,3 +109,14 @@ written (at s (UnionE a b)) k = in_parentheses (λ k. word Union ∷ written a (
 written (at s (MapE f b)) k = in_parentheses (λ k. word Map ∷ written f (written b k)) k
 written (at s (FilterE f b)) k = in_parentheses (λ k. word Filter ∷ written f (written b k)) k
 written (at s (SplitE f b)) k = in_parentheses (λ k. word Split ∷ written f (written b k)) k
+
+-- what tokens are, wherever they stand
+abbrev pub kinds_of : List Token → List Kind
+kinds_of [] = []
+kinds_of (t ∷ ts) = t.kind ∷ kinds_of ts
+
+abbrev pub type_kinds : Ty → List Kind
+type_kinds T = kinds_of (written_type T [])
+
+abbrev pub factor_kinds : Distance → List Kind
+factor_kinds d = kinds_of (written_factor d [])

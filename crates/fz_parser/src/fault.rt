@@ -1,11 +1,11 @@
-//! Why tokens are no term.
+//! Why tokens aren't what is wanted: a term, a type or a sensitivity.
 use fz_ast::NoMemory;
 use std::alloc::AllocError;
 
-/// Why tokens are no term.
+/// Why tokens aren't what is wanted.
 #[derive(Clone, Copy, Debug, PartialEq, Eq)]
 pub enum ParseFault {
-    /// No term begins with the tokens up to and with this one, or they end too early.
+    /// None begins with the tokens up to and with this one, or they end too early.
     Stuck { token: usize },
     /// The term's tree is so deep, over 64.
     TooNested { depth: u64 },

@@ -6,6 +6,6 @@ use Rattle.fz_parser.proofs.parser.read.Given as goal
 abbrev pub invariant-loop-place : goal.invariant-loop-place
 invariant-loop-place l = record {
   kept : IsInOrder l.reader;
-  sound : Sound (reverse l.stack.items) (state_of l.reader);
-  at : At (take l.place l.tokens) (drop l.place l.tokens) (reverse l.stack.items) (state_of l.reader);
+  sound : Sound l.fn.goal (reverse l.stack.items) (state_of l.reader);
+  at : At l.fn.goal (take l.place l.tokens) (drop l.place l.tokens) (reverse l.stack.items) (state_of l.reader);
 }

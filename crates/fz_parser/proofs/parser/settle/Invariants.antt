@@ -1,5 +1,6 @@
 use Rattle.std.proofs.Common.{◌≡◌, reverse, List}
 use Rattle.fz_lexer.specs.declared.token.Token.{Token}
+use Rattle.fz_parser.specs.declared.grammar.Phrase.{Phrase}
 use Rattle.fz_parser.specs.Tests.{lead}
 use Rattle.fz_parser.specs.Steps.{front, Sound, At}
 use Rattle.fz_parser.specs.Kept.{state_of, IsInOrder}
@@ -8,9 +9,9 @@ use Rattle.fz_parser.proofs.parser.settle.Given as goal
 abbrev pub invariant-loop-item : goal.invariant-loop-item
 invariant-loop-item l = record {
   kept : IsInOrder l.reader;
-  sound : Sound (reverse l.stack.items) (state_of l.reader);
-  at : (read rest : List Token) → front rest ≡ l.class → At read rest (reverse l.initial.stack.items) (state_of l.initial.reader) →
-      At read rest (reverse l.stack.items) (state_of l.reader);
+  sound : (goal : Phrase) → Sound goal (reverse l.initial.stack.items) (state_of l.initial.reader) → Sound goal (reverse l.stack.items) (state_of l.reader);
+  at : (goal : Phrase) (read rest : List Token) → front rest ≡ l.class → Sound goal (reverse l.initial.stack.items) (state_of l.initial.reader) →
+      At goal read rest (reverse l.initial.stack.items) (state_of l.initial.reader) → At goal read rest (reverse l.stack.items) (state_of l.reader);
 }
 
 abbrev pub decreases-loop-item : goal.decreases-loop-item

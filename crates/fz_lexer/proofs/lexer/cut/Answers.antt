@@ -1,10 +1,10 @@
-use Rattle.std.proofs.Common.{ℕ, ◌+◌, ◌-◌, ◌<◌, List, arith, length, inr, take, drop, subst, ap, length-drop, length-append}
+use Rattle.std.proofs.Common.{ℕ, ◌+◌, ◌-◌, ◌<◌, List, arith, length, take, drop, subst, ap, length-drop, length-append}
 use Rattle.fz_lexer.specs.declared.token.Token.{Token}
 use Rattle.std.specs.Prelude.{None, Some}
 use Rattle.fz_lexer.specs.Prefixes.{IsTokenPrefix}
 use Rattle.fz_lexer.proofs.Prefixes.{tail_all}
-use Rattle.fz_lexer.proofs.Cuts.{cut_start, cut_on, lexed}
-use Rattle.fz_lexer.proofs.lexer.lex.Goals as goal
+use Rattle.fz_lexer.proofs.Cuts.{cut_start, cut_on, cut_whole}
+use Rattle.fz_lexer.proofs.lexer.cut.Goals as goal
 
 pub loop-place-init : goal.loop-place-init
 loop-place-init c = rw c.new-tokens.ensures.items (record {
@@ -19,7 +19,7 @@ returns-in-None-clause-fault c =
     let l : 0 < length (drop c.loop-place.place c.args.bytes.now) = omega (arith, length-drop c.loop-place.place c.args.bytes.now) in
     let n : IsTokenPrefix (drop c.loop-place.place c.args.bytes.now) None =
     subst (λ x. IsTokenPrefix x None) (tail_all c.args.bytes.now c.loop-place.place) (subst (IsTokenPrefix _) c.in-None.is c.in_ok-token_prefix.ensures) in
-    inr (omega arith, c.loop-place.tokens.items, R, c.loop-place.invariant.cut, c.loop-place.invariant.count, l, n)
+    (c.loop-place.tokens.items, R, c.loop-place.invariant.cut, c.loop-place.invariant.count, l, n)
 
 pub loop-place-preserved : goal.loop-place-preserved
 loop-place-preserved c =
@@ -30,4 +30,4 @@ loop-place-preserved c =
     record { within = x.0; count = omega (arith, ap length c.in_ok-add-in-Some.ensures, length-append {A = Token}); cut = x.1 }
 
 pub returns-clause-tokens : goal.returns-clause-tokens
-returns-clause-tokens c = lexed c.loop-place.tokens.items c.args.bytes.now c.loop-place.place (omega arith) c.loop-place.invariant.cut (omega arith) c.loop-place.invariant.count
+returns-clause-tokens c = cut_whole c.loop-place.tokens.items c.args.bytes.now c.loop-place.place (omega arith) c.loop-place.invariant.cut
