@@ -95,7 +95,7 @@ module _ (layout : Layout) (bytes : List ℕ) (k : ℕ) (records : List Record) 
       → SlotAdded layout bytes k closed records new (Ok tt) → Scanned layout bytes (k + 1) new
   scanned-added closed new within all added = ⊎_elim
       (λ is. let its = added.1 is in subst (λ (rs : List Record). Scanned layout bytes (k + 1) rs) (sym its.3)
-          (scanned-some its.1 (omega (arith, scanned.counted, all its.0)) within its.2))
+      (scanned-some its.1 (omega (arith, scanned.counted, all its.0)) within its.2))
       (λ isnt. subst (λ (rs : List Record). Scanned layout bytes (k + 1) rs) (sym (added.0 isnt)) (scanned-none within isnt))
       (cases_eq (gate_of layout bytes k) gate)
 
