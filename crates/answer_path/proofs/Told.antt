@@ -38,7 +38,7 @@ use Rattle.answer_path.specs.declared.program.Accepted.{Accepted}
 use Rattle.answer_path.specs.declared.program.Admitted.{Admitted}
 use Rattle.answer_path.specs.declared.program.Unadmitted.{Unadmitted}
 use Rattle.answer_path.specs.declared.program.Unadmitted.TheVariants.{Refused as Said, TooManyWalks as WalksTooMuch}
-use Rattle.answer_path.specs.Code.{IsAccepted, IsAdmitted, IsProgramRefusal, IsRefusedFor, IsTermRefusal, IsUndecided, IsUnadmitted, lex_refusal, parse_refusal, limit_refusal, told_of, HasTable, TellsFault}
+use Rattle.answer_path.specs.Code.{IsAccepted, IsAdmitted, IsProgramRefusal, IsRefusedFor, IsTermRefusal, IsUndecided, IsUnadmitted, IsUnread, lex_refusal, parse_refusal, limit_refusal, told_of, HasTable, TellsFault}
 use Rattle.answer_path.proofs.Readings.{one_reading}
 use Rattle.answer_path.proofs.Programs.{same_term}
 
@@ -71,6 +71,16 @@ unlexed_refused w fault refusal h e ts = subst (λ x. IsProgramRefusal ts w x) (
     go (TooManyTokens p) h = (unlexed p, inr h, refl)
     go NoRoom h = tt
 
+-- the same without tables
+pub no_tokens : (w : List ℕ) (fault : LexFault) (refusal : Refusal) → ExplainsLex w fault → refusal ≡ lex_refusal fault → IsUnread w refusal
+unfolding IsReading
+no_tokens w fault refusal h e = subst (λ x. IsUnread w x) (sym e) (go fault h)
+  where
+    go : (fault : LexFault) → ExplainsLex w fault → IsUnread w (lex_refusal fault)
+    go (Bad p) h = (unlexed p, inl h, refl)
+    go (TooManyTokens p) h = (unlexed p, inr h, refl)
+    go NoRoom h = tt
+
 pub is_read : (w : List ℕ) (us : List Token) (e : Term) → IsLexed w us → IsParsed us e → IsReading w (read e)
 unfolding IsReading
 is_read w us e h k = (us, h, k)
@@ -80,6 +90,15 @@ unfolding IsReading admission_of
 unparsed_refused w us fault refusal l h e ts = subst (λ x. IsProgramRefusal ts w x) (sym e) (go fault h)
   where
     go : (fault : ParseFault) → ExplainsParse us fault → IsProgramRefusal ts w (parse_refusal fault)
+    go (Stuck k) h = (stuck k, (us, l, h), refl)
+    go (TooNested d) h = (nested d, (us, l, h), refl)
+    go NoSpace h = tt
+
+pub no_term_read : (w : List ℕ) (us : List Token) (fault : ParseFault) (refusal : Refusal) → IsLexed w us → ExplainsParse us fault → refusal ≡ parse_refusal fault → IsUnread w refusal
+unfolding IsReading
+no_term_read w us fault refusal l h e = subst (λ x. IsUnread w x) (sym e) (go fault h)
+  where
+    go : (fault : ParseFault) → ExplainsParse us fault → IsUnread w (parse_refusal fault)
     go (Stuck k) h = (stuck k, (us, l, h), refl)
     go (TooNested d) h = (nested d, (us, l, h), refl)
     go NoSpace h = tt

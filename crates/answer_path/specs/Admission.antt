@@ -1,5 +1,5 @@
 -- What a program comes to over tables: it is refused, takes too many walks, or is accepted with a sensitivity.
-use Rattle.std.specs.Prelude.{◌≡◌, ℕ, ℤ, List}
+use Rattle.std.specs.Prelude.{◌≡◌, ℕ, ℤ, List, Option, Some, None}
 use Rattle.fz_frac.specs.Distance.{Distance}
 use Rattle.fz_frac.specs.Lowest.{lowest}
 use Rattle.fz_ast.specs.Signature.{Signature}
@@ -22,6 +22,13 @@ pub data Admission : Type 0 where
   walks_too_much : Admission
   -- the term, and its sensitivity in lowest terms
   accepted : Term → Distance → Admission
+
+-- 20 to 22: why some bytes are no term
+abbrev pub unread_for : Reading → Option ProgramRefusal
+unread_for (unlexed place) = Some (no_token place)
+unread_for (stuck token) = Some (no_term token)
+unread_for (nested depth) = Some (too_nested depth)
+unread_for (read e) = None
 
 -- 30 to 34
 abbrev pub fault_refusal : Fault → ProgramRefusal

@@ -1,5 +1,5 @@
 -- What the code's answers mean.
-use Rattle.std.specs.Prelude.{◌≡◌, ◌<◌, ◌≤◌, ℕ, ℤ, List, length, ⊤}
+use Rattle.std.specs.Prelude.{◌≡◌, ◌<◌, ◌≤◌, ℕ, ℤ, List, length, Some, ⊤}
 use Rattle.partition_charge.specs.declared.view.View.{View}
 use Rattle.budget_core.specs.Entries.{Entry, HasView, IsEpsilon}
 use Rattle.sha2.specs.Sha256.{sha256}
@@ -27,7 +27,7 @@ use Rattle.shape_run.specs.declared.plan.ShapeFault.TheVariants.{TooDeep, TooLon
 use Rattle.shape_run.specs.Plans.{IsPlanOf}
 use Rattle.wire_lines.specs.Refusal.{ProgramRefusal, no_token, no_term, too_nested, too_deep, too_long, too_wide, Refusal, by_program, no_memory, refusal_at}
 use Rattle.answer_path.specs.Reading.{Reading, read, IsReading}
-use Rattle.answer_path.specs.Admission.{refused_for, accepted, admission_of, fault_refusal, HasTooManyWalks, TakesTooManyWalks}
+use Rattle.answer_path.specs.Admission.{refused_for, accepted, admission_of, unread_for, fault_refusal, HasTooManyWalks, TakesTooManyWalks}
 use Rattle.answer_path.specs.Query.{Query}
 use Rattle.answer_path.specs.Demand.{Demand, asks, recalls, balances, spends}
 use Rattle.answer_path.specs.declared.program.Accepted.{Accepted}
@@ -54,6 +54,12 @@ abbrev pub IsProgramRefusal : Signature → List ℕ → Refusal → Type 0
 IsProgramRefusal ts program (by_program refusal) = IsRefusedFor ts program refusal
 IsProgramRefusal ts program no_memory = ⊤
 IsProgramRefusal ts program refusal = ⊥
+
+-- the program's bytes are no term, for this, whatever tables there are; memory may run out at any program
+abbrev pub IsUnread : List ℕ → Refusal → Type 0
+IsUnread program (by_program refusal) = (reading : Reading) × IsReading program reading × (unread_for reading ≡ Some refusal)
+IsUnread program no_memory = ⊤
+IsUnread program refusal = ⊥
 
 -- The term is accepted with this sensitivity, and this is the plan of its run without data.
 pub record IsAdmitted (ts : Signature) (e : Term) (admitted : Admitted) : Type 0 where

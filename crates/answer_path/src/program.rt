@@ -5,7 +5,7 @@ ghost use Rattle.fz_ast.specs.Signature.{Signature};
 ghost use Rattle.wire_lines.specs.Refusal.{refusal_at};
 ghost use Rattle.answer_path.specs.Reading.{read, IsReading};
 ghost use Rattle.owner_house.specs.Names.{AreNames};
-ghost use Rattle.answer_path.specs.Code.{IsAccepted, IsAdmitted, IsProgramRefusal, IsTermRefusal, IsUnadmitted, told_of};
+ghost use Rattle.answer_path.specs.Code.{IsAccepted, IsAdmitted, IsProgramRefusal, IsTermRefusal, IsUnadmitted, IsUnread, told_of};
 
 use crate::refusals::{fault_refusal, lex_refusal, limit_refusal, parse_refusal};
 use fz_ast::{Sig, Term};
@@ -58,6 +58,7 @@ impl<'a> Unadmitted<'a> {
 pub fn read_program<'s>(alloc: Global, bytes: &[u8]) -> Result<Term, Refusal<'s>>
     ensures term { IfOk result (λ term. IsReading bytes.now (read term)) }
     ensures refused { IfErr result (λ refusal. (ts : Signature) → IsProgramRefusal ts bytes.now (refusal_at refusal)) }
+    ensures unread { IfErr result (λ refusal. IsUnread bytes.now (refusal_at refusal)) }
 {
     let tokens = match lex(alloc, bytes) {
         Ok(tokens) => tokens,

@@ -24,8 +24,8 @@ use Rattle.clap.specs.declared.error.kind.ErrorKind.{ErrorKind}
 use Rattle.clap.specs.declared.error.kind.ErrorKind.TheVariants as kind
 use Rattle.clap.proofs.CallerReads.{signed_reads}
 use Rattle.clap.proofs.ValueTestLemmas.{accepts-Accepts}
-use Rattle.command_words.specs.Program.{address_option, from_to, audit_app, check_app, gap_app, gen_app, grant_app, greatest_amount, greatest_asks, greatest_each, greatest_port, greatest_seed, greatest_workers, init_app, mirror_option, number_rule, program_app, run_app, required_word, serve_app}
-use Rattle.command_words.specs.Command.{Command, check, init, run, audit, grant, gap, serve, gen, audit_found_in, audit_of, check_found_in, check_of, command_met, command_of, gap_found_in, gap_of, gen_found_in, gen_of, grant_found_in, grant_of, init_found_in, init_of, number_of_bits, run_found_in, run_of, serve_found_in, serve_of}
+use Rattle.command_words.specs.Program.{address_option, from_to, audit_app, check_app, derive_app, gap_app, gen_app, grant_app, greatest_amount, greatest_asks, greatest_each, greatest_port, greatest_seed, greatest_workers, init_app, judge_app, mirror_option, number_rule, program_app, run_app, required_word, serve_app}
+use Rattle.command_words.specs.Command.{Command, check, init, run, audit, grant, gap, serve, gen, derive, judge, audit_found_in, audit_of, check_found_in, check_of, command_met, command_of, derive_found_in, derive_of, gap_found_in, gap_of, gen_found_in, gen_of, grant_found_in, grant_of, init_found_in, init_of, judge_found_in, judge_of, number_of_bits, run_found_in, run_of, serve_found_in, serve_of}
 use Rattle.command_words.proofs.Kept.{both_empty, holds_of_found, AllFine, DefaultKeeps, UseKeeps, level_keeps}
 use Rattle.command_words.proofs.Numbers.{number_reads}
 use Rattle.command_words.proofs.Parses.{command_refused, command_taken}
@@ -393,6 +393,12 @@ gen_met : (a b c : Option ℕ) (x y z : ℕ) → a ≡ Some x → b ≡ Some y �
     → IsBetween 0 greatest_seed x × IsBetween 1 greatest_asks y × IsBetween 1 greatest_workers z → IsMet (gen_of a b c)
 gen_met a b c x y z e f g within = (gen x y z, rw (e, f, g) refl, within)
 
+derive_met : (a b c : Option Text) (x y z : Text) → a ≡ Some x → b ≡ Some y → c ≡ Some z → IsMet (derive_of a b c)
+derive_met a b c x y z e f g = (derive x y z, rw (e, f, g) refl, tt)
+
+judge_met : (a b c d : Option Text) (x y z w : Text) → a ≡ Some x → b ≡ Some y → c ≡ Some z → d ≡ Some w → IsMet (judge_of a b c d)
+judge_met a b c d x y z w e f g h = (judge x y z w, rw (e, f, g, h) refl, tt)
+
 -- the last check of a level has no fault
 checked : (s : Shape) (words : List Text) → level_fault s [] nothing_held words false [] ≡ [] → check_fault s (rows_after s.rules [] words) false ≡ []
 checked s words e =
@@ -424,6 +430,12 @@ serve_shape = built_leaf (inherited program_app.top serve_app.top)
 
 abbrev pub gen_shape : Shape
 gen_shape = built_leaf (inherited program_app.top gen_app.top)
+
+abbrev pub derive_shape : Shape
+derive_shape = built_leaf (inherited program_app.top derive_app.top)
+
+abbrev pub judge_shape : Shape
+judge_shape = built_leaf (inherited program_app.top judge_app.top)
 
 check_accepted : (words : List Text) → level_fault check_shape [] nothing_held words false [] ≡ [] → IsMet (check_found_in (rows_after check_shape.rules [] words))
 check_accepted words e =
@@ -598,6 +610,35 @@ gen_accepted words e =
     let workers = number_there 32 WORKERS 1 greatest_workers (omega arith) refl rows fine (with_row_there WORKERS workers_parser (codes "1") asked refl) in
     gen_met _ _ _ seed.0 asks.0 workers.0 seed.1 asks.1 workers.1 (seed.2, asks.2, workers.2)
 
+derive_accepted : (words : List Text) → level_fault derive_shape [] nothing_held words false [] ≡ [] → IsMet (derive_found_in (rows_after derive_shape.rules [] words))
+derive_accepted words e =
+    let rows = rows_after derive_shape.rules [] words in
+    let fine = level_keeps Fine derive_shape [] (word_use 1 (codes "catalog") refl, (word_use 2 (codes "owner") refl, (word_use 3 (codes "file") refl, tt))) (λ x. refl)
+    words false [] (word_default 1 (codes "catalog"), (word_default 2 (codes "owner"), (word_default 3 (codes "file"), tt))) e in
+    let first = given_first (is_given (codes "catalog") rows) _ (none_missing _ (checked derive_shape words e)) in
+    let second = given_first (is_given (codes "owner") rows) _ first.1 in
+    let third = given_first (is_given (codes "file") rows) _ second.1 in
+    let catalog = given_has (codes "catalog") rows fine first.0 in
+    let owner = given_has (codes "owner") rows fine second.0 in
+    let file = given_has (codes "file") rows fine third.0 in
+    derive_met _ _ _ catalog.0 owner.0 file.0 catalog.1 owner.1 file.1
+
+judge_accepted : (words : List Text) → level_fault judge_shape [] nothing_held words false [] ≡ [] → IsMet (judge_found_in (rows_after judge_shape.rules [] words))
+judge_accepted words e =
+    let rows = rows_after judge_shape.rules [] words in
+    let fine = level_keeps Fine judge_shape []
+    (word_use 1 (codes "catalog") refl, (word_use 2 (codes "owner") refl, (word_use 3 (codes "file") refl, (word_use 4 (codes "derivation") refl, tt)))) (λ x. refl)
+    words false [] (word_default 1 (codes "catalog"), (word_default 2 (codes "owner"), (word_default 3 (codes "file"), (word_default 4 (codes "derivation"), tt)))) e in
+    let first = given_first (is_given (codes "catalog") rows) _ (none_missing _ (checked judge_shape words e)) in
+    let second = given_first (is_given (codes "owner") rows) _ first.1 in
+    let third = given_first (is_given (codes "file") rows) _ second.1 in
+    let fourth = given_first (is_given (codes "derivation") rows) _ third.1 in
+    let catalog = given_has (codes "catalog") rows fine first.0 in
+    let owner = given_has (codes "owner") rows fine second.0 in
+    let file = given_has (codes "file") rows fine third.0 in
+    let derivation = given_has (codes "derivation") rows fine fourth.0 in
+    judge_met _ _ _ _ catalog.0 owner.0 file.0 derivation.0 catalog.1 owner.1 file.1 derivation.1
+
 -- ---- the program
 
 stop_accepted : (rows : List Row) (stop : Option (Text × List Text)) → entered_fault (built program_app) stop ≡ []
@@ -605,25 +646,28 @@ stop_accepted : (rows : List Row) (stop : Option (Text × List Text)) → entere
 stop_accepted rows None below e = cc e
 stop_accepted rows (Some (name, words)) below e =
     go (answers_to name (codes "check", [])) (answers_to name (codes "init", [])) (answers_to name (codes "run", [])) (answers_to name (codes "audit", []))
-    (answers_to name (codes "grant", [])) (answers_to name (codes "gap", [])) (answers_to name (codes "serve", [])) (answers_to name (codes "gen", [])) below e
+    (answers_to name (codes "grant", [])) (answers_to name (codes "gap", [])) (answers_to name (codes "serve", [])) (answers_to name (codes "gen", []))
+    (answers_to name (codes "derive", [])) (answers_to name (codes "judge", [])) below e
   where
-    met : (a b c d m g s n : Bool) → Option Shape
-    met a b c d m g s n = cond a (Some check_shape) (cond b (Some init_shape) (cond c (Some run_shape) (cond d (Some audit_shape) (cond m (Some grant_shape)
-        (cond g (Some gap_shape) (cond s (Some serve_shape) (cond n (Some gen_shape) None)))))))
+    met : (a b c d m g s n u v : Bool) → Option Shape
+    met a b c d m g s n u v = cond a (Some check_shape) (cond b (Some init_shape) (cond c (Some run_shape) (cond d (Some audit_shape) (cond m (Some grant_shape)
+        (cond g (Some gap_shape) (cond s (Some serve_shape) (cond n (Some gen_shape) (cond u (Some derive_shape) (cond v (Some judge_shape) None)))))))))
 
-    go : (a b c d m g s n : Bool)
-        → option_map_or (λ s. level_fault s [] nothing_held words false []) (met a b c d m g s n) [] ≡ []
-        → check_fault (built program_app).top rows (is_some (option_map (λ s. rows_at s words) (met a b c d m g s n))) ≡ []
-        → IsMet (command_met (option_map (λ s. rows_at s words) (met a b c d m g s n)))
-    go true b c d m g s n below e = check_accepted words below
-    go false true c d m g s n below e = init_accepted words below
-    go false false true d m g s n below e = run_accepted words below
-    go false false false true m g s n below e = audit_accepted words below
-    go false false false false true g s n below e = grant_accepted words below
-    go false false false false false true s n below e = gap_accepted words below
-    go false false false false false false true n below e = serve_accepted words below
-    go false false false false false false false true below e = gen_accepted words below
-    go false false false false false false false false below e = cc e
+    go : (a b c d m g s n u v : Bool)
+        → option_map_or (λ s. level_fault s [] nothing_held words false []) (met a b c d m g s n u v) [] ≡ []
+        → check_fault (built program_app).top rows (is_some (option_map (λ s. rows_at s words) (met a b c d m g s n u v))) ≡ []
+        → IsMet (command_met (option_map (λ s. rows_at s words) (met a b c d m g s n u v)))
+    go true b c d m g s n u v below e = check_accepted words below
+    go false true c d m g s n u v below e = init_accepted words below
+    go false false true d m g s n u v below e = run_accepted words below
+    go false false false true m g s n u v below e = audit_accepted words below
+    go false false false false true g s n u v below e = grant_accepted words below
+    go false false false false false true s n u v below e = gap_accepted words below
+    go false false false false false false true n u v below e = serve_accepted words below
+    go false false false false false false false true u v below e = gen_accepted words below
+    go false false false false false false false false true v below e = derive_accepted words below
+    go false false false false false false false false false true below e = judge_accepted words below
+    go false false false false false false false false false false below e = cc e
 
 pub accepted : (words : List Text) → fault_of program_app words ≡ [] → IsMet (command_of words)
 accepted words e =

@@ -6,6 +6,7 @@ pub mod Said
 pub mod Plain
 mod Examples
 mod MirrorExamples
+mod DerivationExamples
 pub mod Workers
 mod Subcommands
 pub mod Tests

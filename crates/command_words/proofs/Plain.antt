@@ -18,7 +18,7 @@ use Rattle.command_words.specs.Command.{Command, command_met, command_named, com
 use Rattle.command_words.specs.Table.{begins_with_hyphen, plain_command, said_within}
 use Rattle.command_words.proofs.Kept.{both_empty, holds_of_found}
 use Rattle.command_words.proofs.Parses.{command_refused}
-use Rattle.command_words.proofs.Accepted.{amount_parser, asks_parser, audit_shape, check_shape, gap_shape, gen_shape, grant_shape, init_shape, run_shape, seed_parser, serve_shape, workers_parser}
+use Rattle.command_words.proofs.Accepted.{amount_parser, asks_parser, audit_shape, check_shape, derive_shape, gap_shape, gen_shape, grant_shape, init_shape, judge_shape, run_shape, seed_parser, serve_shape, workers_parser}
 use Rattle.command_words.proofs.Said.{IsPlainWord, accepted_says, refused_says}
 
 abbrev pub ArePlain : List Text → Type 0
@@ -200,6 +200,24 @@ gap_leaf (catalog ∷ owner ∷ []) = refl
 gap_leaf (catalog ∷ owner ∷ other ∷ []) = refl
 gap_leaf (catalog ∷ owner ∷ other ∷ file ∷ []) = refl
 gap_leaf (catalog ∷ owner ∷ other ∷ file ∷ more ∷ words) = refl
+
+derive_leaf : (words : List Text) → plain_leaf derive_shape words ≡ plain_command (codes "derive" ∷ words)
+unfolding defaults_fault
+derive_leaf [] = refl
+derive_leaf (catalog ∷ []) = refl
+derive_leaf (catalog ∷ owner ∷ []) = refl
+derive_leaf (catalog ∷ owner ∷ file ∷ []) = refl
+derive_leaf (catalog ∷ owner ∷ file ∷ more ∷ []) = refl
+derive_leaf (catalog ∷ owner ∷ file ∷ more ∷ word ∷ words) = refl
+
+judge_leaf : (words : List Text) → plain_leaf judge_shape words ≡ plain_command (codes "judge" ∷ words)
+unfolding defaults_fault
+judge_leaf [] = refl
+judge_leaf (catalog ∷ []) = refl
+judge_leaf (catalog ∷ owner ∷ []) = refl
+judge_leaf (catalog ∷ owner ∷ file ∷ []) = refl
+judge_leaf (catalog ∷ owner ∷ file ∷ derivation ∷ []) = refl
+judge_leaf (catalog ∷ owner ∷ file ∷ derivation ∷ more ∷ words) = refl
 
 serve_leaf : (words : List Text) → plain_leaf serve_shape words ≡ plain_command (codes "serve" ∷ words)
 unfolding defaults_fault
@@ -411,6 +429,16 @@ unfolding walked defaults_fault
 gen_is words plain = named (codes "gen") words refl refl ∙ left_to gen_shape (level_fault gen_shape [] nothing_held words false []) words
     ∙ leaf_is gen_shape ((refl, refl), ((refl, refl), ((refl, refl), tt))) words plain ∙ gen_leaf words plain
 
+derive_is : (words : List Text) → ArePlain words → command_of (codes "derive" ∷ words) ≡ plain_command (codes "derive" ∷ words)
+unfolding walked defaults_fault
+derive_is words plain = named (codes "derive") words refl refl ∙ left_to derive_shape (level_fault derive_shape [] nothing_held words false []) words
+    ∙ leaf_is derive_shape ((refl, refl), ((refl, refl), ((refl, refl), tt))) words plain ∙ derive_leaf words
+
+judge_is : (words : List Text) → ArePlain words → command_of (codes "judge" ∷ words) ≡ plain_command (codes "judge" ∷ words)
+unfolding walked defaults_fault
+judge_is words plain = named (codes "judge") words refl refl ∙ left_to judge_shape (level_fault judge_shape [] nothing_held words false []) words
+    ∙ leaf_is judge_shape ((refl, refl), ((refl, refl), ((refl, refl), ((refl, refl), tt)))) words plain ∙ judge_leaf words
+
 -- ---- a first word that names none
 
 stray_is : (name : Text) (words : List Text) → IsPlainWord name → subcommand_met names idle name ≡ None → command_of (name ∷ words) ≡ None
@@ -424,6 +452,7 @@ stray_is name words plain unnamed = command_refused (name ∷ words) (λ well.
 abbrev IsNone : (name : Text) → Type 0
 IsNone name = (bytes_eq (codes "check") name ≡ false) × (bytes_eq (codes "init") name ≡ false) × (bytes_eq (codes "run") name ≡ false) × (bytes_eq (codes "audit") name ≡ false) × (bytes_eq (codes "grant") name ≡ false)
     × (bytes_eq (codes "gap") name ≡ false) × (bytes_eq (codes "serve") name ≡ false) × (bytes_eq (codes "gen") name ≡ false)
+    × (bytes_eq (codes "derive") name ≡ false) × (bytes_eq (codes "judge") name ≡ false)
 
 flipped : (a b : Text) → bytes_eq a a ≡ true → bytes_eq a b ≡ false → bytes_eq b a ≡ false
 flipped a b same apart = go (bytes_eq b a) refl
@@ -445,12 +474,14 @@ untabled name (x ∷ y ∷ []) none =
       flipped (codes "audit") name refl none.3,
       flipped (codes "gen") name refl none.7,
     ) refl
-untabled name (x ∷ y ∷ z ∷ []) none = rw (flipped (codes "check") name refl none.0, flipped (codes "gen") name refl none.7) refl
-untabled name (x ∷ y ∷ z ∷ w ∷ []) none = rw (flipped (codes "grant") name refl none.4, flipped (codes "gap") name refl none.5) refl
+untabled name (x ∷ y ∷ z ∷ []) none =
+    rw (flipped (codes "check") name refl none.0, flipped (codes "gen") name refl none.7, flipped (codes "derive") name refl none.8) refl
+untabled name (x ∷ y ∷ z ∷ w ∷ []) none =
+    rw (flipped (codes "grant") name refl none.4, flipped (codes "gap") name refl none.5, flipped (codes "judge") name refl none.9) refl
 untabled name (x ∷ y ∷ z ∷ w ∷ v ∷ words) none = refl
 
 unmet : (name : Text) → IsNone name → subcommand_met names idle name ≡ None
-unmet name none = rw (none.0, none.1, none.2, none.3, none.4, none.5, none.6, none.7) refl
+unmet name none = rw (none.0, none.1, none.2, none.3, none.4, none.5, none.6, none.7, none.8, none.9) refl
 
 abbrev IsTabled : List Text → Type 0
 IsTabled words = command_of words ≡ plain_command words
@@ -461,6 +492,7 @@ plain_is_tabled [] plain = refl
 plain_is_tabled (name ∷ words) plain =
     go (bytes_eq (codes "check") name) refl (bytes_eq (codes "init") name) refl (bytes_eq (codes "run") name) refl (bytes_eq (codes "audit") name) refl
     (bytes_eq (codes "grant") name) refl (bytes_eq (codes "gap") name) refl (bytes_eq (codes "serve") name) refl (bytes_eq (codes "gen") name) refl
+    (bytes_eq (codes "derive") name) refl (bytes_eq (codes "judge") name) refl
   where
     -- the word is that name
     by : (other : Text) → bytes_eq other name ≡ true → IsTabled (other ∷ words) → IsTabled (name ∷ words)
@@ -468,15 +500,18 @@ plain_is_tabled (name ∷ words) plain =
 
     go : (a : Bool) → bytes_eq (codes "check") name ≡ a → (b : Bool) → bytes_eq (codes "init") name ≡ b → (c : Bool) → bytes_eq (codes "run") name ≡ c
         → (d : Bool) → bytes_eq (codes "audit") name ≡ d → (m : Bool) → bytes_eq (codes "grant") name ≡ m → (g : Bool) → bytes_eq (codes "gap") name ≡ g → (s : Bool) → bytes_eq (codes "serve") name ≡ s
-        → (n : Bool) → bytes_eq (codes "gen") name ≡ n → IsTabled (name ∷ words)
-    go true e b f c h d i m o g j s k n l = by (codes "check") e (check_is words plain.1)
-    go false e true f c h d i m o g j s k n l = by (codes "init") f (init_is words plain.1)
-    go false e false f true h d i m o g j s k n l = by (codes "run") h (run_is words plain.1)
-    go false e false f false h true i m o g j s k n l = by (codes "audit") i (audit_is words plain.1)
-    go false e false f false h false i true o g j s k n l = by (codes "grant") o (grant_is words plain.1)
-    go false e false f false h false i false o true j s k n l = by (codes "gap") j (gap_is words plain.1)
-    go false e false f false h false i false o false j true k n l = by (codes "serve") k (serve_is words plain.1)
-    go false e false f false h false i false o false j false k true l = by (codes "gen") l (gen_is words plain.1)
-    go false e false f false h false i false o false j false k false l =
-        let none : IsNone name = (e, f, h, i, o, j, k, l) in
+        → (n : Bool) → bytes_eq (codes "gen") name ≡ n → (u : Bool) → bytes_eq (codes "derive") name ≡ u → (v : Bool) → bytes_eq (codes "judge") name ≡ v
+        → IsTabled (name ∷ words)
+    go true e b f c h d i m o g j s k n l u p v q = by (codes "check") e (check_is words plain.1)
+    go false e true f c h d i m o g j s k n l u p v q = by (codes "init") f (init_is words plain.1)
+    go false e false f true h d i m o g j s k n l u p v q = by (codes "run") h (run_is words plain.1)
+    go false e false f false h true i m o g j s k n l u p v q = by (codes "audit") i (audit_is words plain.1)
+    go false e false f false h false i true o g j s k n l u p v q = by (codes "grant") o (grant_is words plain.1)
+    go false e false f false h false i false o true j s k n l u p v q = by (codes "gap") j (gap_is words plain.1)
+    go false e false f false h false i false o false j true k n l u p v q = by (codes "serve") k (serve_is words plain.1)
+    go false e false f false h false i false o false j false k true l u p v q = by (codes "gen") l (gen_is words plain.1)
+    go false e false f false h false i false o false j false k false l true p v q = by (codes "derive") p (derive_is words plain.1)
+    go false e false f false h false i false o false j false k false l false p true q = by (codes "judge") q (judge_is words plain.1)
+    go false e false f false h false i false o false j false k false l false p false q =
+        let none : IsNone name = (e, f, h, i, o, j, k, l, p, q) in
         stray_is name words plain.0 (unmet name none) ∙ sym (untabled name words none)

@@ -23,6 +23,10 @@ pub data Command : Type 0 where
   serve : (catalog key address : List ℕ) (port workers each : ℕ) → Command
   -- `gen SEED N WORKERS`: three numbers
   gen : (seed asks workers : ℕ) → Command
+  -- `derive CATALOG OWNER FILE`: the names of a file, of an owner and of another file
+  derive : (catalog owner file : List ℕ) → Command
+  -- `judge CATALOG OWNER FILE DERIVATION`: the names of a file, of an owner and of two other files
+  judge : (catalog owner file derivation : List ℕ) → Command
 
 -- The number that a text is: digits, perhaps after a plus, below this power of two.
 abbrev pub number_of_bits : (bits : ℕ) → Text → Option ℕ
@@ -68,6 +72,14 @@ abbrev pub gen_of : (seed asks workers : Option ℕ) → Option Command
 gen_of (Some seed) (Some asks) (Some workers) = Some (gen seed asks workers)
 gen_of _ _ _ = None
 
+abbrev pub derive_of : (catalog owner file : Option Text) → Option Command
+derive_of (Some catalog) (Some owner) (Some file) = Some (derive catalog owner file)
+derive_of _ _ _ = None
+
+abbrev pub judge_of : (catalog owner file derivation : Option Text) → Option Command
+judge_of (Some catalog) (Some owner) (Some file) (Some derivation) = Some (judge catalog owner file derivation)
+judge_of _ _ _ _ = None
+
 -- the number that clap found under this name
 abbrev pub number_in : Text → List Row → Option ℕ
 number_in name found = option_and_then number_written (one_of name found)
@@ -104,6 +116,13 @@ serve_found_in found = serve_of (first_of (codes "catalog") found) (first_of (co
 abbrev pub gen_found_in : List Row → Option Command
 gen_found_in found = gen_of (number_in (codes "seed") found) (number_in (codes "asks") found) (number_in (codes "workers") found)
 
+abbrev pub derive_found_in : List Row → Option Command
+derive_found_in found = derive_of (first_of (codes "catalog") found) (first_of (codes "owner") found) (first_of (codes "file") found)
+
+abbrev pub judge_found_in : List Row → Option Command
+judge_found_in found = judge_of (first_of (codes "catalog") found) (first_of (codes "owner") found)
+    (first_of (codes "file") found) (first_of (codes "derivation") found)
+
 -- the command of this name, of what clap found for it
 abbrev pub command_named : (name : Text) → (found : List Row) → Option Command
 command_named name found =
@@ -115,6 +134,8 @@ command_named name found =
     else if bytes_eq name (codes "gap") then gap_found_in found
     else if bytes_eq name (codes "serve") then serve_found_in found
     else if bytes_eq name (codes "gen") then gen_found_in found
+    else if bytes_eq name (codes "derive") then derive_found_in found
+    else if bytes_eq name (codes "judge") then judge_found_in found
     else None
 
 abbrev pub command_met : Option (Text × List Row) → Option Command

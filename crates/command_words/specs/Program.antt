@@ -74,8 +74,19 @@ with_mirror app = with_rule app mirror_option
 abbrev pub with_word : App → Text → App
 with_word app name = with_rule app (required_word name)
 
+-- the command of this name, with the names of a catalog, of an owner and of a program's file
+abbrev pub program_file_app : (name : Text) → App
+program_file_app name = with_word (with_word (with_word (new_app name) (codes "catalog")) (codes "owner")) (codes "file")
+
 abbrev pub check_app : App
-check_app = with_word (with_word (with_word (new_app (codes "check")) (codes "catalog")) (codes "owner")) (codes "file")
+check_app = program_file_app (codes "check")
+
+abbrev pub derive_app : App
+derive_app = program_file_app (codes "derive")
+
+-- its last word is the name of a derivation's file
+abbrev pub judge_app : App
+judge_app = with_word (program_file_app (codes "judge")) (codes "derivation")
 
 -- the command of this name, with the names of a catalog and of a key
 abbrev pub files_app : (name : Text) → App
@@ -125,4 +136,5 @@ bare_program = let app = new_app (codes "hitchseason") in record app {
 
 abbrev pub program_app : App
 program_app = with_subcommand (with_subcommand (with_subcommand (with_subcommand (with_subcommand (with_subcommand (with_subcommand (with_subcommand
-    bare_program check_app.top) init_app.top) run_app.top) audit_app.top) grant_app.top) gap_app.top) serve_app.top) gen_app.top
+    (with_subcommand (with_subcommand bare_program check_app.top) init_app.top) run_app.top) audit_app.top) grant_app.top) gap_app.top) serve_app.top)
+    gen_app.top) derive_app.top) judge_app.top

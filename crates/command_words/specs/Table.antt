@@ -1,6 +1,6 @@
 -- The commands of words without options, as a table.
 use Rattle.std.specs.Prelude.{◌==◌, ◌&&◌, ℕ, Bool, false, List, [], ◌∷◌, Option, Some, None, codes, bytes_eq, if◌then◌else◌, nat_le, option_and_then}
-use Rattle.command_words.specs.Command.{Command, check, init, run, audit, gap, amount_written, gen_of, grant_of, number_written}
+use Rattle.command_words.specs.Command.{Command, check, init, run, audit, gap, derive, judge, amount_written, gen_of, grant_of, number_written}
 use Rattle.command_words.specs.Program.{greatest_amount, greatest_asks, greatest_seed, greatest_workers}
 
 -- the word begins with `-` (45), as options do
@@ -44,9 +44,11 @@ plain_command (name ∷ catalog ∷ key ∷ []) =
 plain_command (name ∷ catalog ∷ owner ∷ file ∷ []) =
     if bytes_eq name (codes "check") then Some (check catalog owner file)
     else if bytes_eq name (codes "gen") then gen_said catalog owner file
+    else if bytes_eq name (codes "derive") then Some (derive catalog owner file)
     else None
-plain_command (name ∷ catalog ∷ owner ∷ second_catalog ∷ file ∷ []) =
-    if bytes_eq name (codes "grant") then grant_said catalog owner second_catalog file
-    else if bytes_eq name (codes "gap") then Some (gap catalog owner second_catalog file)
+plain_command (name ∷ catalog ∷ owner ∷ third ∷ file ∷ []) =
+    if bytes_eq name (codes "grant") then grant_said catalog owner third file
+    else if bytes_eq name (codes "gap") then Some (gap catalog owner third file)
+    else if bytes_eq name (codes "judge") then Some (judge catalog owner third file)
     else None
-plain_command (name ∷ catalog ∷ owner ∷ second_catalog ∷ file ∷ more ∷ words) = None
+plain_command (name ∷ catalog ∷ owner ∷ third ∷ file ∷ more ∷ words) = None

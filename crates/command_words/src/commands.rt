@@ -3,8 +3,8 @@
 ghost use Rattle.std.specs.Prelude.{◌≡◌, IfOk, codes, false};
 ghost use Rattle.clap.specs.Words.{App, Rule, app_of, rule_of, with_rule, with_subcommand};
 ghost use Rattle.command_words.specs.Made.{IsMadeAs};
-ghost use Rattle.command_words.specs.Program.{address_option, audit_app, bare_program, check_app, files_app, gap_app, gen_app, grant_app, init_app, mirror_option};
-ghost use Rattle.command_words.specs.Program.{number_rule, or_else_is, program_app, required_number, required_option, required_word};
+ghost use Rattle.command_words.specs.Program.{address_option, audit_app, bare_program, files_app, gap_app, gen_app, grant_app, init_app, judge_app, mirror_option};
+ghost use Rattle.command_words.specs.Program.{number_rule, or_else_is, program_app, program_file_app, required_number, required_option, required_word};
 ghost use Rattle.command_words.specs.Program.{run_app, serve_app, with_mirror, with_word, workers_option, workers_rule};
 
 use clap::builder::ValueParser;
@@ -64,11 +64,11 @@ fn with_word<'a>(
     }
 }
 
-/// `check CATALOG OWNER FILE`.
-fn check_command<'a>(alloc: Global) -> Result<Command<'a>, AllocError>
-    ensures { IfOk result (IsMadeAs check_app) }
+/// The command of this name, with the names of a catalog, of an owner and of a program's file.
+fn program_file_command<'a>(alloc: Global, name: &'a str) -> Result<Command<'a>, AllocError>
+    ensures { IfOk result (IsMadeAs (program_file_app name.entry.now)) }
 {
-    let command = Ok(Command::new(alloc, "check"));
+    let command = Ok(Command::new(alloc, name));
     let command = with_word(alloc, command, "catalog");
     let command = with_word(alloc, command, "owner");
     with_word(alloc, command, "file")
@@ -221,6 +221,13 @@ fn gen_command<'a>(alloc: Global) -> Result<Command<'a>, AllocError>
     with_arg(command, workers(alloc))
 }
 
+/// `judge CATALOG OWNER FILE DERIVATION`.
+fn judge_command<'a>(alloc: Global) -> Result<Command<'a>, AllocError>
+    ensures { IfOk result (IsMadeAs judge_app) }
+{
+    with_word(alloc, program_file_command(alloc, "judge"), "derivation")
+}
+
 /// The program without its commands, of which one is required. Calls for help and for the version are no words of it.
 fn bare_program<'a>(alloc: Global) -> Command<'a>
     ensures { app_of result ≡ bare_program }
@@ -254,12 +261,14 @@ pub fn program_command<'a>(alloc: Global) -> Result<Command<'a>, AllocError>
     ensures { IfOk result (λ c. app_of c ≡ program_app) }
 {
     let program = Ok(bare_program(alloc));
-    let program = with_command(program, check_command(alloc));
+    let program = with_command(program, program_file_command(alloc, "check"));
     let program = with_command(program, init_command(alloc));
     let program = with_command(program, run_command(alloc));
     let program = with_command(program, audit_command(alloc));
     let program = with_command(program, grant_command(alloc));
     let program = with_command(program, gap_command(alloc));
     let program = with_command(program, serve_command(alloc));
-    with_command(program, gen_command(alloc))
+    let program = with_command(program, gen_command(alloc));
+    let program = with_command(program, program_file_command(alloc, "derive"));
+    with_command(program, judge_command(alloc))
 }

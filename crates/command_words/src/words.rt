@@ -2,8 +2,8 @@
 
 ghost use Rattle.std.specs.Prelude.{◌≡◌, ◌≢◌, [], IfErr, IfOk, None, Some, map, option_map, string_bytes};
 ghost use Rattle.clap.specs.Words.{fault_of, first_of, found_of, rows_of, subcommand_of, subcommand_rows_of};
-ghost use Rattle.command_words.specs.Command.{amount_in, audit_found_in, check_found_in, command_met, command_of, gap_found_in};
-ghost use Rattle.command_words.specs.Command.{gen_found_in, grant_found_in, init_found_in, number_in, run_found_in, serve_found_in};
+ghost use Rattle.command_words.specs.Command.{amount_in, audit_found_in, check_found_in, command_met, command_of, derive_found_in, gap_found_in};
+ghost use Rattle.command_words.specs.Command.{gen_found_in, grant_found_in, init_found_in, judge_found_in, number_in, run_found_in, serve_found_in};
 ghost use Rattle.command_words.specs.Program.{program_app};
 ghost use Rattle.command_words.specs.Meant.{command_meant};
 
@@ -57,6 +57,17 @@ pub enum Command<'a> {
         seed: u32,
         asks: u32,
         workers: u32,
+    },
+    Derive {
+        catalog: &'a str,
+        owner: &'a str,
+        file: &'a str,
+    },
+    Judge {
+        catalog: &'a str,
+        owner: &'a str,
+        file: &'a str,
+        derivation: &'a str,
     },
 }
 
@@ -198,6 +209,29 @@ fn gen_found<'a>(found: &ArgMatches<'a>) -> Option<Command<'a>>
     })
 }
 
+/// `derive`, with what was found for it.
+fn derive_found<'a>(found: &ArgMatches<'a>) -> Option<Command<'a>>
+    ensures { option_map command_meant result ≡ derive_found_in (rows_of (found_of found.now)) }
+{
+    Some(Command::Derive {
+        catalog: text_found(found, "catalog")?,
+        owner: text_found(found, "owner")?,
+        file: text_found(found, "file")?,
+    })
+}
+
+/// `judge`, with what was found for it.
+fn judge_found<'a>(found: &ArgMatches<'a>) -> Option<Command<'a>>
+    ensures { option_map command_meant result ≡ judge_found_in (rows_of (found_of found.now)) }
+{
+    Some(Command::Judge {
+        catalog: text_found(found, "catalog")?,
+        owner: text_found(found, "owner")?,
+        file: text_found(found, "file")?,
+        derivation: text_found(found, "derivation")?,
+    })
+}
+
 /// The command that was found.
 fn command_found<'a>(matches: &ArgMatches<'a>) -> Option<Command<'a>>
     ensures { option_map command_meant result ≡ command_met (subcommand_rows_of matches.now) }
@@ -211,6 +245,8 @@ fn command_found<'a>(matches: &ArgMatches<'a>) -> Option<Command<'a>>
         Some(("gap", found)) => gap_found(found),
         Some(("serve", found)) => serve_found(found),
         Some(("gen", found)) => gen_found(found),
+        Some(("derive", found)) => derive_found(found),
+        Some(("judge", found)) => judge_found(found),
         _ => None,
     }
 }
@@ -226,6 +262,8 @@ fn command_found<'a>(matches: &ArgMatches<'a>) -> Option<Command<'a>>
 /// - `serve CATALOG KEY --port P --each N`, perhaps with `--addr A` and `--workers W`: P is from 1 to 65,520, N from 1 to 1,000,000,
 ///   and A is 127.0.0.1 where it isn't given.
 /// - `gen SEED N`, perhaps with WORKERS behind them, 1 where they aren't given: SEED is below 2^32, and N from 1 to 100,000.
+/// - `derive CATALOG OWNER FILE`
+/// - `judge CATALOG OWNER FILE DERIVATION`
 ///
 /// `init`, `run`, `audit`, `grant` and `serve` may have the flag `--mirror`, once. `is_mirrored` says whether it is there.
 ///

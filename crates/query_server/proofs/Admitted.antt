@@ -8,9 +8,7 @@ use Rattle.fz_frac.specs.Sens.{distance_of}
 use Rattle.metric_law.specs.Means.{Means}
 use Rattle.metric_values.specs.Tables.{Dataset, apart, rows_of}
 use Rattle.metric_values.specs.Values.{NumV}
-use Rattle.wire_lines.specs.Refusal.{ProgramRefusal, Refusal, by_disk, by_line, by_money, by_number, by_program, no_memory, refusal_at}
-use Rattle.wire_lines.specs.declared.refusal.Refusal.{Refusal as RefusalAt}
-use Rattle.wire_lines.specs.declared.refusal.Refusal.TheVariants.{NoMemory}
+use Rattle.wire_lines.specs.Refusal.{ProgramRefusal, Refusal, by_disk, by_line, by_money, by_number, by_program, no_memory}
 use Rattle.wire_lines.specs.Reply.{refused, reply_text}
 use Rattle.generated_run.specs.AnswerPath.AcceptedProgram.{Accepted}
 use Rattle.generated_run.specs.AnswerPath.Code.{IsAccepted, IsProgramRefusal, IsRefusedFor}
@@ -21,10 +19,6 @@ use Rattle.query_server.specs.Check.{IsProgramDue, accepted_text, status_by, tex
 use Rattle.query_server.specs.Gap.{IsGapBy, IsGapDue, gap_text}
 use Rattle.query_server.specs.declared.end.Status.{Status}
 use Rattle.query_server.specs.declared.end.Status.TheVariants as code
-
-pub is_memory : (refusal : RefusalAt) → refusal_at refusal ≡ no_memory → refusal ≡ NoMemory
-is_memory NoMemory is = refl
-is_memory refusal is = cc is
 
 -- a program's refusal that isn't want of memory is one of the program
 pub refused_by_program : (tables : Signature) (program : List ℕ) (refusal : Refusal) → (refusal ≡ no_memory → ⊥) → IsProgramRefusal tables program refusal
@@ -46,6 +40,13 @@ program_refused tables program text refusal (reading, reads, is) same = record {
   walks = refused_walks_little tables program refusal (reading, reads, is);
 }
 
+-- the same by the line that was made of it
+pub program_told : (tables : Signature) (program text : List ℕ) (refusal : Refusal) → IsProgramRefusal tables program refusal → (refusal ≡ no_memory → ⊥)
+    → text ≡ reply_text (refused refusal) → IsProgramDue tables program code.ProgramRefused text
+program_told tables program text refusal is some same =
+    let by = refused_by_program tables program refusal some is in
+    program_refused tables program text by.0 by.2 (same ∙ ap (λ r. reply_text (refused r)) by.1)
+
 -- of one that is accepted
 pub program_accepted : (tables : Signature) (program text : List ℕ) (a : Accepted) → IsAccepted tables program a → text ≡ accepted_text (distance_of a.sens) → IsProgramDue tables program code.Done text
 program_accepted tables program text a is same = record {
@@ -65,6 +66,12 @@ gap_refused tables X Y program text refusal (reading, reads, is) same = record {
   due = subst (λ (j : Admission). IsGapBy j tables X Y program code.ProgramRefused text) (sym is) (refl, same);
   walks = refused_walks_little tables program refusal (reading, reads, is);
 }
+
+pub gap_told : (tables : Signature) (X Y : Dataset) (program text : List ℕ) (refusal : Refusal) → IsProgramRefusal tables program refusal → (refusal ≡ no_memory → ⊥)
+    → text ≡ reply_text (refused refusal) → IsGapDue tables X Y program code.ProgramRefused text
+gap_told tables X Y program text refusal is some same =
+    let by = refused_by_program tables program refusal some is in
+    gap_refused tables X Y program text by.0 by.2 (same ∙ ap (λ r. reply_text (refused r)) by.1)
 
 pub gap_accepted : (tables : Signature) (X Y : Dataset) (program text : List ℕ) (e : Term) (r : Distance) (y z : ℤ) → IsReading program (read e) → admission_of tables (read e) ≡ accepted e r
     → (HasTooManyWalks tables program → ⊥) → Means (rows_of tables X) e (NumV y) → Means (rows_of tables Y) e (NumV z) → text ≡ gap_text (apart X Y) r y z → IsGapDue tables X Y program code.Done text

@@ -1,16 +1,16 @@
 -- what a command comes to, by its steps
-use Rattle.std.proofs.Common.{◌≡◌, ◌<◌, ℕ, Bool, true, false, List, length, nat_eq, bytes_eq, if◌then◌else◌, Option, Some, None, refl, sym, ◌∙◌, ap, subst, eqb-true}
+use Rattle.std.proofs.Common.{◌≡◌, ◌<◌, ℕ, Bool, true, false, List, ◌++◌, length, nat_eq, bytes_eq, if◌then◌else◌, Option, Some, None, refl, sym, ◌∙◌, ap, subst, eqb-true}
 use Rattle.std.specs.Prelude.{Result, Ok, Err, ok_or, position}
 use Rattle.fz_ast.specs.Signature.{Signature}
 use Rattle.metric_values.specs.Tables.{Dataset}
 use Rattle.owner_catalog.specs.Catalog.{Catalog, OwnerEntry}
-use Rattle.command_words.specs.Command.{Command, init, run, audit, grant, check, gap, serve, gen, command_of}
+use Rattle.command_words.specs.Command.{Command, init, run, audit, grant, check, gap, serve, gen, derive, judge, command_of}
 use Rattle.catalog_loading.specs.Files.{ReadsToCome}
 use Rattle.catalog_loading.specs.Steps.{FileStep, ◌>>=◌, continued, done, file_read, from}
 use Rattle.owner_catalog.specs.Entries.{owner_entry_at}
 use Rattle.catalog_loading.specs.Loaded.{IsKeyedOwner, KeyedOwner, LoadedOwner, Loading, IsKeyedHouse, number_named, owner_read, catalog_read, house_read, key_read, keyed, loaded, entry_named, owner_loaded, with_house, with_owner}
 use Rattle.catalog_loading.specs.Fit.{fitting}
-use Rattle.query_server.specs.Work.{Work, ended, usage, refused, to_answer, to_make, to_count, to_grant, to_check, to_compare, to_serve, to_generate}
+use Rattle.query_server.specs.Work.{Work, ended, usage, refused, to_answer, to_make, to_count, to_grant, to_check, to_compare, to_serve, to_generate, of_derivation}
 use Rattle.query_server.specs.Run.{run_steps}
 use Rattle.query_server.specs.Init.{init_steps}
 use Rattle.query_server.specs.Audit.{audit_steps}
@@ -18,6 +18,8 @@ use Rattle.query_server.specs.Grant.{grant_steps}
 use Rattle.query_server.specs.Check.{check_steps}
 use Rattle.query_server.specs.Gap.{gap_steps}
 use Rattle.query_server.specs.Serve.{serve_steps}
+use Rattle.query_server.specs.Derivation.{task_steps}
+use Rattle.derivation_commands.specs.Task.{Subject, Task, derive_steps, judge_steps, subject_read, to_derive, to_judge}
 use Rattle.query_server.specs.Due.{work_of, command_steps}
 use Rattle.query_server.specs.Promise.{IsHouseOf}
 use Rattle.query_server.specs.Service.{IsHouseServed}
@@ -62,6 +64,9 @@ pub data ComesTo : Option Command → Work → Type 0 where
   serves : {catalog name address : List ℕ} {port workers each : ℕ} {loading : Loading} {key : List ℕ}
       → ComesTo (Some (serve catalog name address port workers each)) (to_serve workers each loading key)
   generates : {seed asks workers : ℕ} → ComesTo (Some (gen seed asks workers)) (to_generate seed asks)
+  derives : {catalog owner file : List ℕ} {subject : Subject} → ComesTo (Some (derive catalog owner file)) (of_derivation (to_derive subject))
+  judges : {catalog owner file name derivation : List ℕ} {subject : Subject}
+      → ComesTo (Some (judge catalog owner file name)) (of_derivation (to_judge subject derivation))
 
 house_comes : (command : Command) (work : Loading → List ℕ → Work) → ((loading : Loading) (key : List ℕ) → ComesTo (Some command) (work loading key))
     → (catalog key : List ℕ) (reads : ReadsToCome) → ComesTo (Some command) (ended (with_house work catalog key reads).given)
@@ -100,6 +105,40 @@ gap_comes catalog owner second_catalog file =
     (λ second_holding. then_cases comes refuses (file_read file) (λ program. done (to_compare holding.tables holding.rows second_holding.rows program))
     (λ program reads. compares)))))))
 
+-- what is given doesn't hang on the names that were read
+given_alone : (given : Result Task (List ℕ)) (names more : List (List ℕ)) (rest : ReadsToCome)
+    → (continued given names rest (λ (task : Task). done (of_derivation task))).given ≡ (continued given more rest (λ (task : Task). done (of_derivation task))).given
+given_alone (Ok task) names more rest = refl
+given_alone (Err name) names more rest = refl
+
+-- the work of a task is that of what the task's steps give
+task_cases : (P : Work → Type 0) → ((name : List ℕ) → P (refused name)) → {A : Type 0} → (step : FileStep A) (next : A → FileStep Task)
+    → ((a : A) (reads : ReadsToCome) → P (ended (task_steps (next a) reads).given)) → (reads : ReadsToCome) → P (ended (task_steps (step >>= next) reads).given)
+unfolding ◌>>=◌
+task_cases P by_name {A} step next each reads = here (step reads).given
+  where
+    here : (given : Result A (List ℕ)) → P (ended (continued (continued given (step reads).names (step reads).rest next).given
+        (continued given (step reads).names (step reads).rest next).names (continued given (step reads).names (step reads).rest next).rest (λ (task : Task). done (of_derivation task))).given)
+    here (Ok a) =
+        let o = next a (step reads).rest in
+        subst (λ (given : Result Work (List ℕ)). P (ended given)) (given_alone o.given o.names ((step reads).names ++ o.names) o.rest) (each a (step reads).rest)
+    here (Err name) = by_name name
+
+derive_comes : (catalog owner file : List ℕ) (reads : ReadsToCome)
+    → ComesTo (Some (derive catalog owner file)) (ended (task_steps (derive_steps catalog owner file) reads).given)
+unfolding ◌>>=◌
+derive_comes catalog owner file =
+    let comes = ComesTo (Some (derive catalog owner file)) in
+    task_cases comes refuses (subject_read catalog owner file) (λ subject. done (to_derive subject)) (λ subject reads. derives)
+
+judge_comes : (catalog owner file derivation : List ℕ) (reads : ReadsToCome)
+    → ComesTo (Some (judge catalog owner file derivation)) (ended (task_steps (judge_steps catalog owner file derivation) reads).given)
+unfolding ◌>>=◌
+judge_comes catalog owner file derivation =
+    let comes = ComesTo (Some (judge catalog owner file derivation)) in
+    task_cases comes refuses (subject_read catalog owner file) _
+    (λ subject. task_cases comes refuses (file_read derivation) (λ bytes. done (to_judge subject bytes)) (λ bytes reads. judges))
+
 pub comes_to : (command : Option Command) (reads : ReadsToCome) → ComesTo command (ended (command_steps command reads).given)
 comes_to None reads = no_command
 comes_to (Some (run catalog key workers)) reads = house_comes _ (to_answer workers) (λ loading bytes. answers) catalog key reads
@@ -110,6 +149,8 @@ comes_to (Some (check catalog owner file)) reads = check_comes catalog owner fil
 comes_to (Some (gap catalog owner second_catalog file)) reads = gap_comes catalog owner second_catalog file reads
 comes_to (Some (serve catalog key address port workers each)) reads = house_comes _ (to_serve workers each) (λ loading bytes. serves) catalog key reads
 comes_to (Some (gen seed asks workers)) reads = generates
+comes_to (Some (derive catalog owner file)) reads = derive_comes catalog owner file reads
+comes_to (Some (judge catalog owner file derivation)) reads = judge_comes catalog owner file derivation reads
 
 pub work_comes : (words : List (List ℕ)) (reads : ReadsToCome) → ComesTo (command_of words) (work_of words reads)
 unfolding work_of

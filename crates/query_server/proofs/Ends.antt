@@ -21,7 +21,7 @@ use Rattle.catalog_loading.proofs.Reached.{IsDone, IsStopped, any_reads}
 use Rattle.query_server.proofs.Contents.{any_left}
 
 -- What stops a command is due, and its files were read. No disk was taken.
-stop_end : (o : StepOutcome Work) (old new : List (List ℕ)) (shelf : Shelf) (script : List ℕ) (stop : Stop) → IsStopAt o old new stop
+pub stop_end : (o : StepOutcome Work) (old new : List (List ℕ)) (shelf : Shelf) (script : List ℕ) (stop : Stop) → IsStopAt o old new stop
     → IsEndOf (ended o.given) shelf shelf script (Err stop) × AreRead (stop_status stop) o.names old new
 stop_end o old new shelf script (Refused name) (given, read) = (
   inl (subst (λ (e : Work). IsDue e shelf shelf script code.Refused (refused_text (string_bytes name))) (sym (ap ended given)) (refl, refl, λ n. refl)),

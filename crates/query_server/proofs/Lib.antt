@@ -16,6 +16,7 @@ pub mod Served
 pub mod Home
 pub mod Made
 pub mod Counted
+pub mod Derived
 pub mod Diskless
 pub mod Outcomes
 pub mod Services

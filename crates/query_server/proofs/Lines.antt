@@ -12,7 +12,7 @@ use Rattle.query_server.specs.Outside.{Outside}
 use Rattle.query_server.specs.Due.{AreRead, ForContents, IsBeginning, IsFaultyWordsEnd, IsOfRun, IsWrittenAt, MayStop, SomeFailed, files_of, work_of}
 use Rattle.query_server.specs.Promise.{IsAnsweredScript, IsRunLeft}
 use Rattle.query_server.specs.Service.{IsServiceLeft}
-use Rattle.query_server.specs.Laws.{FaultyWordsAreTold, LinesAreExact, LinesAreHeadlines, LinesAreServices, OneWorkerTranscribes, OutsideStays, ProgramsAreExact, RefusalsAreExact, RunsAreAnswered, StatusesAreOfCommands, VerdictsAreExact, WhatIsLoadedIsLawful}
+use Rattle.query_server.specs.Laws.{DerivationsAreExact, FaultyWordsAreTold, LinesAreExact, LinesAreHeadlines, LinesAreServices, OneWorkerTranscribes, OutsideStays, ProgramsAreExact, RefusalsAreExact, RunsAreAnswered, StatusesAreOfCommands, VerdictsAreExact, WhatIsLoadedIsLawful}
 use Rattle.query_server.specs.declared.end.Status.{Status}
 use Rattle.query_server.specs.declared.end.Status.TheVariants as code
 use Rattle.word_streams.specs.Draws.{draws_of}
@@ -22,7 +22,7 @@ use Rattle.generated_run.proofs.Scripts.{transcript_of}
 use Rattle.query_server.proofs.Doors.{doors_stay, doors_stay_on}
 use Rattle.query_server.proofs.Contents.{at_held, at_told, for_contents}
 use Rattle.query_server.proofs.Endings.{counted_lawful, house_by, house_served_by, made_lawful, work_by, work_comes}
-use Rattle.query_server.proofs.Outcomes.{Comes, comparison_by, disks_of, grant_of, finished_due, finished_map, left_by_run, name_by, program_by, program_of, run_of, status_written, usage_of, verdict_by, walks_by}
+use Rattle.query_server.proofs.Outcomes.{Comes, comparison_by, derive_of, disks_of, grant_of, finished_due, finished_map, left_by_run, name_by, program_by, program_of, run_of, status_written, task_by, usage_of, verdict_by, walks_by}
 
 pub lines_exact : LinesAreExact
 lines_exact words before after status text line held files =
@@ -76,6 +76,12 @@ verdicts_exact words before after status text line held tables program reading f
       λ walks. walks_by (work_of words (always held)) before.bay.shelf after.bay.shelf tables program some.0 status text is walks some.1.0,
     )
 
+pub derivations_exact : DerivationsAreExact
+derivations_exact words before after status text line held task outcome files is of =
+    let comes = Comes words before.files.names after.files.names before.bay.shelf after.bay.shelf status text in
+    let some = at_held held before.files.held before.source.left comes files line.1 in
+    task_by (work_of words (always held)) before.bay.shelf after.bay.shelf task outcome some.0 status text is of some.1.0
+
 pub statuses_of_commands : StatusesAreOfCommands
 statuses_of_commands words before after status text (written, (reads, script, told, is, (due, read))) =
     let work = work_of words reads in
@@ -88,6 +94,7 @@ statuses_of_commands words before after status text (written, (reads, script, to
         | inl same ↦ inl (has code.TooLarge text due same (λ w. cc) (λ w. cc) (λ w. cc))
         | inr same ↦ inr (has code.JournalFull text due same (λ w. cc) (λ w. cc) (λ w. cc))
       ]),
+      λ same. derive_of (command_of words) work comes (has code.DerivationTooLong text due same (λ w. cc) (λ w. cc) (λ w. cc)),
       λ same. disks_of (command_of words) work comes (has code.JournalRefused text due same (λ w. cc) (λ w. cc) (λ w. cc)),
     )
 

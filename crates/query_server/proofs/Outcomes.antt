@@ -16,7 +16,11 @@ use Rattle.generated_run.proofs.AnswerPath.Walking.{admitted_so}
 use Rattle.metric_values.specs.Tables.{Dataset}
 use Rattle.generated_run.specs.SessionCore.Transcript.{Journals}
 use Rattle.command_words.specs.Command.{Command, command_of}
-use Rattle.query_server.specs.Work.{Work, usage, refused, to_answer, to_make, to_count, to_grant, to_check, to_compare, to_serve, to_generate}
+use Rattle.query_server.specs.Work.{Work, usage, refused, to_answer, to_make, to_count, to_grant, to_check, to_compare, to_serve, to_generate, of_derivation}
+use Rattle.derivation_commands.specs.Task.{Task, to_derive, to_judge}
+use Rattle.derivation_commands.specs.Outcome.{IsOutcomeOf, Outcome, refused as refused_one, too_long, written as written_one}
+use Rattle.derivation_commands.proofs.Unique.{never_too_long, one_outcome}
+use Rattle.query_server.specs.Derivation.{IsOutcomeDue, outcome_status, outcome_text, task_statuses}
 use Rattle.catalog_loading.specs.Files.{Contents, ReadsToCome, always}
 use Rattle.catalog_loading.specs.Steps.{done}
 use Rattle.catalog_loading.specs.Loaded.{Loading, in_versions}
@@ -26,7 +30,7 @@ use Rattle.query_server.specs.Run.{IsScriptAnswered, script_limit}
 use Rattle.query_server.specs.Check.{status_by}
 use Rattle.query_server.specs.Gap.{IsGapDue}
 use Rattle.query_server.specs.Status.{refused_text, memory_text}
-use Rattle.query_server.specs.Due.{AreRead, ForContents, IfFinished, IsDiskLine, IsDue, IsForProgram, IsOfDisks, IsOfGrant, IsOfProgram, IsOfRun, IsBeginning, IsStopLine, IsToWrite, IsWrittenAt, MayStop, work_of, files_of, command_steps, duty_of, command_kind}
+use Rattle.query_server.specs.Due.{AreRead, ForContents, IfFinished, IsDiskLine, IsDue, IsForProgram, IsOfDerive, IsOfDisks, IsOfGrant, IsOfProgram, IsOfRun, IsBeginning, IsStopLine, IsToWrite, IsWrittenAt, MayStop, work_of, files_of, command_steps, duty_of, command_kind}
 use Rattle.query_server.specs.Promise.{IsAnsweredScript, IsRunLeft}
 use Rattle.query_server.specs.Ends.{Ended, IsCut, IsEndOf, IsEndingWith, IsStepEnd, status_at, text_at}
 use Rattle.query_server.specs.Taken.{IsTaken, IsTakenAt}
@@ -37,7 +41,7 @@ use Rattle.query_server.proofs.Admitted.{gap_status}
 use Rattle.query_server.proofs.Contents.{at_held, at_some, at_told, for_contents}
 use Rattle.query_server.proofs.Prefixes.{prefix_empty, prefix_of_prefix, prefix_whole}
 use Rattle.query_server.proofs.Ends.{took_passed}
-use Rattle.query_server.proofs.Endings.{ComesTo, answers, checks, compares, counts, grants, makes, no_command, refuses, serves, house_by, work_comes}
+use Rattle.query_server.proofs.Endings.{ComesTo, answers, checks, compares, counts, derives, grants, judges, makes, no_command, refuses, serves, house_by, work_comes}
 use Rattle.query_server.proofs.Disks.{may_stop_same}
 use Rattle.query_server.proofs.Owed.{histories}
 use Rattle.owner_books.proofs.Versions.{lawful_in}
@@ -109,6 +113,15 @@ verdict_ends (Ok left) status is = inl is
 verdict_ends (Err (TooLarge budget amount)) status is = inr (inl is)
 verdict_ends (Err (Full used unsettled capacity)) status is = inr (inr (inl is))
 
+-- the status of what comes of a task
+task_status : (task : Task) (outcome : Outcome) (status : Status) → IsOutcomeOf task outcome → status ≡ outcome_status outcome → task_statuses task status
+task_status (to_derive subject) (written_one text) status of is = inl is
+task_status (to_derive subject) (refused_one line) status of is = inr (inl is)
+task_status (to_derive subject) too_long status of is = inr (inr is)
+task_status (to_judge subject derivation) (written_one text) status of is = inl is
+task_status (to_judge subject derivation) (refused_one line) status of is = inr is
+task_status (to_judge subject derivation) too_long status of is = absurd (never_too_long subject derivation of)
+
 -- the statuses of each work
 abbrev pub IsStatusOf : Work → Status → Type 0
 IsStatusOf work = (duty_of work).statuses
@@ -130,6 +143,7 @@ due_status (to_grant amount one) b a script status text (inl due) = inr (inr (in
 due_status (to_grant amount one) b a script status text (inr due) = verdict_ends (verdict_on one due.version due.found amount) status due.is_status
 due_status (to_check tables program) b a script status text due = no_verdict (admission_of tables due.reading) status (λ is. due.walks (admitted_so tables program due.reading due.reads is)) due.is_status
 due_status (to_compare tables X Y program) b a script status text due = gap_verdict tables X Y program status text due
+due_status (of_derivation task) b a script status text (outcome, of, is, same) = task_status task outcome status of is
 
 -- the status of what is written, where it is of no failure
 pub status_written : (work : Work) (b a : Shelf) (script : List ℕ) (status wanted : Status) (text : List ℕ) → IsWrittenAt work b a script status text → status ≡ wanted → (wanted ≡ code.Fault → ⊥)
@@ -143,6 +157,8 @@ status_written work b a script status wanted text written is fault memory disk =
 refused_only : (ending : Work) → IsStatusOf ending code.Refused → (name : List ℕ) × (ending ≡ refused name)
 refused_only usage is = cc
 refused_only (refused name) is = (name, refl)
+refused_only (of_derivation (to_derive subject)) is = absurd (grind (arith, is))
+refused_only (of_derivation (to_judge subject derivation)) is = absurd (grind (arith, is))
 refused_only ending is = absurd (grind (arith, is))
 
 refused_text_of : (ending : Work) (name : List ℕ) (b a : Shelf) (script : List ℕ) (status : Status) (text : List ℕ) → ending ≡ refused name → IsDue ending b a script status text → text ≡ refused_text name
@@ -210,6 +226,20 @@ walks_by ending b a tables program script status text is walks (inl (inr (inl me
 walks_by ending b a tables program script status text is walks (inl (inr (inr disk, may))) = absurd (no_disk_named ending b a tables program text is disk.1)
 walks_by ending b a tables program script status text is walks (inr (fault, cut)) = inr fault
 
+-- what comes of a task is its one outcome
+outcome_by : (work : Work) (b a : Shelf) (task : Task) (outcome : Outcome) (script : List ℕ) (status : Status) (text : List ℕ) → work ≡ of_derivation task → IsOutcomeOf task outcome
+    → IsDue work b a script status text → (status ≡ outcome_status outcome) × (text ≡ outcome_text outcome)
+outcome_by work b a task outcome script status text is of due = same (subst (λ (w : Work). IsDue w b a script status text) is due)
+  where
+    same : IsOutcomeDue task status text → (status ≡ outcome_status outcome) × (text ≡ outcome_text outcome)
+    same (its, has, at, line) = let one = one_outcome task its outcome has of in (at ∙ ap outcome_status one, line ∙ ap outcome_text one)
+
+pub task_by : (work : Work) (b a : Shelf) (task : Task) (outcome : Outcome) (script : List ℕ) (status : Status) (text : List ℕ) → work ≡ of_derivation task → IsOutcomeOf task outcome
+    → IsWrittenAt work b a script status text → IfFinished status ((status ≡ outcome_status outcome) × (text ≡ outcome_text outcome))
+task_by work b a task outcome script status text is of due =
+    finished_map status (IsDue work b a script status text) ((status ≡ outcome_status outcome) × (text ≡ outcome_text outcome)) (outcome_by work b a task outcome script status text is of)
+    (finished_due work b a script status text due)
+
 -- the commands of a status
 pub usage_of : (command : Option Command) (work : Work) → ComesTo command work → IsStatusOf work code.Usage → command ≡ None
 usage_of command work no_command is = refl
@@ -218,6 +248,8 @@ usage_of command work other is = absurd (grind (arith, is))
 pub program_of : (command : Option Command) (work : Work) → ComesTo command work → IsStatusOf work code.ProgramRefused → IsOfProgram command
 program_of command work checks is = refl
 program_of command work compares is = refl
+program_of command work derives is = refl
+program_of command work judges is = refl
 program_of command work other is = absurd (grind (arith, is))
 
 pub run_of : (command : Option Command) (work : Work) → ComesTo command work → IsStatusOf work code.ScriptTooLong → IsOfRun command
@@ -228,6 +260,10 @@ pub grant_of : (command : Option Command) (work : Work) → ComesTo command work
 grant_of command work (grants {catalog = catalog} {key = key} {owner = owner} {amount = amount}) is = (catalog, key, owner, amount, refl)
 grant_of command work other (inl is) = absurd (grind (arith, is))
 grant_of command work other (inr is) = absurd (grind (arith, is))
+
+pub derive_of : (command : Option Command) (work : Work) → ComesTo command work → IsStatusOf work code.DerivationTooLong → IsOfDerive command
+derive_of command work (derives {catalog = catalog} {owner = owner} {file = file}) is = (catalog, owner, file, refl)
+derive_of command work other is = absurd (grind (arith, is))
 
 -- a journal is refused to a command that takes the owners' disks
 pub disks_of : (command : Option Command) (work : Work) → ComesTo command work → IsStatusOf work code.JournalRefused → IsOfDisks command

@@ -40,7 +40,7 @@ use Rattle.owner_books.specs.Books.{ArePassesOn, ArePutBack, GaveBook, IsNewPass
 use Rattle.query_server.specs.Ends.{Ended, IsScriptEnd, IsEndOf}
 use Rattle.catalog_loading.specs.declared.stops.Stop.{Stop}
 use Rattle.catalog_loading.specs.declared.stops.Stop.TheVariants.{Journal, Disk, NoMemory}
-use Rattle.query_server.specs.declared.end.End.TheVariants.{Done, ProgramRefused, ScriptTooLong, TooLarge, JournalFull}
+use Rattle.query_server.specs.declared.end.End.TheVariants.{Done, ProgramRefused, ScriptTooLong, TooLarge, JournalFull, DerivationTooLong}
 use Rattle.query_server.specs.declared.end.Status.TheVariants as code
 use Rattle.owner_books.proofs.Bundled.{many_known}
 use Rattle.owner_books.proofs.Passes.{all_back, fresh_none}
@@ -223,6 +223,7 @@ module _ (loading : Loading) (key : List ℕ) (versions : List ℕ) (counted : l
   run_ends workers old mid new passes after books script (Ok (ProgramRefused line)) some on wrong back = absurd wrong
   run_ends workers old mid new passes after books script (Ok (TooLarge line)) some on wrong back = absurd wrong
   run_ends workers old mid new passes after books script (Ok (JournalFull line)) some on wrong back = absurd wrong
+  run_ends workers old mid new passes after books script (Ok DerivationTooLong) some on wrong back = absurd wrong
   run_ends workers old mid new passes after books script (Ok ScriptTooLong) some on (long, none) back =
       inl (inr (
         versions,

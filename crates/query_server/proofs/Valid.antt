@@ -18,7 +18,7 @@ use Rattle.budget_ledger.specs.declared.both.BothFault.TheVariants.{Forked, Refu
 use Rattle.command_words.specs.Command.{Command, command_of}
 use Rattle.catalog_loading.specs.Files.{ReadsToCome}
 use Rattle.catalog_loading.specs.Loaded.{KeyedOwner, Loading, its_entry, its_header, new_entry, new_header, owners_in}
-use Rattle.query_server.specs.Work.{Work, usage, refused, to_answer, to_make, to_count, to_grant, to_check, to_compare, to_serve, to_generate}
+use Rattle.query_server.specs.Work.{Work, usage, refused, to_answer, to_make, to_count, to_grant, to_check, to_compare, to_serve, to_generate, of_derivation}
 use Rattle.owner_books.specs.Shelves.{Shelf, both_on, bytes_on}
 use Rattle.query_server.specs.Outside.{NoCallFailed, Outside}
 use Rattle.query_server.specs.Grant.{verdict_on, verdict_status}
@@ -137,6 +137,7 @@ ends_well (to_generate seed asks) b a script status text valid due = due.0
 ends_well (to_grant amount one) b a script status text valid (inl due) = absurd (never_unopened one b a due.refusal valid due.refused)
 ends_well (to_grant amount one) b a script status text valid (inr due) = granted_well (verdict_on one due.version due.found amount) status due.is_status
 ends_well (to_compare tables X Y program) b a script status text valid due = due_status (to_compare tables X Y program) b a script status text due
+ends_well (of_derivation task) b a script status text valid due = due_status (of_derivation task) b a script status text due
 
 pub complete_by : (work : Work) (b a : Shelf) (script : List ℕ) (status : Status) (text : List ℕ) → IsValidFor work b → (status ≡ code.Fault → ⊥) → (status ≡ code.DiskFault → ⊥)
     → IsWrittenAt work b a script status text → MayEndWell work status

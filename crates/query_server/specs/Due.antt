@@ -3,10 +3,10 @@ use Rattle.std.specs.Prelude.{◌≡◌, ◌⊎◌, ℕ, List, ◌++◌, Option,
 use Rattle.std.specs.Io.KnownBytes.{append_known}
 use Rattle.fz_outside.specs.Faults.{HasRisen}
 use Rattle.fz_ast.specs.Signature.{Signature}
-use Rattle.command_words.specs.Command.{Command, init, run, audit, grant, check, gap, serve, gen, command_of}
+use Rattle.command_words.specs.Command.{Command, init, run, audit, grant, check, gap, serve, gen, derive, judge, command_of}
 use Rattle.catalog_loading.specs.Files.{Contents, ReadsToCome, AreTold}
 use Rattle.catalog_loading.specs.Steps.{FileStep}
-use Rattle.query_server.specs.Work.{Work, ended, usage, refused, to_answer, to_make, to_count, to_grant, to_check, to_compare, to_serve, to_generate}
+use Rattle.query_server.specs.Work.{Work, ended, usage, refused, to_answer, to_make, to_count, to_grant, to_check, to_compare, to_serve, to_generate, of_derivation}
 use Rattle.query_server.specs.Duty.{Duty, Kind, line_duty, no_kind}
 use Rattle.owner_books.specs.Shelves.{Shelf}
 use Rattle.query_server.specs.Outside.{Outside, SomeDoorRose}
@@ -18,6 +18,7 @@ use Rattle.query_server.specs.Check.{check_duty, check_kind}
 use Rattle.query_server.specs.Gap.{gap_duty, gap_kind}
 use Rattle.query_server.specs.Serve.{serve_duty, serve_kind}
 use Rattle.query_server.specs.Gen.{gen_duty, gen_kind}
+use Rattle.query_server.specs.Derivation.{derivation_duty, derive_kind, judge_kind}
 use Rattle.query_server.specs.Status.{usage_text, refused_text, memory_text}
 use Rattle.query_server.specs.declared.end.Status.{Status}
 use Rattle.query_server.specs.declared.end.Status.TheVariants.{Usage, Refused, Fault, DiskFault, NoMemory}
@@ -33,6 +34,8 @@ command_kind (Some (check catalog owner file)) = check_kind catalog owner file
 command_kind (Some (gap catalog owner second_catalog file)) = gap_kind catalog owner second_catalog file
 command_kind (Some (serve catalog key address port workers each)) = serve_kind catalog key workers each
 command_kind (Some (gen seed asks workers)) = gen_kind seed asks
+command_kind (Some (derive catalog owner file)) = derive_kind catalog owner file
+command_kind (Some (judge catalog owner file derivation)) = judge_kind catalog owner file derivation
 
 -- The work that they come to.
 abbrev pub duty_of : Work → Duty
@@ -46,6 +49,7 @@ duty_of (to_check tables program) = check_duty tables program
 duty_of (to_compare tables X Y program) = gap_duty tables X Y program
 duty_of (to_serve workers each loading key) = serve_duty loading key workers each
 duty_of (to_generate seed asks) = gen_duty seed asks
+duty_of (of_derivation task) = derivation_duty task
 
 -- the steps of a command: the words decide first
 abbrev pub command_steps : Option Command → FileStep Work
@@ -67,6 +71,9 @@ IsOfProgram command = IsTrue (command_kind command).program
 
 abbrev pub IsOfMaking : Option Command → Type 0
 IsOfMaking command = (catalog key : List ℕ) × (command ≡ Some (init catalog key))
+
+abbrev pub IsOfDerive : Option Command → Type 0
+IsOfDerive command = (catalog owner file : List ℕ) × (command ≡ Some (derive catalog owner file))
 
 abbrev pub IsOfGrant : Option Command → Type 0
 IsOfGrant command = (catalog key owner : List ℕ) × (amount : ℕ) × (command ≡ Some (grant catalog key owner amount))

@@ -13,7 +13,7 @@ use Rattle.query_server.specs.Run.{script_limit}
 use Rattle.catalog_loading.specs.Steps.{FileStep}
 use Rattle.catalog_loading.specs.Loaded.{Loading}
 use Rattle.query_server.specs.Work.{Work, ended, to_count, to_make}
-use Rattle.query_server.specs.Status.{usage_text, refused_text, memory_text, too_long_text}
+use Rattle.query_server.specs.Status.{usage_text, refused_text, memory_text, too_long_text, derivation_too_long_text}
 use Rattle.query_server.specs.Due.{AreRead, IsDiskLine, IsDue, IsBeginning, MayStop}
 use Rattle.owner_books.specs.Shelves.{Shelf}
 use Rattle.query_server.specs.declared.end.Status.{Status}
@@ -21,7 +21,7 @@ use Rattle.query_server.specs.declared.end.Status.TheVariants as code
 use Rattle.catalog_loading.specs.declared.stops.Stop.{Stop}
 use Rattle.catalog_loading.specs.declared.stops.Stop.TheVariants.{Usage, Refused, Journal, Disk, Fault, NoMemory}
 use Rattle.query_server.specs.declared.end.End.{End}
-use Rattle.query_server.specs.declared.end.End.TheVariants.{Done, ProgramRefused, ScriptTooLong, TooLarge, JournalFull}
+use Rattle.query_server.specs.declared.end.End.TheVariants.{Done, ProgramRefused, ScriptTooLong, TooLarge, JournalFull, DerivationTooLong}
 use Rattle.query_server.specs.declared.listing.Listing.{Listing}
 use Rattle.query_server.specs.declared.listing.Listing.TheVariants.{Made, Counted}
 
@@ -48,6 +48,7 @@ end_status (ProgramRefused line) = code.ProgramRefused
 end_status ScriptTooLong = code.ScriptTooLong
 end_status (TooLarge line) = code.TooLarge
 end_status (JournalFull line) = code.JournalFull
+end_status DerivationTooLong = code.DerivationTooLong
 
 abbrev pub end_text : End → List ℕ
 end_text (Done lines) = lines.items
@@ -55,6 +56,7 @@ end_text (ProgramRefused line) = line.items
 end_text ScriptTooLong = too_long_text
 end_text (TooLarge line) = line.items
 end_text (JournalFull line) = line.items
+end_text DerivationTooLong = derivation_too_long_text
 
 -- a command's end, or what stopped it before
 abbrev pub Ended : Type 0
@@ -107,6 +109,7 @@ IsScriptEnd house draws workers script old new (Ok ScriptTooLong) = (script_limi
 IsScriptEnd house draws workers script old new (Ok (ProgramRefused line)) = ⊥
 IsScriptEnd house draws workers script old new (Ok (TooLarge line)) = ⊥
 IsScriptEnd house draws workers script old new (Ok (JournalFull line)) = ⊥
+IsScriptEnd house draws workers script old new (Ok DerivationTooLong) = ⊥
 IsScriptEnd house draws workers script old new (Err stop) = IsFailing stop × HaveAddedNone house old new
 
 -- The end's text is written with its status; or a prefix of it, and something failed.

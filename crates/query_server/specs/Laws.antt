@@ -31,15 +31,18 @@ use Rattle.generated_run.specs.SessionCore.Transcript.{IsScriptRun, Journals}
 use Rattle.command_words.specs.Command.{command_of}
 use Rattle.catalog_loading.specs.Files.{Contents, ReadsToCome, always}
 use Rattle.catalog_loading.specs.Loaded.{IsKeyedOwner, IsLoading, KeyedOwner, Loading, owners_in}
-use Rattle.query_server.specs.Work.{Work, refused, to_answer, to_check, to_compare, to_count, to_grant, to_make, to_serve}
+use Rattle.query_server.specs.Work.{Work, refused, to_answer, of_derivation, to_check, to_compare, to_count, to_grant, to_make, to_serve}
+use Rattle.derivation_commands.specs.Task.{Task}
+use Rattle.derivation_commands.specs.Outcome.{IsOutcomeOf, Outcome}
 use Rattle.owner_books.specs.Opened.{house_in}
 use Rattle.owner_books.specs.Shelves.{AreLost, EachDisk, IsOnlySynced, Shelf, SomeRose}
 use Rattle.owner_books.specs.Bays.{DisksFailed}
 use Rattle.query_server.specs.Outside.{NoCallFailed, Outside, Stays}
+use Rattle.query_server.specs.Derivation.{outcome_status, outcome_text}
 use Rattle.query_server.specs.Run.{IsScriptAnswered}
 use Rattle.query_server.specs.Check.{status_by}
 use Rattle.query_server.specs.Status.{refused_text}
-use Rattle.query_server.specs.Due.{IsOfDisks, IsOfGrant, IsOfProgram, IsOfRun, SomeFailed, files_of, work_of}
+use Rattle.query_server.specs.Due.{IsOfDerive, IsOfDisks, IsOfGrant, IsOfProgram, IsOfRun, SomeFailed, files_of, work_of}
 use Rattle.query_server.specs.Due.{AreRead, ForContents, IfFinished, IsBeginning, IsDue, IsFaultyWordsEnd, IsForProgram, IsLine, IsWrittenAt}
 use Rattle.query_server.specs.Promise.{IsAnsweredScript, IsRunLeft}
 use Rattle.query_server.specs.Service.{IsServiceDone, IsServiceLeft}
@@ -47,7 +50,7 @@ use Rattle.query_server.specs.Valid.{IsValidFor, MayEndWell}
 use Rattle.query_server.specs.Found.{AreKept, IsGrantMade, IsKept}
 use Rattle.query_server.specs.declared.end.Status.{Status}
 use Rattle.query_server.specs.declared.end.Status.TheVariants.{DiskFault as DiskFailed, Done, Fault, JournalFull, JournalRefused, NoMemory}
-use Rattle.query_server.specs.declared.end.Status.TheVariants.{ProgramRefused, Refused, ScriptTooLong, TooLarge, Usage}
+use Rattle.query_server.specs.declared.end.Status.TheVariants.{DerivationTooLong, ProgramRefused, Refused, ScriptTooLong, TooLarge, Usage}
 
 -- What follows from the clauses of the top call. Where files, source and sink tell what they hold, its clause `line` is exact: what
 -- is written is due, and the names that were read are those that are due, in order.
@@ -82,14 +85,22 @@ VerdictsAreExact = (words : List (List ℕ)) (before after : Outside) (status : 
     → IfFinished status (status ≡ status_by (admission_of tables reading))
     × (HasTooManyWalks tables program → (status ≡ NoMemory) ⊎ (status ≡ Fault))
 
--- Usage comes only where the words are no command, status 1 of a check or a gap alone, 8 of a run, 9 and 10 of a grant, and 4 of a command
--- that takes the owners' disks, whatever files and source tell.
+-- What comes of a derivation is its task's one outcome: status 0, 1 or 11 with its text.
+abbrev pub DerivationsAreExact : Type 0
+DerivationsAreExact = (words : List (List ℕ)) (before after : Outside) (status : Status) (text : List ℕ) → IsLine words before after status text
+    → (held : Contents) (task : Task) (outcome : Outcome) → before.files.held ≡ Some held
+    → work_of words (always held) ≡ of_derivation task → IsOutcomeOf task outcome
+    → IfFinished status ((status ≡ outcome_status outcome) × (text ≡ outcome_text outcome))
+
+-- Usage comes only where the words are no command, status 1 of a command that reads a program alone, 8 of a run, 9 and 10 of a grant, 11 of a
+-- `derive`, and 4 of a command that takes the owners' disks, whatever files and source tell.
 abbrev pub StatusesAreOfCommands : Type 0
 StatusesAreOfCommands = (words : List (List ℕ)) (before after : Outside) (status : Status) (text : List ℕ) → IsLine words before after status text
     → (status ≡ Usage → command_of words ≡ None)
     × (status ≡ ProgramRefused → IsOfProgram (command_of words))
     × (status ≡ ScriptTooLong → IsOfRun (command_of words))
     × ((status ≡ TooLarge) ⊎ (status ≡ JournalFull) → IsOfGrant (command_of words))
+    × (status ≡ DerivationTooLong → IsOfDerive (command_of words))
     × (status ≡ JournalRefused → IsOfDisks (command_of words))
 
 -- At faulty words the line of Usage is written, unless memory ran out or the sink failed: from `line` and `fault`.

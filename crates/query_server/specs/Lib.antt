@@ -8,6 +8,7 @@ pub mod Init
 pub mod Audit
 pub mod Check
 pub mod Gap
+pub mod Derivation
 pub mod Serve
 pub mod Enough
 pub mod Gen
@@ -17,6 +18,7 @@ pub mod Promise
 pub mod Valid
 pub mod Found
 pub mod Ends
+pub mod Ended
 pub mod Granted
 pub mod Service
 pub mod Taken

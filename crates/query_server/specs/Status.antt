@@ -2,7 +2,7 @@
 use Rattle.std.specs.Prelude.{ℕ, List, ◌++◌, codes}
 use Rattle.query_server.specs.declared.end.Status.{Status}
 use Rattle.query_server.specs.declared.end.Status.TheVariants.{Done, ProgramRefused, Usage, Refused, JournalRefused, Fault}
-use Rattle.query_server.specs.declared.end.Status.TheVariants.{DiskFault, NoMemory, ScriptTooLong, TooLarge, JournalFull}
+use Rattle.query_server.specs.declared.end.Status.TheVariants.{DiskFault, NoMemory, ScriptTooLong, TooLarge, JournalFull, DerivationTooLong}
 
 abbrev pub status_code : Status → ℕ
 status_code Done = 0
@@ -16,6 +16,7 @@ status_code NoMemory = 7
 status_code ScriptTooLong = 8
 status_code TooLarge = 9
 status_code JournalFull = 10
+status_code DerivationTooLong = 11
 
 abbrev pub usage_text : List ℕ
 usage_text = codes "usage\n"
@@ -28,3 +29,6 @@ memory_text = codes "memory\n"
 
 abbrev pub too_long_text : List ℕ
 too_long_text = codes "script too long\n"
+
+abbrev pub derivation_too_long_text : List ℕ
+derivation_too_long_text = codes "derivation too long\n"

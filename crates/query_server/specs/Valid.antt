@@ -10,7 +10,8 @@ use Rattle.budget_core.specs.Entries.{Entry}
 use Rattle.budget_core.specs.Legal.{IsHistory}
 use Rattle.budget_ledger.specs.Both.{AgreeOnCost, Tells}
 use Rattle.catalog_loading.specs.Loaded.{KeyedOwner, Loading, its_entry, its_header, new_entry, new_header, owners_in}
-use Rattle.query_server.specs.Work.{Work, usage, refused, to_answer, to_make, to_count, to_grant, to_check, to_compare, to_serve, to_generate}
+use Rattle.query_server.specs.Derivation.{task_statuses}
+use Rattle.query_server.specs.Work.{Work, usage, refused, to_answer, to_make, to_count, to_grant, to_check, to_compare, to_serve, to_generate, of_derivation}
 use Rattle.owner_books.specs.Shelves.{Shelf, both_on, bytes_on}
 use Rattle.query_server.specs.declared.end.Status.{Status}
 use Rattle.query_server.specs.declared.end.Status.TheVariants.{Done, ProgramRefused, NoMemory, ScriptTooLong, TooLarge, JournalFull}
@@ -72,10 +73,10 @@ IsValidFor (to_check tables program) shelf = ⊤
 IsValidFor (to_compare tables X Y program) shelf = ⊤
 IsValidFor (to_serve workers each loading key) shelf = HoldJournals loading key shelf
 IsValidFor (to_generate seed asks) shelf = ⊤
+IsValidFor (of_derivation task) shelf = ⊤
 
 -- The statuses of some work then, where nothing fails and memory suffices: a script may be too long, a grant too large or the journal full for it,
--- and a program
--- refused.
+-- a program or a derivation refused, and a derivation too long.
 abbrev pub EndsWell : Work → Status → Type 0
 EndsWell usage status = ⊥
 EndsWell (refused name) status = ⊥
@@ -87,6 +88,7 @@ EndsWell (to_check tables program) status = (status ≡ Done) ⊎ (status ≡ Pr
 EndsWell (to_compare tables X Y program) status = (status ≡ Done) ⊎ (status ≡ ProgramRefused)
 EndsWell (to_serve workers each loading key) status = status ≡ Done
 EndsWell (to_generate seed asks) status = status ≡ Done
+EndsWell (of_derivation task) status = task_statuses task status
 
 -- Memory may run out at any time.
 abbrev pub MayEndWell : Work → Status → Type 0

@@ -3,6 +3,7 @@ use Rattle.std.specs.Prelude.{ℕ, List, Result, Ok, Err}
 use Rattle.fz_ast.specs.Signature.{Signature}
 use Rattle.metric_values.specs.Tables.{Dataset}
 use Rattle.catalog_loading.specs.Loaded.{KeyedOwner, Loading}
+use Rattle.derivation_commands.specs.Task.{Task}
 
 -- Faulty words; a name that is refused; or work to be done, a case a command.
 pub data Work : Type 0 where
@@ -24,6 +25,8 @@ pub data Work : Type 0 where
   to_grant : (amount : ℕ) → KeyedOwner → Work
   -- by `gap`: a program is to be run over two datasets of these tables
   to_compare : (tables : Signature) (X Y : Dataset) (program : List ℕ) → Work
+  -- by `derive` and `judge`: a program's derivation is to be written, or judged
+  of_derivation : Task → Work
 
 -- what the steps of a command give, or the name that one refused
 abbrev pub ended : Result Work (List ℕ) → Work

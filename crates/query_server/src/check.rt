@@ -1,11 +1,10 @@
 //! A program is checked.
 
-ghost use Rattle.std.specs.Prelude.{◌≡◌, ℕ, List, Option, IfOk, IsErrOf};
-ghost use Rattle.fz_frac.specs.Sens.{distance_of};
+ghost use Rattle.std.specs.Prelude.{ℕ, List, Option, IfOk, IsErrOf};
 ghost use Rattle.fz_outside.specs.Faults.{HasRisen};
 ghost use Rattle.owner_house.specs.Names.{AreNames};
 ghost use Rattle.query_server.specs.Ends.{IsStepEnd, IsVerdictOn};
-ghost use Rattle.query_server.specs.Check.{accepted_text, check_steps};
+ghost use Rattle.query_server.specs.Check.{check_steps};
 ghost use Rattle.query_server.specs.Work.{to_check};
 ghost use Rattle.owner_books.specs.Shelves.{Shelf};
 ghost use Rattle.query_server.specs.Outside.{KeepsFiles};
@@ -13,13 +12,11 @@ ghost use Rattle.catalog_loading.specs.Given.{IsStep};
 ghost use Rattle.query_server.specs.Due.{ForContents};
 
 use crate::end::End;
-use crate::programs::refuse;
 use crate::whole::tables_of;
 use catalog_loading::{Stop, find_owner, load_for, open_catalog, read_file};
-use fz_frac::Sens;
+use derivation_commands::{refusal_line, sensitivity_line};
 use fz_outside::files::Files;
 use generated_run::check_program;
-use owner_books::put_sensitivity;
 use part_views::Dataset;
 use std::alloc::{AllocError, Global};
 
@@ -30,26 +27,15 @@ struct Candidate {
     program: Vec<u8>,
 }
 
-/// The line of an accepted program.
-fn accepted_line(alloc: Global, sens: Sens) -> Result<Vec<u8>, AllocError>
-    ensures { IfOk result (λ line. line.items ≡ accepted_text (distance_of sens)) }
-{
-    let mut line = Vec::new(alloc);
-    line.extend_from_slice(b"ok ")?;
-    put_sensitivity(&mut line, sens)?;
-    line.extend_from_slice(b"\n")?;
-    Ok(line)
-}
-
 /// What a program comes to over the tables of a dataset.
-#[tactic(auto, using(crate::proofs::Admitted::program_accepted))]
+#[tactic(auto, using(crate::proofs::Admitted::program_accepted, crate::proofs::Admitted::program_told))]
 fn admit(alloc: Global, dataset: &Dataset, program: &[u8]) -> Result<End, AllocError>
     requires { AreNames dataset.now.tables }
     ensures { IfOk result (IsVerdictOn dataset.now.tables program.now) }
 {
     match check_program(alloc, tables_of(dataset), program) {
-        Ok(accepted) => Ok(End::Done(accepted_line(alloc, accepted.sens)?)),
-        Err(refusal) => refuse(alloc, &refusal),
+        Ok(accepted) => Ok(End::Done(sensitivity_line(alloc, b"ok ", accepted.sens)?)),
+        Err(refusal) => Ok(End::ProgramRefused(refusal_line(alloc, &refusal)?)),
     }
 }
 

@@ -3,15 +3,17 @@
 ghost use Rattle.std.specs.Prelude.{◌≡◌};
 ghost use Rattle.query_server.specs.Status.{status_code};
 ghost use Rattle.query_server.specs.Ends.{status_at};
+ghost use Rattle.query_server.specs.Ended.{ended_as};
 
 use catalog_loading::Stop;
+use derivation_commands::Ending;
 
 /// The status of a command.
 #[derive(Clone, Copy, Debug, PartialEq, Eq)]
 pub enum Status {
     /// 0: all was done.
     Done,
-    /// 1: the program that was to be checked or compared is refused.
+    /// 1: the program is refused, or the derivation that was to be judged.
     ProgramRefused,
     /// 2: the words are no command.
     Usage,
@@ -32,6 +34,8 @@ pub enum Status {
     TooLarge,
     /// 10: an owner's journal has no room for a grant.
     JournalFull,
+    /// 11: the derivation that was to be written has over 2^26 bytes.
+    DerivationTooLong,
 }
 
 impl Status {
@@ -51,6 +55,7 @@ impl Status {
             Status::ScriptTooLong => 8,
             Status::TooLarge => 9,
             Status::JournalFull => 10,
+            Status::DerivationTooLong => 11,
         }
     }
 }
@@ -60,7 +65,7 @@ impl Status {
 pub(crate) enum End {
     /// All was done: the lines of that.
     Done(Vec<u8>),
-    /// The program of a `check` or a `gap` is refused: the line of that.
+    /// The program is refused, or the derivation that is judged: the line of that.
     ProgramRefused(Vec<u8>),
     /// The script of a `run` has over 2^24 bytes.
     ScriptTooLong,
@@ -68,6 +73,8 @@ pub(crate) enum End {
     TooLarge(Vec<u8>),
     /// There is no room for a grant: the line of that.
     JournalFull(Vec<u8>),
+    /// The derivation has over 2^26 bytes.
+    DerivationTooLong,
 }
 
 impl End {
@@ -82,6 +89,7 @@ impl End {
             End::ScriptTooLong => Status::ScriptTooLong,
             End::TooLarge(_) => Status::TooLarge,
             End::JournalFull(_) => Status::JournalFull,
+            End::DerivationTooLong => Status::DerivationTooLong,
         }
     }
 
@@ -92,7 +100,19 @@ impl End {
             End::Done(lines) => lines,
             End::ProgramRefused(line) | End::TooLarge(line) | End::JournalFull(line) => line,
             End::ScriptTooLong => b"script too long\n",
+            End::DerivationTooLong => b"derivation too long\n",
         }
+    }
+}
+
+/// How a `derive` or a `judge` ends that came to this.
+pub(crate) fn ended(given: Result<Ending, Stop>) -> Result<End, Stop>
+    ensures { result ≡ ended_as given }
+{
+    match given? {
+        Ending::Written(text) => Ok(End::Done(text)),
+        Ending::Refused(line) => Ok(End::ProgramRefused(line)),
+        Ending::TooLong => Ok(End::DerivationTooLong),
     }
 }
 

@@ -19,9 +19,9 @@ ghost use Rattle.catalog_loading.specs.Given.{IsOwnerAt, IsStep};
 ghost use Rattle.query_server.specs.Ends.{IsEndOf, IsGapOn, IsStepEnd};
 
 use crate::end::End;
-use crate::programs::refuse;
 use crate::whole::{rows_of, tables_of};
 use catalog_loading::{Stop, find_fitting, find_owner, load_for, open_catalog, read_file};
+use derivation_commands::refusal_line;
 use fuzz_eval::run::run;
 use fz_frac::Sens;
 use fz_outside::files::Files;
@@ -119,11 +119,11 @@ fn compare(
 {
     let term = match read_program(alloc, program) {
         Ok(term) => term,
-        Err(refusal) => return refuse(alloc, &refusal),
+        Err(refusal) => return Ok(End::ProgramRefused(refusal_line(alloc, &refusal)?)),
     };
     let admitted = match admit(alloc, tables_of(first), &term) {
         Ok(admitted) => admitted,
-        Err(refusal) => return refuse(alloc, &refusal),
+        Err(refusal) => return Ok(End::ProgramRefused(refusal_line(alloc, &refusal)?)),
     };
     let comparison = comparison_on(alloc, &admitted, first, second)?;
     Ok(End::Done(comparison_lines(alloc, &comparison)?))

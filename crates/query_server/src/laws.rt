@@ -3,7 +3,7 @@
 ghost use Rattle.query_server.specs.Enough.{ASoundDiskIsEnough, ASoundDiskIsEnoughToServe};
 ghost use Rattle.query_server.specs.Gap.{GapsAreBounded};
 ghost use Rattle.query_server.specs.Laws.{DiskRefusalsHaveCauses, GapsAreOfDatasets, OneWorkerTranscribes, OutsideStays, RunsAreAnswered};
-ghost use Rattle.query_server.specs.Laws.{LinesAreExact, ProgramsAreExact, RefusalsAreExact, VerdictsAreExact};
+ghost use Rattle.query_server.specs.Laws.{DerivationsAreExact, LinesAreExact, ProgramsAreExact, RefusalsAreExact, VerdictsAreExact};
 ghost use Rattle.query_server.specs.Laws.{FaultyWordsAreTold, StatusesAreOfCommands};
 ghost use Rattle.query_server.specs.Laws.{AuditsKeepWhatWasFound, GrantsKeepWhatWasFound, RunsKeepWhatWasFound, ServicesKeepWhatWasFound};
 ghost use Rattle.query_server.specs.Laws.{OneWorkerWritesTheTranscript, OwnersMakeTheHeadline};
@@ -29,7 +29,12 @@ pub fn verdicts_are_exact()
     ensures { VerdictsAreExact }
 {}
 
-/// Statuses 1, 2, 4, 8, 9 and 10 are of those commands alone that may end so.
+/// What is written of a derivation, and at which status, is as the words and the files give it.
+pub fn derivations_are_exact()
+    ensures { DerivationsAreExact }
+{}
+
+/// Statuses 1, 2, 4, 8, 9, 10 and 11 are of those commands alone that may end so.
 pub fn statuses_are_of_commands()
     ensures { StatusesAreOfCommands }
 {}

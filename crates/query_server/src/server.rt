@@ -18,7 +18,7 @@ ghost use Rattle.query_server.specs.Taken.{IsTakenAt};
 ghost use Rattle.std.specs.declared.alloc.Global.{Global as Heap};
 
 use crate::check::check_file;
-use crate::end::{End, Status};
+use crate::end::{End, Status, ended};
 use crate::gap::compare_files;
 use crate::generated::generate;
 use crate::grant::grant_budget;
@@ -28,6 +28,7 @@ use crate::serve::{Post, serve_doors};
 use crate::writing::finish;
 use catalog_loading::Stop;
 use command_words::{Command, WordsFault, read_words};
+use derivation_commands::{derive_file, judge_file};
 use fz_outside::files::Files;
 use fz_outside::sink::Sink;
 use fz_outside::source::Source;
@@ -148,10 +149,25 @@ where
                 workers,
             },
         ) => generate(rt, alloc, gate, seed, asks, workers),
+        Ok(
+            Command::Derive {
+                catalog,
+                owner,
+                file,
+            },
+        ) => ended(derive_file(alloc, files, catalog, owner, file)),
+        Ok(
+            Command::Judge {
+                catalog,
+                owner,
+                file,
+                derivation,
+            },
+        ) => ended(judge_file(alloc, files, catalog, owner, file, derivation)),
     }
 }
 
-/// Does one of eight commands. Each owner's budget is kept in a journal on its own disk of the bay.
+/// Does one of ten commands. Each owner's budget is kept in a journal on its own disk of the bay.
 ///
 /// - `init CATALOG KEY`: CATALOG is a catalog, KEY a file of 32 bytes. Each owner's journal is made on its disk, which has to be
 ///   empty, and a line for each goes to the sink.
@@ -174,9 +190,13 @@ where
 ///   is dropped, and counts as served. Both are answered once all have ended. Nothing goes to the sink.
 /// - `gen SEED N`, perhaps with WORKERS: in memory, and over no file, one analyst asks one owner N times. What that comes to follows from
 ///   SEED and N, and goes to the sink.
+/// - `derive CATALOG OWNER FILE`: the derivation of the program in FILE goes to the sink, or the line that refuses the program in a `check`, or the
+///   line that says that the derivation is too long. No table is read, nothing is taken of the source, and no disk.
+/// - `judge CATALOG OWNER FILE DERIVATION`: DERIVATION is judged as a derivation of the program in FILE. The line of a yes with its number goes to the
+///   sink, or the line that names the least line at fault, or the one that refuses a program that isn't read. It reads and takes nothing else either.
 ///
-/// Each but `gen` and `grant` reads the tables of all owners of its catalogs, in order, and `grant` those of its owner. At another status than Done
-/// the status's line goes to the sink.
+/// Each but `gen`, `grant`, `derive` and `judge` reads the tables of all owners of its catalogs, in order, and `grant` those of its owner. At another
+/// status than Done the status's line goes to the sink.
 /// Files, source, sink and disks tell what they hold, or don't; what is said of their contents holds where they do. Want of memory
 /// (`NoMemory`) may be answered at any time, at faulty words too; in a script that is answered, and in a session, it may be the reply to a
 /// line that asks: 90 before a reservation, and 51 after it. The runtime is for workers: each has a thread, and waits for the owners'
@@ -232,8 +252,8 @@ where
         IfFinished result ((text : List ℕ)
         × IsDue (work_of (map string_bytes words.now) (always held)) (B.shelf bay.old) (B.shelf bay.new) script result text) }
     // Where all that a command takes is valid and no count of faults rises, it ends well, or memory runs out: `init` and `audit` with
-    // Done, `grant` with Done, TooLarge or JournalFull, `run` with Done or with ScriptTooLong, `check` and `gap` with Done or ProgramRefused, `serve`
-    // and `gen` with Done.
+    // Done, `grant` with Done, TooLarge or JournalFull, `run` with Done or with ScriptTooLong, `check`, `gap` and `judge` with Done or ProgramRefused,
+    // `derive` with these or DerivationTooLong, `serve` and `gen` with Done.
     ensures complete { let given = map string_bytes words.now in (held : Contents) → F.held files.old ≡ Some held →
         IsValidFor (work_of given (always held)) (B.shelf bay.old) →
         (HasRisen (F.faults files.old) (F.faults files.new) → ⊥) → (HasRisen (S.faults source.old) (S.faults source.new) → ⊥) →

@@ -7,15 +7,27 @@ use Rattle.metric_values.specs.Tables.{apart, rows_of}
 use Rattle.metric_values.specs.Values.{NumV}
 use Rattle.generated_run.specs.AnswerPath.Reading.{read}
 use Rattle.generated_run.specs.AnswerPath.Admission.{accepted, admission_of}
-use Rattle.generated_run.specs.AnswerPath.Code.{IsAdmitted}
-use Rattle.generated_run.proofs.AnswerPath.Told.{admitted_walks_little}
+use Rattle.wire_lines.specs.Refusal.{refusal_at}
+use Rattle.generated_run.specs.AnswerPath.Code.{IsAdmitted, IsProgramRefusal}
+use Rattle.generated_run.proofs.AnswerPath.Told.{admitted_walks_little, term_refused}
 use Rattle.query_server.specs.Gap.{gap_text}
-use Rattle.query_server.proofs.Admitted.{gap_accepted}
+use Rattle.query_server.proofs.Admitted.{gap_accepted, gap_told}
 use Rattle.query_server.proofs.gap.compare.Goals as goal
 
 pub returns-in-Err : goal.returns-in-Err
 returns-in-Err c =
-    let tables = c.args.first.now.tables in c.refuse.ensures.gap tables c.args.first.now.rows c.args.second.now.rows c.args.program.now (c.in-Err.ensures.refused tables)
+    let tables = c.args.first.now.tables in
+    let said = c.in_ok-refusal_line-in-Err.ensures in
+    gap_told tables c.args.first.now.rows c.args.second.now.rows c.args.program.now _ (refusal_at c.in-Err.refusal) (c.in-Err.ensures.refused tables) said.some said.line
+
+pub returns-in-Err-admit : goal.returns-in-Err-admit
+returns-in-Err-admit c =
+    let program = c.args.program.now in
+    let refusal = refusal_at c.in-Err-admit.refusal in
+    let said = c.in_ok-refusal_line-in-Err-admit.ensures in
+    gap_told c.args.first.now.tables c.args.first.now.rows c.args.second.now.rows program _ refusal
+    (subst (λ (ts : Signature). IsProgramRefusal ts program refusal) c.tables_of.ensures.tables
+    (term_refused c.tables_of.result.now program c.in-Ok.term refusal c.in-Ok.ensures.term c.in-Err-admit.ensures.refused)) said.some said.line
 
 pub returns : goal.returns
 returns c =

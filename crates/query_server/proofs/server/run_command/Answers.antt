@@ -1,12 +1,14 @@
 use Rattle.std.proofs.Common.{◌∙◌, [], Some, refl, ap, map, string_bytes, arith}
-use Rattle.command_words.specs.Command.{audit, check, command_of, gap, gen, grant, init, run, serve}
+use Rattle.command_words.specs.Command.{audit, check, command_of, derive, gap, gen, grant, init, judge, run, serve}
 use Rattle.command_words.specs.Meant.{command_meant}
 use Rattle.command_words.proofs.Accepted.{in_range}
 use Rattle.query_server.proofs.Diskless.{command_no_disk}
 use Rattle.std.specs.Prelude.{None, Err}
 use mathlib.Core.Logic.{inl, inr}
 use Rattle.catalog_loading.specs.declared.stops.Stop.TheVariants.{NoMemory}
+use Rattle.derivation_commands.specs.Task.{derive_steps, judge_steps}
 use Rattle.query_server.specs.Work.{to_generate}
+use Rattle.query_server.proofs.Derived.{derived_end, derived_fault}
 use Rattle.query_server.proofs.Outcomes.{command_end, faulty_end, fileless_end, unread_end, unread_taken}
 use Rattle.query_server.proofs.Services.{doorless, listens, posted_end, posted_service, serve_cause, served_words, unserved_words}
 use Rattle.query_server.proofs.server.run_command.Goals as goal
@@ -211,3 +213,51 @@ returns-in-Ok-Run-clause-lost g c = λ line is. inr (c.run_script.ensures.lost l
 
 pub returns-in-Ok-Serve-clause-lost : goal.returns-in-Ok-Serve-clause-lost
 returns-in-Ok-Serve-clause-lost g c = λ line is. inr (c.serve_doors.ensures.lost line is)
+
+pub returns-in-Ok-Derive-clause-end : goal.returns-in-Ok-Derive-clause-end
+returns-in-Ok-Derive-clause-end g c =
+    let r = c.in-Ok-Derive in command_end _ (Some (derive r.catalog.now r.owner.now r.file.now)) _ _ _ _ _ _ _ (r.ensures.read ∙ ap (λ command. Some (command_meant command)) r.field-0-is)
+    (derived_end _ (g.S.Source.left c.args.source.now) _ _ (g.B.Bay.shelf c.args.bay.now) (derive_steps r.catalog.now r.owner.now r.file.now) _ _ c.ended.ensures c.derive_file.ensures.end)
+
+pub returns-in-Ok-Derive-clause-service : goal.returns-in-Ok-Derive-clause-service
+returns-in-Ok-Derive-clause-service g c =
+    let r = c.in-Ok-Derive in doorless _ (Some (derive r.catalog.now r.owner.now r.file.now)) (r.ensures.read ∙ ap (λ command. Some (command_meant command)) r.field-0-is) (λ listens. cc listens)
+
+pub returns-in-Ok-Derive-clause-disk : goal.returns-in-Ok-Derive-clause-disk
+returns-in-Ok-Derive-clause-disk g c = λ line is.
+    let r = c.in-Ok-Derive in
+    let due = derived_end _ (g.S.Source.left c.args.source.now) _ _ (g.B.Bay.shelf c.args.bay.now) (derive_steps r.catalog.now r.owner.now r.file.now) _ _ c.ended.ensures c.derive_file.ensures.end in
+    absurd (command_no_disk (Some (derive r.catalog.now r.owner.now r.file.now)) _ _ _ _ _ _ c.ended.result line (λ takes. cc takes) is due)
+
+pub returns-in-Ok-Derive-clause-lost : goal.returns-in-Ok-Derive-clause-lost
+returns-in-Ok-Derive-clause-lost g c = λ line is.
+    let r = c.in-Ok-Derive in
+    let due = derived_end _ (g.S.Source.left c.args.source.now) _ _ (g.B.Bay.shelf c.args.bay.now) (derive_steps r.catalog.now r.owner.now r.file.now) _ _ c.ended.ensures c.derive_file.ensures.end in
+    absurd (command_no_disk (Some (derive r.catalog.now r.owner.now r.file.now)) _ _ _ _ _ _ c.ended.result line (λ takes. cc takes) is due)
+
+pub returns-in-Ok-Derive-clause-cause : goal.returns-in-Ok-Derive-clause-cause
+returns-in-Ok-Derive-clause-cause g c = λ is. inl (c.derive_file.ensures.cause (derived_fault _ _ c.ended.ensures is))
+
+pub returns-in-Ok-Judge-clause-end : goal.returns-in-Ok-Judge-clause-end
+returns-in-Ok-Judge-clause-end g c =
+    let r = c.in-Ok-Judge in command_end _ (Some (judge r.catalog.now r.owner.now r.file.now r.derivation.now)) _ _ _ _ _ _ _ (r.ensures.read ∙ ap (λ command. Some (command_meant command)) r.field-0-is)
+    (derived_end _ (g.S.Source.left c.args.source.now) _ _ (g.B.Bay.shelf c.args.bay.now) (judge_steps r.catalog.now r.owner.now r.file.now r.derivation.now) _ _ c.ended-in-Ok-Judge.ensures c.judge_file.ensures.end)
+
+pub returns-in-Ok-Judge-clause-service : goal.returns-in-Ok-Judge-clause-service
+returns-in-Ok-Judge-clause-service g c =
+    let r = c.in-Ok-Judge in doorless _ (Some (judge r.catalog.now r.owner.now r.file.now r.derivation.now)) (r.ensures.read ∙ ap (λ command. Some (command_meant command)) r.field-0-is) (λ listens. cc listens)
+
+pub returns-in-Ok-Judge-clause-disk : goal.returns-in-Ok-Judge-clause-disk
+returns-in-Ok-Judge-clause-disk g c = λ line is.
+    let r = c.in-Ok-Judge in
+    let due = derived_end _ (g.S.Source.left c.args.source.now) _ _ (g.B.Bay.shelf c.args.bay.now) (judge_steps r.catalog.now r.owner.now r.file.now r.derivation.now) _ _ c.ended-in-Ok-Judge.ensures c.judge_file.ensures.end in
+    absurd (command_no_disk (Some (judge r.catalog.now r.owner.now r.file.now r.derivation.now)) _ _ _ _ _ _ c.ended-in-Ok-Judge.result line (λ takes. cc takes) is due)
+
+pub returns-in-Ok-Judge-clause-lost : goal.returns-in-Ok-Judge-clause-lost
+returns-in-Ok-Judge-clause-lost g c = λ line is.
+    let r = c.in-Ok-Judge in
+    let due = derived_end _ (g.S.Source.left c.args.source.now) _ _ (g.B.Bay.shelf c.args.bay.now) (judge_steps r.catalog.now r.owner.now r.file.now r.derivation.now) _ _ c.ended-in-Ok-Judge.ensures c.judge_file.ensures.end in
+    absurd (command_no_disk (Some (judge r.catalog.now r.owner.now r.file.now r.derivation.now)) _ _ _ _ _ _ c.ended-in-Ok-Judge.result line (λ takes. cc takes) is due)
+
+pub returns-in-Ok-Judge-clause-cause : goal.returns-in-Ok-Judge-clause-cause
+returns-in-Ok-Judge-clause-cause g c = λ is. inl (c.judge_file.ensures.cause (derived_fault _ _ c.ended-in-Ok-Judge.ensures is))

@@ -1,0 +1,4 @@
+pub mod Task
+pub mod Outcome
+pub mod Held
+pub mod Ends

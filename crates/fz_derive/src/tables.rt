@@ -1,0 +1,1 @@
+//! The tables as names in scope.
