@@ -6,8 +6,7 @@ It says what the program's `judge` says of the same files, and ends with the sam
     0  yes R                       every line follows by its node's rule; R is the greatest number in line 0
     1  no LINE                     the least line, from 0, that is missing, too many or not of the form; where all are, the first whose rule fails
     1  no 20 P, no 21 T, no 22 D   the program in FILE isn't read
-    3  refused NAME                a file is absent or over 2^26 bytes, or OWNER isn't in CATALOG, or OWNER's tables can't be found in it (what else may be
-                                   wrong with a catalog isn't looked at here)
+    3  refused NAME                a file is absent or over 2^26 bytes, or CATALOG hasn't OWNER, or no tables of it: no more of a catalog is looked at here
     2, 5, 7                        `usage`; a file can't be read; `memory`
 The owner's tables are in the catalog, by name and type; no table's file is read. A program's term has a node for each of its forms, before those of its
 parts, and these as they are written. A derivation has a line for each node, which may say more than its rule, and never less:
@@ -45,8 +44,9 @@ def tokens_of(data, most=None):
         found = TOKEN.match(data, at)
         blanks, word, digits, text = found.groups() if found else (None,) * 4
         if not blanks:
-            number, is_name = int((digits or b"").lstrip(b"0")[:17] or 0), word and word.decode() not in WORDS
-            need(found and number <= 2**50 and not (is_name and len(word) > 32) and len(tokens) != most, 1, f"no 20 {at}")
+            number, is_name = int(digits.lstrip(b"0")[:17] or 0) if digits else 0, word and word.decode() not in WORDS
+            if not found or number > 2**50 or (is_name and len(word) > 32) or len(tokens) == most:
+                raise Fault(1, f"no 20 {at}")
             kind = ("number" if 1 <= number <= MOST else "other") if digits else "name" if is_name else "quoted" if text else found[0].decode()
             tokens.append((kind, number if digits else word.decode() if is_name else None))
         at = found.end()
@@ -55,16 +55,17 @@ def tokens_of(data, most=None):
 
 # Types have numbers, equal ones the same. Of a bang the first part is its amount: a whole number, a fraction or inf. Ground is what has no function inside,
 # flat what has no bag either.
-NUMBER, KINDS, Kind = {}, [], namedtuple("Kind", "form parts ground flat formed depth")
+Kind = namedtuple("Kind", "form parts ground flat formed depth")
+NUMBER, KINDS, INNERMOST = {}, [], Kind("", (), True, True, True, 0)
 
 
 def made(form, *parts):
     if (form, parts) not in NUMBER:
-        inside = [KINDS[part] for part in parts[form == "!" :]]
-        ground, flat, formed = all(one.ground for one in inside), all(one.flat for one in inside), all(one.formed for one in inside)
+        a, b = (KINDS[parts[form == "!"]], KINDS[parts[-1]]) if parts else (INNERMOST, INNERMOST)
+        ground, flat, formed = a.ground and b.ground, a.flat and b.flat, a.formed and b.formed
+        formed = formed and (form != "+" or ground) and (form != "bag" or flat)
         NUMBER[form, parts] = len(KINDS)
-        KINDS.append(Kind(form, parts, ground and form != "-o", flat and form not in ("-o", "bag"),
-                          formed and (form != "+" or ground) and (form != "bag" or flat), 1 + max([one.depth for one in inside], default=0)))  # fmt: skip
+        KINDS.append(Kind(form, parts, ground and form != "-o", flat and form not in ("-o", "bag"), formed, 1 + max(a.depth, b.depth)))
     return NUMBER[form, parts]
 
 
@@ -129,21 +130,22 @@ for name in PHRASES:
         TABLE[name].setdefault(token, steps[::-1])
 
 
-def read(phrase, tokens):
-    """The values of a phrase that all tokens are. What is still to be read waits on a stack: nothing here recurses."""
-    waits, values, at = ["end", TABLE[phrase]], [], 0
+@lru_cache(None)
+def read(phrase, data, most=None):
+    """The values of a phrase that all of the data is, in so many tokens. What is still to be read waits on a stack: nothing here recurses."""
+    tokens, waits, values, at = tokens_of(data, most), ["end", TABLE[phrase]], [], 0
     while waits:
         step, (kind, value) = waits.pop(), tokens[at]
         if isinstance(step, tuple):
             first = len(values) - step[0]
             values[first:] = [step[1](*values[first:])]
-        elif isinstance(step, dict):
-            need(kind in step or None in step, 1, f"no 21 {at}")
-            waits += step[kind if kind in step else None]
-        else:
-            need(kind == step, 1, f"no 21 {at}")
+        elif kind == step:
             values += [] if value is None else [value]
             at += 1
+        elif isinstance(step, str) or not (kind in step or None in step):
+            raise Fault(1, f"no 21 {at}")
+        else:
+            waits += step[kind if kind in step else None]
     return values
 
 
@@ -213,13 +215,10 @@ def follow(node, lines, scope):
     }[node.form]()  # fmt: skip
 
 
-values_in = lru_cache(None)(lambda phrase, piece: read(phrase, tokens_of(piece)))
-
-
 def line_of(data):
     """A line's type, and its amount by each name."""
     pieces = data.split(b"|")
-    kind, said = values_in("TYPE", pieces[0])[0], [values_in("SAID", piece) for piece in pieces[1:]]
+    kind, said = read("TYPE", pieces[0])[0], [read("SAID", piece) for piece in pieces[1:]]
     need(all(one[0] < other[0] for one, other in zip(said, said[1:])))
     return kind, dict(said)
 
@@ -254,7 +253,7 @@ def judged(term, tables, data):
 def program_of(data):
     """The term of a program's bytes."""
     need(len(data) <= 16_000, 1, "no 20 16000")
-    (term,) = read("TERM", tokens_of(data, 4096))
+    (term,) = read("TERM", data, 4096)
     need(term.depth <= 64, 1, f"no 22 {term.depth}")
     return term
 
@@ -262,7 +261,7 @@ def program_of(data):
 def tables_of(data, owner, name):
     """The types of an owner's tables, by name, from a catalog's bytes."""
     try:
-        entries = {entry["name"]: entry["tables"] for entry in json.loads(data)["owners"]}
+        entries = {entry["name"]: entry["tables"] for entry in json.loads(data.decode())["owners"]}
         rows = {table["name"]: [{"num": NUM, "text": TEXT}[column["type"]] for column in table["columns"]] for table in entries.get(owner, ())}
         tables = {table: made("bag", reduce(lambda rest, cell: made("*", cell, rest), reversed(row))) for table, row in rows.items()}
     except (ValueError, LookupError, TypeError, RecursionError):
