@@ -6,7 +6,7 @@ First the rows that are worked out by hand (derivation_rows.py), with --rows the
 ranges, types in other words, lines and bytes that are wrong, and how the commands end. Then COUNT random programs (20,000 where none is said), of which the
 program's `derive` writes what the second implementation does, or refuses them as `check` does. All judges say yes to it, with the sensitivity. Then something of
 it is changed: a number, a line, a name, bytes, a type in other words, bytes behind it. All judges say the same of that.
---alone leaves out the program. It ends with status 1 where two differ, or where a kind of change, or of what is said, didn't come.
+--alone leaves out the program. It ends with status 1 where two differ, or where of 5,000 programs or more a kind of change, or of what is said, didn't come.
 """
 import os
 import random
@@ -32,6 +32,8 @@ from runs import asked  # noqa: E402
 
 PROGRAM = os.path.abspath(os.environ.get("PROGRAM", f"{TOP}/out/hitchseason"))
 JUDGE = f"{TOP}/tools/judge.py"
+# Of so many programs on each kind of change must have come, with all that may be said of it.
+ENOUGH = 5_000
 
 
 def bytes_of(lines):
@@ -214,7 +216,7 @@ def main():
     if not rows:
         print(f"{sum(comparison.kinds.values())} programs:", ", ".join(f"{kind} {many}" for kind, many in sorted(comparison.kinds.items())))
         print("changed:", ", ".join(f"{kind} {many}" for kind, many in sorted(comparison.came.items())))
-        lacking = [kind for kind in CHANGES if not comparison.came[kind]]
+        lacking = [kind for kind in CHANGES if not comparison.came[kind] and count >= ENOUGH]
         lacking += [f"{kind}, which may not come" for kind in comparison.came if kind not in CHANGES and comparison.came[kind]]
     if lacking:
         print("none came of", ", ".join(lacking))
