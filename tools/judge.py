@@ -22,7 +22,7 @@ from math import inf
 
 WORDS = set("""fun fn let in case of inl inr if then else fst snd true false num text unit bool bag inf size sum clip least greatest map filter split
     union do release at""".split())  # fmt: skip
-MOST, FILE_LIMIT = 2**32 - 1, 2**26
+HALF, FILE_LIMIT, PROGRAM_LIMIT, TOKEN_LIMIT, NEST_LIMIT, NUMBER_LIMIT, NAME_BYTES = 2**32 - 1, 2**26, 16_000, 4096, 64, 2**50, 32
 
 
 class Fault(Exception):
@@ -34,7 +34,7 @@ def need(holds, *fault):
         raise Fault(*fault)
 
 
-# Tokens are kinds and values. The kind of a word or a sign is itself; a number that is 0 or above MOST is `other`.
+# Tokens are kinds and values. The kind of a word or a sign is itself; a number that is 0 or above HALF is `other`.
 TOKEN = re.compile(rb'([ \t\r\n]+)|([A-Za-z_][A-Za-z0-9_]*)|([0-9]+)|("[ !#-~\x80-\xff]{0,64}")|(?:=>|->|-o(?![A-Za-z0-9_])|<=|==|[][()<>,:=!|+*&/-])')
 
 
@@ -45,9 +45,9 @@ def tokens_of(data, most=None):
         blanks, word, digits, text = found.groups() if found else (None,) * 4
         if not blanks:
             number, is_name = int(digits.lstrip(b"0")[:17] or 0) if digits else 0, word and word.decode() not in WORDS
-            if not found or number > 2**50 or (is_name and len(word) > 32) or len(tokens) == most:
+            if not found or number > NUMBER_LIMIT or (is_name and len(word) > NAME_BYTES) or len(tokens) == most:
                 raise Fault(1, f"no 20 {at}")
-            kind = ("number" if 1 <= number <= MOST else "other") if digits else "name" if is_name else "quoted" if text else found[0].decode()
+            kind = ("number" if 1 <= number <= HALF else "other") if digits else "name" if is_name else "quoted" if text else found[0].decode()
             tokens.append((kind, number if digits else word.decode() if is_name else None))
         at = found.end()
     return [*tokens, ("end", None)]
@@ -56,12 +56,12 @@ def tokens_of(data, most=None):
 # Types have numbers, equal ones the same. Of a bang the first part is its amount: a whole number, a fraction or inf. Ground is what has no function inside,
 # flat what has no bag either.
 Kind = namedtuple("Kind", "form parts ground flat formed depth")
-NUMBER, KINDS, INNERMOST = {}, [], Kind("", (), True, True, True, 0)
+NUMBER, KINDS, INNERHALF = {}, [], Kind("", (), True, True, True, 0)
 
 
 def made(form, *parts):
     if (form, parts) not in NUMBER:
-        a, b = (KINDS[parts[form == "!"]], KINDS[parts[-1]]) if parts else (INNERMOST, INNERMOST)
+        a, b = (KINDS[parts[form == "!"]], KINDS[parts[-1]]) if parts else (INNERHALF, INNERHALF)
         ground, flat, formed = a.ground and b.ground, a.flat and b.flat, a.formed and b.formed
         formed = formed and (form != "+" or ground) and (form != "bag" or flat)
         NUMBER[form, parts] = len(KINDS)
@@ -149,11 +149,11 @@ def read(phrase, data, most=None):
     return values
 
 
-# What is used at names is an amount by each. Neither half of a fraction may be above MOST.
+# What is used at names is an amount by each. Neither half of a fraction may be above HALF.
 
 
 def fitting(amount):
-    need(amount == inf or max(amount.numerator, amount.denominator) <= MOST)
+    need(amount == inf or max(amount.numerator, amount.denominator) <= HALF)
     return amount
 
 
@@ -202,12 +202,12 @@ def follow(node, lines, scope):
         "!": lambda: (made("!", g, A), scaled(g, a)), "let!": lambda: (B, add(b, scaled(divided(r, parts_of("!", A)[0]), a)), KINDS[A].parts[1]),
         "let": lambda: (B, add(b, scaled(r, a)), A),
         "+": lambda: need(A == B == NUM) or (NUM, add(a, b)), "-": lambda: need(A == B == NUM) or (NUM, add(a, b)),
-        "*": lambda: need(A == NUM and g <= MOST) or (NUM, scaled(g, a)),
+        "*": lambda: need(A == NUM and g <= HALF) or (NUM, scaled(g, a)),
         "<=": lambda: need(A == B == NUM) or (BOOL, add(scaled(inf, a), scaled(inf, b))),
         "==": lambda: need(A == B and A in (NUM, TEXT)) or (BOOL, add(scaled(inf, a), scaled(inf, b)) if A == NUM else add(a, b)),
         "clip": lambda: need(A == NUM) or (NUM, a), "size": lambda: need(KINDS[A].form == "bag") or (NUM, a),
         "least": lambda: need(A == PAIR) or (NUM, a), "greatest": lambda: need(A == PAIR) or (NUM, a),
-        "sum": lambda: need(A == made("bag", NUM) and g <= MOST) or (NUM, scaled(g, a)),
+        "sum": lambda: need(A == made("bag", NUM) and g <= HALF) or (NUM, scaled(g, a)),
         "union": lambda: need(KINDS[A].form == "bag" and A == B) or (A, add(a, b)),
         "map": lambda: over_bag(lambda image: need(KINDS[image].flat) or made("bag", image)),
         "filter": lambda: over_bag(lambda image: need(image == BOOL) or B),
@@ -252,9 +252,9 @@ def judged(term, tables, data):
 
 def program_of(data):
     """The term of a program's bytes."""
-    need(len(data) <= 16_000, 1, "no 20 16000")
-    (term,) = read("TERM", data, 4096)
-    need(term.depth <= 64, 1, f"no 22 {term.depth}")
+    need(len(data) <= PROGRAM_LIMIT, 1, f"no 20 {PROGRAM_LIMIT}")
+    (term,) = read("TERM", data, TOKEN_LIMIT)
+    need(term.depth <= NEST_LIMIT, 1, f"no 22 {term.depth}")
     return term
 
 
