@@ -23,6 +23,7 @@ from places import TOP  # noqa: E402
 sys.path.append(f"{TOP}/tools")
 import judge  # noqa: E402
 from beginning import begin, numbers  # noqa: E402
+from catalog import catalog, owner  # noqa: E402
 from derivation_rows import BYTES, ENDS, FORMS, ROWS, TEXTS, TOO_LONG, UNREAD  # noqa: E402
 from deriving import TooLong, derived, verdict  # noqa: E402
 from programs import Refused, deep, read, sensitivity_text  # noqa: E402
@@ -146,6 +147,12 @@ class Comparison:
         self.write("p", b"size people")
         self.write("d", b"num | people 1\nbag num | people 1\n")
         self.write("no.json", b"{")
+        columns = (("a", "text"), ("b", "num"), ("c", "num"), ("d", "text"))
+        tables = [(f"t{number}", "none.csv", columns[:number]) for number in range(1, 5)]
+        self.write("wide.json", catalog(owner("narrow", tables[:1]), owner("wide", tables)))
+        for number, row in enumerate(("text", "(text * num)", "(text * (num * num))", "(text * (num * (num * text)))"), 1):
+            self.write(f"p{number}", b"size t%d" % number)
+            self.write(f"d{number}", f"num | t{number} 1\nbag {row} | t{number} 1\n".encode())
         os.mkdir(f"{self.room}/folder")
         with open(f"{self.room}/long", "wb") as file:
             file.truncate(2**26 + 1)
