@@ -360,5 +360,5 @@ ENDS = [
     (["cat.json", "census", "folder", "d"], 5, ""),
     # Tables of one column to four, of which no file is there; and those of another owner.
     *[(["wide.json", "wide", f"p{columns}", f"d{columns}"], 0, YES) for columns in range(1, 5)],
-    (["wide.json", "wide", "p3", "d4"], 1, "no 0\n"), (["wide.json", "narrow", "p1", "d1"], 0, YES), (["wide.json", "narrow", "p2", "d2"], 1, "no 0\n"),
+    (["wide.json", "wide", "p3", "d4"], 1, "no 1\n"), (["wide.json", "narrow", "p1", "d1"], 0, YES), (["wide.json", "narrow", "p2", "d2"], 1, "no 0\n"),
 ]  # fmt: skip
