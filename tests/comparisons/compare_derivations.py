@@ -6,7 +6,7 @@ First the rows that are worked out by hand (derivation_rows.py), with --rows the
 ranges, types in other words, lines and bytes that are wrong, and how the commands end. Then COUNT random programs (20,000 where none is said), of which the
 program's `derive` writes what the second implementation does, or refuses them as `check` does. All judges say yes to it, with the sensitivity. Then something of
 it is changed: a number, a line, a name, bytes, a type in other words, bytes behind it. All judges say the same of that.
---alone leaves out the program. It ends with status 1 where two differ, or where of 5,000 programs or more a kind of change, or of what is said, didn't come.
+--alone leaves out the program. It ends with status 1 where two differ, or where of 5,000 programs or more a kind of change, or of what is said, didn't come. With as many a derivation of 2^26 bytes is written and judged, too.
 """
 import os
 import random
@@ -24,8 +24,9 @@ sys.path.append(f"{TOP}/tools")
 import judge  # noqa: E402
 from beginning import begin, numbers  # noqa: E402
 from catalog import catalog, owner  # noqa: E402
-from derivation_rows import BYTES, ENDS, FORMS, ROWS, TEXTS, TOO_LONG, UNREAD  # noqa: E402
-from deriving import TooLong, derived, verdict  # noqa: E402
+from bounds import FILE_LIMIT  # noqa: E402
+from derivation_rows import BYTES, ENDS, FORMS, ROWS, TEXTS, TOO_LONG, UNREAD, of_size  # noqa: E402
+from deriving import TooLong, derived, lines_of, size_of, verdict  # noqa: E402
 from programs import Refused, deep, read, sensitivity_text  # noqa: E402
 from random_derivations import CHANGES, changed  # noqa: E402
 from random_programs import CATALOG, TABLES, accepted_of, program_of  # noqa: E402
@@ -55,6 +56,10 @@ def by_second(program, derivation):
         return verdict(deep(lambda: read(program)), TABLES, derivation)
     except Refused as refusal:
         return f"no {refusal}"
+
+
+def measured(program):
+    return size_of(lines_of(asked(program, TABLES)[0], TABLES))
 
 
 class Comparison:
@@ -142,6 +147,18 @@ class Comparison:
             if not self.alone:
                 self.must(f"derive: too long, of {program[-80:]}", self.by_program(0, program) == made, True)
 
+    def at_the_limit(self):
+        """A derivation of 2^26 bytes is written and judged, and one of a byte more isn't written."""
+        for size in (FILE_LIMIT, FILE_LIMIT + 1):
+            program = of_size(size, measured)
+            self.must(f"a program whose derivation has {size} bytes", measured(program), size)
+            status, said = self.by_program(0, program)
+            if size > FILE_LIMIT:
+                self.must("derive, of a byte too many", (status, said), (11, b"derivation too long\n"))
+                continue
+            self.must("derive, of 2^26 bytes", (status, said == derived(asked(program, TABLES)[0], TABLES)), (0, True))
+            self.must("judge, of 2^26 bytes", self.by_program(0, program, said), (0, b"yes 0\n"))
+
     def ends(self):
         """Usage, and files that are absent, too long or wrong."""
         self.write("p", b"size people")
@@ -217,6 +234,8 @@ def main():
         comparison.write("cat.json", CATALOG)
         comparison.by_hand()
         print(f"{comparison.rows} rows by hand", flush=True)
+        if count >= ENOUGH and not alone and not rows:
+            comparison.at_the_limit()
         for first in range(0, 0 if rows else count, 200):
             comparison.compare([Case(rng) for _ in range(min(200, count - first))], pool)
     lacking = []

@@ -339,6 +339,19 @@ def doubling(names, last=""):
 # Programs, and whether their derivations are over 2^26 bytes. That of 58 names has as many as no machine holds.
 TOO_LONG = [(doubling(16), False), (doubling(22), True), (doubling(58), True)]
 
+def of_size(size, measured):
+    """A program whose derivation has so many bytes, some millions, by what MEASURED says of programs: pairs, then names of pairs, the greatest first, which are as
+    many bytes as they fit, and then units and ones: each of these is 9 bytes more, and each one with its sum 8."""
+    pairs = next(names for names in range(1, 99) if measured(doubling(names + 1)) > size - 10_000)
+    more = ""
+    for name in range(pairs, -1, -1):
+        while measured(doubling(pairs, f"{more}let b = a{name} in ")) <= size - 100:
+            more += f"let b = a{name} in "
+    lacking = size - measured(doubling(pairs, more))
+    units = lacking % 8
+    return doubling(pairs, more + "let u = () in " * units + "1 + " * ((lacking - 9 * units) // 8))
+
+
 USAGE, YES = "usage\n", "yes 1\n"
 ENDS = [
     (["cat.json", "census", "p", "d"], 0, YES),

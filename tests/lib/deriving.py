@@ -4,6 +4,7 @@ are kept, or those of a line are taken instead.
     derived(TERM, TABLES)            the least derivation's bytes, for an accepted term; TooLong where there are more than 2^26
     verdict(TERM, TABLES, DATA)      what `judge` says of a derivation's bytes
     lines_of(TERM, TABLES)           a line's type and uses for each node of an accepted term, in preorder
+    size_of(LINES)                   how many bytes such lines have
     line_text(TYPE, USES)            a line, without its end
     nodes_of(TERM)                   the nodes, in preorder
 """
@@ -81,13 +82,17 @@ def line_text(t, uses):
     return type_text(t, {}) + uses_text(uses)
 
 
+def size_of(lines):
+    """How many bytes lines have."""
+    known = {}
+    return sum(length_of(t, known) + len(uses_text(uses)) + 1 for t, uses in lines)
+
+
 def derived(term, tables):
     lines, known = lines_of(term, tables), {}
-    says = [uses_text(uses) for _, uses in lines]
-    if sum(length_of(t, known) + len(said) + 1 for (t, _), said in zip(lines, says)) > FILE_LIMIT:
+    if size_of(lines) > FILE_LIMIT:
         raise TooLong
-    known = {}
-    return "".join(f"{type_text(t, known)}{said}\n" for (t, _), said in zip(lines, says)).encode()
+    return "".join(f"{type_text(t, known)}{uses_text(uses)}\n" for t, uses in lines).encode()
 
 
 # Judging.
