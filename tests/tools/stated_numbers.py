@@ -19,11 +19,11 @@ import bounds  # noqa: E402
 
 # What a definition is called, or what stands around its number.
 DEFINITIONS = {
-    "NUMBER_LIMIT": [("fz_ast", "limit"), ("table_store", "greatest_number")], "HALF": [("fz_frac", "widest")],
+    "NUMBER_LIMIT": [("fz_ast", "greatest_number")], "HALF": [("fz_frac", "widest")],
     "NAME_BYTES": [("fz_ast", "IsName x = length x ≤ #"), ("owner_catalog", "name_limit"), ("wire_lines", "NAME_LIMIT")],
     "TEXT_LIMIT": [("fz_ast", "IsText s = length s ≤ #"), ("fz_lexer", "length inner ≤ #")],
-    "PROGRAM_LIMIT": [("fz_lexer", "length w ≤ #")], "TOKEN_LIMIT": [("fz_lexer", "length ts ≤ #"), ("fz_lexer", "length ts ≡ #")],
-    "NEST_LIMIT": [("fz_parser", "depth e ≤ #")], "DEPTH_LIMIT": [("shape_law", "depth_limit")], "TURN_LIMIT": [("shape_law", "turn_limit")],
+    "PROGRAM_LIMIT": [("fz_lexer", "most_bytes")], "TOKEN_LIMIT": [("fz_lexer", "most_tokens")],
+    "NEST_LIMIT": [("fz_parser", "deepest")], "DEPTH_LIMIT": [("shape_law", "depth_limit")], "TURN_LIMIT": [("shape_law", "turn_limit")],
     "WIDTH_LIMIT": [("shape_law", "width_limit")], "WALK_LIMIT": [("shape_law", "walk_limit")], "REACH_LIMIT": [("shape_law", "reach_limit")],
     "ANALYSTS": [("budget_core", "analyst_limit")], "OWNERS": [("owner_catalog", "owner_limit")], "TABLES": [("owner_catalog", "table_limit")],
     "COLUMN_LIMIT": [("table_store", "most_columns")], "PARTITION_LIMIT": [("partition_charge", "partition_limit")],
