@@ -17,8 +17,8 @@ LIMIT=900
 # Each with its arguments.
 SCRIPTS=(ci/words.py "ci/more_edits --fits" ci/cases.py tests/comparisons/cases.py tests/tools/stated_numbers.py tests/faults/deep_walks.py
     tests/tools/client.py tests/tools/prepare.py tests/tools/persons.py tests/tools/find_fault.py tests/tools/explain.py tests/tools/walks.py
-    tests/tools/why.py tests/tools/hs.py tests/pages/notebook.py tests/pages/pages.py tests/pages/first_programs.py tests/pages/language.py
-    tests/pages/second_trial.py tests/comparisons/short_scripts.py)
+    tests/tools/why.py tests/tools/hs.py tests/tools/certify.py "tests/comparisons/compare_derivations.py 500" tests/pages/notebook.py
+    tests/pages/pages.py tests/pages/first_programs.py tests/pages/language.py tests/pages/second_trial.py tests/comparisons/short_scripts.py)
 OF_REFERENCE=(tests/pages/first_programs.py tests/pages/language.py tests/comparisons/short_scripts.py)
 kind=scripts
 if [ "${1:-}" = --services ]; then

@@ -1,8 +1,8 @@
 #!/usr/bin/env python3
 """Each call on a real journal file fails in turn, alone and with all later ones, and each is the one at which the program is killed.
 
-usage: tests/faults/failing_disk.py [--quick]    (PROGRAM=FILE tries another build than tools/build's). Needs cc. --quick tries every fourth or twelfth call of
-all runs but the first.
+usage: tests/faults/failing_disk.py [--mirror] [--quick]    (PROGRAM=FILE tries another build than tools/build's). Needs cc. --quick tries every fourth or
+twelfth call of all runs but the first. With --mirror see below.
 It counts the calls of `init`, and of a run of three asks that goes on behind one earlier answer, of one that goes on behind 31 and so opens the
 journal's next area, of such runs over journals of versions 1 and 2, and of grants over the same, one of which opens an area; and then runs each again with
 one call that fails, with all from that one on, and with a kill in the place of the call (a write has then put half of its bytes). Judged by a second reader
@@ -19,6 +19,9 @@ one call that fails, with all from that one on, and with a kill in the place of 
 And writes that put half of their bytes change nothing that is said or left; the folder of a new journal and the one that this is in are
 synced before its first write, and each part of a journal, an area or a record before the next part is written.
 
+With --mirror the same runs and grants go over journals on two disks, and the calls are those on either of them: nobody is told anything but by a kill. The
+disk that is sound has all records, which each disk has behind the next opening, and the next run goes on.
+
 It ends with status 1 at the first difference, and where one of the ends was never met.
 """
 import os
@@ -33,6 +36,7 @@ from places import TOP  # noqa: E402
 PROGRAM = os.path.abspath(os.environ.get("PROGRAM", f"{TOP}/out/hitchseason"))
 from catalog import census, read  # noqa: E402
 from journal import VERSION_AT, VERSIONS, Grant, Refused, appended, book_of, contents, header, in_version, made  # noqa: E402
+from mirrors import FLAG, FOLDERS, opened, side  # noqa: E402
 from reference import ROWS, Server, granted, key_words, with_rows  # noqa: E402
 
 E = 100_000
@@ -225,7 +229,7 @@ def turns(room, command, script, prepare, judge, step=1, words=()):
     prepare()
     ran = room.ran(command, script, words, TELL="1")
     count = int(ran.stderr)
-    for faults in ({"FAIL": ""}, {"FAIL": "", "FAIL_ALL": "1"}, {"STOP": ""}):
+    for faults in FAULTS:
         for number in range(1, count + 1, step):
             prepare()
             try:
@@ -234,6 +238,76 @@ def turns(room, command, script, prepare, judge, step=1, words=()):
                 print(f"{command}, call {number} of {count}, {' '.join(faults)}: {fault}")
                 sys.exit(1)
     return count
+
+
+FAULTS = ({"FAIL": ""}, {"FAIL": "", "FAIL_ALL": "1"}, {"STOP": ""})
+
+
+def laid_twice(room):
+    for name in FOLDERS:
+        os.makedirs(name, exist_ok=True)
+        with open(f"{name}/0.bud", "wb") as file:
+            file.write(room.before)
+
+
+def on_each(room):
+    """The records of each of two disks, by itself."""
+    return [[one.encoded() for one in book_of(side(f"{name}/0.bud"), room.head, room.entry, range(2)).records] for name in FOLDERS]
+
+
+def sound_after(room, what, ran, due, left, other):
+    """Judges a command over two disks, of which one failed or at which it was killed, by what it says and leaves where both are sound."""
+    before, now = len(book_of(room.before, room.head, room.entry, range(2)).records), on_each(room)
+    killed = ran.returncode == -9
+    if (ran.returncode, ran.stdout) != ((-9, "") if killed else (0, due)):
+        raise Wrong(f"status {ran.returncode} and {ran.stdout!r}")
+    if any(one != left[: len(one)] or len(one) < before for one in now) or (not killed and now[other] != left):
+        raise Wrong(f"{list(map(len, now))} records, and {len(left)} where both are sound")
+    book = opened([side(f"{name}/0.bud") for name in FOLDERS], room.head, room.entry, range(2))
+    said = room.ran("audit", words=(FLAG,))
+    if (said.returncode, said.stdout) != (0, book.counts() + "\n") or on_each(room) != [max(now, key=len)] * 2:
+        raise Wrong(f"audit: {said.returncode} {said.stdout}, wanted {book.counts()}, and all on each disk")
+    said = room.ran("run", f"hello ann\n{ASK}\n", words=(FLAG,)).stdout.splitlines()[-1]
+    if said.split()[:2] != ["answer", str(len(book.reserved))] or [len(one) for one in on_each(room)] != [len(book.records) + 2] * 2:
+        raise Wrong(f"the next run said {said}")
+    room.came[f"{what}: killed" if killed else f"{what}: as if both were sound"] += 1
+
+
+def on_either_disk(room, command, script, words, step):
+    """Each call on either disk in turn."""
+    laid_twice(room)
+    sound = room.ran(command, script, (*words, FLAG))
+    left = on_each(room)[0]
+    if sound.returncode != 0 or on_each(room)[1] != left:
+        raise Wrong(f"{command} over two sound disks: {sound.returncode} and {sound.stdout!r}")
+    counts = []
+    for other, only in enumerate(FOLDERS[::-1]):
+        laid_twice(room)
+        counts.append(int(room.ran(command, script, (*words, FLAG), ONLY=only, TELL="1").stderr))
+        for faults in FAULTS:
+            for number in range(1, counts[-1] + 1, step):
+                laid_twice(room)
+                ran = room.ran(command, script, (*words, FLAG), ONLY=only, **{name: value or str(number) for name, value in faults.items()})
+                try:
+                    sound_after(room, command, ran, sound.stdout, left, other)
+                except (Wrong, Refused) as fault:
+                    raise Wrong(f"call {number} of {counts[-1]} on {only}, {' '.join(faults)}: {fault}") from None
+    return sound.stdout, counts
+
+
+def over_two_disks(room, steps):
+    """All runs and grants over two disks: how many calls there were on each."""
+    told = []
+    for (first, version), every in zip(RUNS, steps):
+        room.made(first, version)
+        said, counts = on_either_disk(room, "run", "".join(f"{line}\n" for line in asked(first)), (), every)
+        if said.splitlines() != due(first, 6)[0]:
+            raise Wrong(f"told {said}")
+        told.append((f"a run behind {first} answers, version {version}", counts))
+    for (first, version), every in zip(GRANTS, steps):
+        room.made(first, version)
+        told.append((f"a grant behind {first}, version {version}", on_either_disk(room, "grant", "", ("census", str(AMOUNT)), every)[1]))
+    return told
 
 
 def left_by(room, first, version, **faults):
@@ -287,14 +361,34 @@ ENDS = ["init: no file", "init: a file to be removed", "run: not opened", "run: 
     "an area, or a part of one, without its gate", "grant: killed, written", "grant: killed, not written", "grant: refused, not written"]  # fmt: skip
 
 
+MIRRORED = [f"{command}: {end}" for command in ("run", "grant") for end in ("as if both were sound", "killed")]
+
+
+def end(room, ends):
+    print(", ".join(f"{end} {many}" for end, many in sorted(room.came.items())))
+    lacking = [end for end in ends if not room.came[end]]
+    if lacking:
+        sys.exit("never met: " + ", ".join(lacking))
+
+
 def main():
-    steps = QUICK if sys.argv[1:] == ["--quick"] else (1,) * len(RUNS)
+    steps = QUICK if "--quick" in sys.argv else (1,) * len(RUNS)
     if "PROGRAM" not in os.environ:
         subprocess.run([f"{TOP}/tools/build"], check=True)
     # In memory, where there is a folder of it: the calls are the same, and a busy disk takes its time for each sync.
     # No library is loaded from there in some places.
     with tempfile.TemporaryDirectory(dir="/dev/shm" if os.access("/dev/shm", os.W_OK) else None) as folder, tempfile.TemporaryDirectory() as library:
         room = Room(folder, library)
+        if "--mirror" in sys.argv:
+            try:
+                told = over_two_disks(room, steps)
+            except (Wrong, Refused) as fault:
+                sys.exit(f"WRONG: {fault}")
+            finally:
+                os.chdir(TOP)
+            said = ", ".join(f"{first} and {second} calls of {what}" for what, (first, second) in told)
+            print(f"on the second disk and on the first, each failing, failing with all later ones, and killed: {said}: as wanted")
+            return end(room, MIRRORED)
         calls = [turns(room, "init", "", lambda: subprocess.run(["rm", "-rf", "journals"], check=True), judge_init)]
         for (first, version), every in zip(RUNS, steps):
             room.made(first, version)
@@ -311,11 +405,7 @@ def main():
     grants = (f"{calls} of a grant behind {2 * first} records, version {version}" for (first, version), calls in zip(GRANTS, of_grants))
     said = f"{calls[0]} calls of init, {', '.join((*runs, *grants))}"
     print(f"{said}, each failing, failing with all later ones, and killed: as wanted")
-    print(", ".join(f"{end} {many}" for end, many in sorted(room.came.items())))
-    lacking = [end for end in ENDS if not room.came[end]]
-    if lacking:
-        print("never met: " + ", ".join(lacking))
-        sys.exit(1)
+    end(room, ENDS)
 
 
 main()

@@ -290,7 +290,7 @@ PARTS = [
     ("size persons + size stays", "30 unbound 20 25", "areas", ["A part of `areas` shows"]),
     ("size nobody", "30 unbound 5 11", "areas", ["!Asked of a part"]),
 ]
-STATUS_WORDS = "all was done|refuses the program|no command|absent|journal|standard output|disk|memory|2^24|over 10^18|no room for a grant"
+STATUS_WORDS = "all was done|refuses the program|no command|absent|journal|standard output|disk|memory|2^24|over 10^18|no room for a grant|of over 67108864 bytes"
 # Lines that the program writes, and words that are said of them: every code, every status, and what is no line.
 LINES = [
     ("no 10 2", "malformed at its word 2"), ("no 11", "over 16384 bytes"), ("no 12 1", "the owner isn't in the catalog"), ("no 12 2", "no partition of this "
@@ -316,13 +316,14 @@ LINES = [
     ("labour reservations 4 answered 2 exhausted 0 lost 1 spent 7 budget 8", "of 4 reservations in the journal of labour 2 are answered"),
     ("distance 3", "are 3 rows apart"), ("sensitivity 3/2", "the sensitivity of the program is 3/2"), ("gap 1", "differ by 1"),
     ("values 2 -3", "is 2 on the first dataset and -3 on the second"), ("asks 2 answered 1 exhausted 0 over 1 spent 5 sum -2", "of 2 generated asks 1"),
-    ("ok 3/2", "a sensitivity of 3/2"), ("answer 3 -7 0", "the noisy value -7"), ("recall 1 open 4", "no answer yet"), ("recall 1 lost 4", "charged and has "
+    ("ok 3/2", "a sensitivity of 3/2"), ("yes 3/2", "moves by at most 3/2 for each row"), ("no 0", "line 0 of the derivation"), ("no 100", "line 100 of the "
+        "derivation"), ("derivation too long", "of over 67108864 bytes"), ("answer 3 -7 0", "the noisy value -7"), ("recall 1 open 4", "no answer yet"), ("recall 1 lost 4", "charged and has "
         "no answer"),
     ("recall 1 exhausted 4", "4096 draws"), ("recall 1 answer 5 4", "answered with 5"), ("left 1 2 3", "1 of 2 millionths"), ("mine 1 2 3", "has spent 1 of the 2"), ("mine 1 none 3", "no limit of its own"), ("hello mia", "mia speaks"),
     *[(f"status {status}", words) for status, words in enumerate(STATUS_WORDS.split("|"))],
     ("124", "timeout"), ("126", "may not be run"), ("127", "no such program"), ("137", "signal 9"), ("99", "never ends so"),
 ]  # fmt: skip
-NO_LINES = ["no", "no 40 1", "no 15", "no 10", "answer 1 2", "no 33 a b", "journal labour", "foo", "no 010", "granted labour 1", "granted 1 2 3",
+NO_LINES = ["no", "no 40 1", "no 15 1", "answer 1 2", "no 33 a b", "journal labour", "foo", "no 010", "granted labour 1", "granted 1 2 3",
     "too large", "full 2", "no 43 1 2 3", "mine 1 2", "mine none 1 2", "owner labour budget 1", "labour reservations 1", "distance -3", "values 1", "gap", "hello", "\x1b[31m"]  # fmt: skip
 # A program next to a line that isn't the program's refusal: what is said of the line.
 OTHERS = [

@@ -4,7 +4,7 @@
 usage: tests/tools/stated_numbers.py
 A number of DEFINITIONS is found by what stands around it in a crate's specs; each such place must have the same one. A sentence of PAGES has numbers
 where `#` stands, which are those named with it, in this order. Python has each number once: no other module of tools/, tools/lib/ or the client gives a
-value to a name of bounds.py, but for tools/door, which stands alone as one file: its own are compared. It ends with status 1 where one differs, isn't
+value to a name of bounds.py, but for tools/door and tools/judge.py, each of which stands alone as one file: their own are compared. It ends with status 1 where one differs, isn't
 found, or is left out here.
 """
 import ast
@@ -19,11 +19,11 @@ import bounds  # noqa: E402
 
 # What a definition is called, or what stands around its number.
 DEFINITIONS = {
-    "NUMBER_LIMIT": [("fz_ast", "limit"), ("table_store", "greatest_number")], "HALF": [("fz_frac", "widest")],
+    "NUMBER_LIMIT": [("fz_ast", "greatest_number")], "HALF": [("fz_frac", "widest")],
     "NAME_BYTES": [("fz_ast", "IsName x = length x ≤ #"), ("owner_catalog", "name_limit"), ("wire_lines", "NAME_LIMIT")],
     "TEXT_LIMIT": [("fz_ast", "IsText s = length s ≤ #"), ("fz_lexer", "length inner ≤ #")],
-    "PROGRAM_LIMIT": [("fz_lexer", "length w ≤ #")], "TOKEN_LIMIT": [("fz_lexer", "length ts ≤ #"), ("fz_lexer", "length ts ≡ #")],
-    "NEST_LIMIT": [("fz_parser", "depth e ≤ #")], "DEPTH_LIMIT": [("shape_law", "depth_limit")], "TURN_LIMIT": [("shape_law", "turn_limit")],
+    "PROGRAM_LIMIT": [("fz_lexer", "most_bytes")], "TOKEN_LIMIT": [("fz_lexer", "most_tokens")],
+    "NEST_LIMIT": [("fz_parser", "deepest")], "DEPTH_LIMIT": [("shape_law", "depth_limit")], "TURN_LIMIT": [("shape_law", "turn_limit")],
     "WIDTH_LIMIT": [("shape_law", "width_limit")], "WALK_LIMIT": [("shape_law", "walk_limit")], "REACH_LIMIT": [("shape_law", "reach_limit")],
     "ANALYSTS": [("budget_core", "analyst_limit")], "OWNERS": [("owner_catalog", "owner_limit")], "TABLES": [("owner_catalog", "table_limit")],
     "COLUMN_LIMIT": [("table_store", "most_columns")], "PARTITION_LIMIT": [("partition_charge", "partition_limit")],
@@ -78,8 +78,8 @@ PAGES = [
     ("docs/language.md", "would be evaluated over # levels deep", "REACH_LIMIT"),
     ("README.md", "from at most # draws", "DRAW_LIMIT"),
 ]  # fmt: skip
-# It runs under an ssh key, as one file of Python's standard library.
-ALONE = "tools/door"
+# Each is one file of Python's standard library: the one runs under an ssh key, the other is read by auditors.
+ALONE = ("tools/door", "tools/judge.py")
 POWER = r"\d[\d,]*(?: ?\^ ?\d+)?(?: ?- ?1\b)?"
 differences = 0
 
@@ -135,32 +135,31 @@ def stated():
     return [name for name in vars(bounds) if name.isupper()]
 
 
-def of_door():
-    """tools/door's own numbers, by name: each must be that of bounds.py."""
-    door = ast.parse(text_of(ALONE))
-    for one in door.body:
+def own_numbers(name):
+    """A file's own numbers, by name: each must be that of bounds.py."""
+    for one in ast.parse(text_of(name)).body:
         if isinstance(one, ast.Assign) and isinstance(one.targets[0], ast.Tuple) and isinstance(one.value, ast.Tuple):
             for target, number in zip(one.targets[0].elts, one.value.elts):
                 if target.id in stated():
-                    yield target.id, eval(compile(ast.Expression(number), ALONE, "eval"), {})
+                    yield target.id, eval(compile(ast.Expression(number), name, "eval"), {})
 
 
-def alone():
-    found = dict(of_door())
+def alone(file):
+    found = dict(own_numbers(file))
     for name, number in found.items():
         if number != getattr(bounds, name):
-            differ(f"{ALONE}: {name} is {number}, and {getattr(bounds, name)} by tools/lib/bounds.py")
-    used = {one.id for one in ast.walk(ast.parse(text_of(ALONE))) if isinstance(one, ast.Name) and one.id in stated()}
+            differ(f"{file}: {name} is {number}, and {getattr(bounds, name)} by tools/lib/bounds.py")
+    used = {one.id for one in ast.walk(ast.parse(text_of(file))) if isinstance(one, ast.Name) and one.id in stated()}
     if used != set(found):
-        differ(f"{ALONE}: {sorted(used ^ set(found))} aren't compared")
+        differ(f"{file}: {sorted(used ^ set(found))} aren't compared")
 
 
 def elsewhere():
-    """Each name of bounds.py has its value there alone, but for what takes it from there and for tools/door."""
+    """Each name of bounds.py has its value there alone, but for what takes it from there and for what stands alone."""
     names = [*glob.glob("tools/*", root_dir=TOP), *glob.glob("tools/lib/*.py", root_dir=TOP), *glob.glob("clients/python/hitchseason/*.py", root_dir=TOP)]
     tried = 0
     for name in sorted(names):
-        if name in ("tools/lib/bounds.py", ALONE) or os.path.isdir(f"{TOP}/{name}") or not (name.endswith(".py") or "python3" in text_of(name)[:40]):
+        if name in ("tools/lib/bounds.py", *ALONE) or os.path.isdir(f"{TOP}/{name}") or not (name.endswith(".py") or "python3" in text_of(name)[:40]):
             continue
         tried += 1
         for one in ast.walk(ast.parse(text_of(name))):
@@ -174,7 +173,8 @@ def elsewhere():
 def main():
     definitions()
     pages()
-    alone()
+    for name in ALONE:
+        alone(name)
     tried = elsewhere()
     print(f"{len(stated())} stated numbers, {len(PAGES)} sentences of pages, {tried} modules, {differences} differences")
     sys.exit(1 if differences else 0)

@@ -5,7 +5,7 @@ usage: tests/tools/why.py [--quick]    (PROGRAM=FILE tries another build than to
 Each case is a folder that is made ready twice: in the one the program runs by itself, in the other by tools/why. Output and status must be
 the same, and standard error must have the words that are wanted, and none that aren't. Of journals that are damaged at random the line that is
 found must be the program's, and damage must have a sentence. As root it also tries what a user without rights meets, a full disk and a read-only one.
-It ends with status 1 where one differs, or where a status from 0 to 10 never came.
+It ends with status 1 where one differs, or where a status from 0 to 11 never came.
 """
 import json
 import os
@@ -23,6 +23,7 @@ from places import TOP  # noqa: E402
 PROGRAM = os.path.abspath(os.environ.get("PROGRAM", f"{TOP}/out/hitchseason"))
 from catalog import catalog, owner  # noqa: E402
 from causes import Command, Journals  # noqa: E402
+from derivation_rows import doubling  # noqa: E402
 from lines import harmless  # noqa: E402
 from journal import GATE, HEAD, SLOT, VERSIONS, Grant, Refused, appended, capacity_in, contents, remade  # noqa: E402
 
@@ -39,7 +40,7 @@ FILES = {
 }
 MORE = {"name": "more", "table": "people", "column": "town", "keys": ["A"]}
 RUN, INIT, AUDIT = (f"{command} catalog.json key" for command in ("run", "init", "audit"))
-CHECK = "check catalog.json census program"
+CHECK, DERIVE = (f"{command} catalog.json census program" for command in ("check", "derive"))
 # A bag's functions would take 64 walks for a row.
 AGES, ONCE_MORE = b"let a = map (fn (p : text * num) => let (town, age) = p in age) people in ", b"let a = map (fn (x : num) => x + sum[0,1] a) a in "
 WALKS = AGES + 7 * ONCE_MORE + b"0 * size a"
@@ -219,6 +220,9 @@ MADE = [
     (nothing, f"hitchseason {AUDIT}", "", 2, ["tools/why takes the program's arguments alone"]),
     (nothing, "run catalog.json", "", 2, ["`run` takes 2 arguments, CATALOG KEY, and 1 stand there"]),
     (nothing, "check catalog.json census", "", 2, ["`check` takes 3 arguments, CATALOG OWNER FILE, and 2 stand there"]),
+    (nothing, "derive catalog.json census", "", 2, ["`derive` takes 3 arguments, CATALOG OWNER FILE, and 2 stand there"]),
+    (nothing, DERIVE.replace("derive", "judge"), "", 2, ["`judge` takes 4 arguments, CATALOG OWNER FILE DERIVATION, and 3 stand there"]),
+    (nothing, f"{DERIVE} --mirror", "", 2, ["`derive` opens no journal"]),
     (nothing, f"{RUN} --workers 0", "", 2, ["`--workers 0`: `--workers` stands once, and takes a whole number from 1 to 16"]),
     (nothing, f"{RUN} --workers 17", "", 2, ["`--workers 17`: `--workers` stands once, and takes a whole number from 1 to 16"]),
     (nothing, "serve catalog.json key --port 70000 --each 10", "", 2, ["`--port 70000`: `--port` stands once", "!--each 10"]),
@@ -249,6 +253,10 @@ MADE = [
     (lambda: os.remove("stays.csv"), AUDIT, "", 3, ["refused stays.csv: there is no such file"]),
     (nothing, "check catalog.json labour program", "", 3, ["refused labour: the catalog has no owner of this name; it has census, health"]),
     (nothing, "check catalog.json census query", "", 3, ["refused query: there is no such file"]),
+    (nothing, "derive catalog.json census query", "", 3, ["refused query: there is no such file"]),
+    (nothing, "judge catalog.json labour program derivation", "", 3, ["refused labour: the catalog has no owner of this name; it has census, health"]),
+    (lambda: os.remove("stays.csv"), "judge catalog.json census program derivation", "", 3, ["refused derivation: there is no such file", "!stays.csv"]),
+    (lambda: write("program", doubling(22)), DERIVE, "", 11, ["a derivation of over 67108864 bytes", "is twice as long as the other's each time"]),
     (lambda: write("second.json", FILES["catalog.json"].replace(b'"age"', b'"years"')), "gap catalog.json census second.json program", "", 3,
      ["refused census: its entries in the two catalogs don't fit: the columns of people are town text, age num in the first and town text, years num in the "
          "second"]),
@@ -364,6 +372,7 @@ MADE = [
     (of_table("\x9b31m\u202e.csv"), AUDIT, "", 3, ["refused \\x9b31m\\u202e.csv: there is no such file", "!\x9b", "!\u202e"]),
     (made_file, INIT, "", 6, ["disk census", "`journals` is a file, where a folder belongs"]),
     (lambda: write("long", b"\n" * 2**24), RUN, "< long", 7, ["Its memory is limited to 140000 KiB", "nothing was asked"]),
+    (lambda: write("program", WALKS), DERIVE, "", 7, ["`tools/explain catalog.json census program 'no 90'` says whether it does"]),
     (lambda: write("program", WALKS), CHECK, "", 7, ["`tools/explain catalog.json census program 'no 90'` says whether it does"]),
     (lambda: os.system("truncate -s 16777217 long"), RUN, "< long", 8, ["It has 16777217 bytes, and 16777216 are allowed", "nothing was asked"]),
     *GRANTS,
@@ -371,6 +380,10 @@ MADE = [
     (nothing, CHECK, "", 0, []),
     (nothing, "gen 0 2 2", "", 0, []),
     (lambda: write("program", b"size"), CHECK, "", 1, []),
+    (lambda: write("program", b"size"), DERIVE, "", 1, []),
+    (lambda: os.remove("stays.csv"), DERIVE, "", 0, []),
+    (nothing, "judge catalog.json census program program", "", 1, []),
+    (nothing, "judge catalog.json census program <(printf 'num | people 1\\nbag (text * num) | people 1\\n')", "", 0, []),
     (nothing, f"{AUDIT} | cat", "", 0, []),
     (nothing, "check <(cat catalog.json) census <(cat program)", "", 0, []),
 ]  # fmt: skip
@@ -609,7 +622,7 @@ def main():
         trial.at_random(40 if quick else 150)
         os.chdir(TOP)
     print(f"{trial.tried} ends of the program, {trial.differences} differences")
-    lacking = [status for status in range(11) if not trial.came[status]]
+    lacking = [status for status in range(12) if not trial.came[status]]
     if lacking:
         print(f"never met: status {lacking}")
     sys.exit(1 if trial.differences or lacking else 0)

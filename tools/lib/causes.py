@@ -116,8 +116,11 @@ class Files:
             if len(self.catalogs) == 1:
                 return
             yield self.one(words[1], lambda: self.fitting(words[1]))
-        yield from self.tables()
-        yield self.one(words[-1], lambda: bytes_of(plain(words[-1])) and None)
+        # Of these two no table is read.
+        if name not in ("derive", "judge"):
+            yield from self.tables()
+        for file in words[2:] if name in ("derive", "judge") else words[-1:]:
+            yield self.one(file, lambda file=file: bytes_of(plain(file)) and None)
 
 
 def numbers_of(command, entries):
@@ -661,7 +664,7 @@ def about_length(script):
 
 
 def causes(status, words, before, script, told=lambda rows: None):
-    """Sentences about a command that ended with a status from 2 to 10."""
+    """Sentences about a command that ended with a status from 2 to 11."""
     command = Command(words)
     yield f"status {status}: {STATUSES[status]}."
     if status == 2:
@@ -676,12 +679,14 @@ def causes(status, words, before, script, told=lambda rows: None):
         yield from about_disk(command, before)
     elif status == 7:
         yield from about_memory()
-        if command.name in ("check", "gap"):
+        if command.name in ("check", "gap", "derive"):
             yield from about_walks(command)
     elif status == 8:
         yield from about_length(script)
-    else:
+    elif status in (9, 10):
         yield from about_limit(command, status)
+    else:
+        yield "The types of names are written out in it: where `let b = (a, a) in` stands often, the one's type is twice as long as the other's each time."
     if command.name in SERVICE and status in (4, 6) and is_mirrored() and not command.mirrored:
         yield f"This folder has `{MIRRORS}`, and `{FLAG}` isn't among the arguments: `{FOLDERS[0]}` alone was looked at."
     if command.name == "grant" and status in (5, 6, 7):

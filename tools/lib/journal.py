@@ -11,6 +11,9 @@
                                         old journal is put back; only what is spent may fall, where there are more exhausted numbers. A budget
                                         is raised by grants, and never falls. It ends with status 1 where one did. With --copies they are what
                                         this tool says of copies of a running service: what is being answered counts as lost there, until it is
+    journal.py --certify PROGRAM DERIVATION CATALOG KEY [FOLDER]  of each reservation of the program in the file PROGRAM whether its r is at least what the
+                                        derivation shows, and so whether its charge suffices. The derivation is judged apart from the server
+                                        (tools/judge.py). It ends with status 1 where one doesn't, or there is none
     journal.py --check                  the values that are known from outside
 
 Where the folder has `mirrors`, too, each journal stands on two disks: the longer list counts, a disk that lags is named on standard error, and other
@@ -71,12 +74,15 @@ class Reservation:
 
     def said(self, entry, analysts):
         """In words, by the names of the owner's partitions and of the analysts."""
-        view = "whole"
-        if self.view != WHOLE:
-            partition = entry["partitions"][self.view[0]]
-            view = f"part {partition['keys'][self.view[1]]} of {partition['name']}"
         charge = f"e {self.e} r {self.p}/{self.q} charge {self.charge()} taken {self.taken}"
-        return f"reservation {self.number} {view} {charge} analyst {analysts[self.analyst]} program {self.program.hex()}"
+        return f"reservation {self.number} {self.where(entry)} {charge} analyst {analysts[self.analyst]} program {self.program.hex()}"
+
+    def where(self, entry):
+        """Its view, in words."""
+        if self.view == WHOLE:
+            return "whole"
+        partition = entry["partitions"][self.view[0]]
+        return f"part {partition['keys'][self.view[1]]} of {partition['name']}"
 
 
 class Settlement:
@@ -755,6 +761,10 @@ def main():
         print(__doc__.strip())
     elif words[:1] == ["--compare"] and len(words) == 4:
         sys.exit(0 if compared(*words[1:]) else 1)
+    elif words[:1] == ["--certify"] and len(words) in (5, 6):
+        from certify import certified
+
+        sys.exit(0 if certified(*words[1:]) else 1)
     elif words[:1] == ["--areas"] and len(words) in (3, 4):
         sys.exit(0 if show_areas(words[1:]) else 1)
     elif words[:1] == ["--audits"] and len(words) == 2 + (words[1:2] == ["--copies"]):

@@ -18,7 +18,7 @@ from bounds import AMOUNT_LIMIT, LINE_LIMIT
 FORMS = {
     "hello": "ANALYST", "ask": "OWNER EPS PROGRAM", "askpart": "OWNER PARTITION KEY EPS PROGRAM", "recall": "OWNER N", "left": "OWNER", "mine": "OWNER", "bye": "",
 }  # fmt: skip
-COMMANDS = (b"init", b"run", b"serve", b"audit", b"grant", b"check", b"gap", b"gen")
+COMMANDS = (b"init", b"run", b"serve", b"audit", b"grant", b"check", b"gap", b"gen", b"derive", b"judge")
 WORDS = b"size sum fst snd least greatest let if case in then else map filter split union".split()
 # A number of so many digits is over every limit, and Python doesn't read some thousand digits.
 LONG = 19

@@ -3,20 +3,23 @@
     STATUSES              a sentence a status
     COMMANDS              the arguments that each command takes
     meaning(LINE)         what a line means that the program wrote, or nothing where it writes no such line
+    is_refusal(LINE)      whether it is one by which a line of a script, or a program, is refused
 """
 import re
 
-from bounds import DEPTH_LIMIT, DRAW_LIMIT, LINE_LIMIT, NEST_LIMIT, PROGRAM_LIMIT, TOKEN_LIMIT, TURN_LIMIT, WIDTH_LIMIT
+from bounds import DEPTH_LIMIT, DRAW_LIMIT, FILE_LIMIT, LINE_LIMIT, NEST_LIMIT, PROGRAM_LIMIT, TOKEN_LIMIT, TURN_LIMIT, WIDTH_LIMIT
 
 COMMANDS = {
     "init": "CATALOG KEY [--mirror]", "run": "CATALOG KEY [--workers W] [--mirror] < SCRIPT",
     "serve": "CATALOG KEY [--addr A] --port P [--workers W] --each N [--mirror]", "audit": "CATALOG KEY [--mirror]",
     "grant": "CATALOG KEY OWNER AMOUNT [--mirror]",
     "check": "CATALOG OWNER FILE", "gap": "CATALOG OWNER CATALOG2 FILE", "gen": "SEED N [WORKERS]",
+    "derive": "CATALOG OWNER FILE", "judge": "CATALOG OWNER FILE DERIVATION",
 }  # fmt: skip
 STATUSES = {
     0: "all was done; replies of a run may still be refusals, which are the analyst's, but for `no 42` and `no 52`",
-    1: "`check` or `gap` refuses the program, by its line; other commands never end so: the shell couldn't open a file, and nothing was asked",
+    1: "`check`, `gap` or `derive` refuses the program, by its line, or `judge` the program or the derivation; other commands never end so: the shell couldn't "
+        "open a file, and nothing was asked",
     2: "the arguments are no command",
     3: "a file that the arguments or a catalog names is absent, too long or not what it should be, or OWNER isn't in the catalog, or `gap`'s entries don't fit",
     4: "an owner's journal isn't the one that belongs there; nothing was read of the script",
@@ -24,11 +27,12 @@ STATUSES = {
     6: "the disk, or the folder `journals`, failed while an owner's journal was made or opened, or another process has that journal; nothing was asked; of "
         "`grant` also while its record was written, which may be there or not. With `--mirror` both disks failed, or the one whose other is empty; of `init` "
         "either",
-    7: "memory ran out before anything was answered; of `serve` and `gen` it may be later, and `check` and `gap` end so of any program that walks bags too "
-        "often or too deep",
+    7: "memory ran out before anything was answered; of `serve` and `gen` it may be later, and `check`, `gap` and `derive` end so of any program that walks "
+        "bags too often or too deep",
     8: "the script has over 2^24 bytes, and nothing of it was answered",
     9: "`grant` would raise the budget over 10^18 millionths; nothing changed",
     10: "the owner's journal has no room for a grant's record; nothing changed",
+    11: f"`derive` would write a derivation of over {FILE_LIMIT} bytes, more than `judge` reads; nothing is written of it",
 }
 ENDINGS = {
     124: "`timeout` ended it: it has written nothing, or a part of what was due; `audit` shows by its reservations what was asked",
@@ -113,13 +117,23 @@ LINES = {
     "mine N N N": "the analyst has spent {0} of the {1} millionths that its limit allows; the budget may have less left, as `left` says",
     "mine N none N": "the analyst has spent {0} millionths, and has no limit of its own",
     "ok R": "the program is accepted, at a sensitivity of {0}",
+    "yes R": "of `judge`: the derivation shows that the program's value moves by at most {0} for each row that is added or taken away",
+    "derivation too long": STATUSES[11],
     "asks N answered N exhausted N over N spent N sum V": "of {0} generated asks {1} were answered, {2} have no answer, since their noise "
         f"took over {DRAW_LIMIT} draws, "
         "and the budget didn't allow {3}; {4} millionths are spent, and the answers' sum is {5}",
     **REFUSALS,
+    # After all others, since a line may have the number of a refusal's code.
+    "no L": "of `judge`: line {0} of the derivation (the first is 0) is the least that is missing, too many or not of the form, or, where all are of the form, "
+        "whose rule fails",
 }  # fmt: skip
-PARTS = {"N": NUMBER, "W": NAME, "V": "(-?[0-9]+)", "R": "([0-9]+(?:/[0-9]+)?|inf)"}
-FORMS = [(re.compile(" ".join(PARTS.get(word, re.escape(word)) for word in form.split())), said) for form, said in LINES.items()]
+PARTS = {"N": NUMBER, "W": NAME, "V": "(-?[0-9]+)", "R": "([0-9]+(?:/[0-9]+)?|inf)", "L": "(0|[1-9][0-9]*)"}
+FORMS = {form: (re.compile(" ".join(PARTS.get(word, re.escape(word)) for word in form.split())), said) for form, said in LINES.items()}
+
+
+def is_refusal(line):
+    """Whether a line refuses a line of a script, or a program."""
+    return any(FORMS[form][0].fullmatch(line) for form in REFUSALS)
 
 
 def meaning(line):
@@ -129,7 +143,7 @@ def meaning(line):
     status = re.fullmatch(r"(?:status )?([0-9]{1,3})", line)
     if status:
         return of_status(int(status[1]))
-    return next((said.format(*found.groups()) for form, said in FORMS if (found := form.fullmatch(line))), None)
+    return next((said.format(*found.groups()) for form, said in FORMS.values() if (found := form.fullmatch(line))), None)
 
 
 def of_status(status):

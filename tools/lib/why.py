@@ -1,9 +1,9 @@
-"""Runs the program on words, hands everything through as it is, and says on standard error why it ended, where that was with 2 to 10.
+"""Runs the program on words, hands everything through as it is, and says on standard error why it ended, where that was with 2 to 11.
 
 usage: tools/why COMMAND WORDS..    (such as: tools/why run CATALOG KEY < SCRIPT > REPLIES)
 COMMAND WORDS.. are the program's own words. Input, output and status are the program's: tools/why reads nothing of the one and writes
 nothing to the other. It is started in the folder in which the program runs. PROGRAM=FILE names the program; else it is `hitchseason` on the
-path; else tools/build's quick build of this repository. Where the program ended with another status than 2 to 10 nothing is said, but where a
+path; else tools/build's quick build of this repository. Where the program ended with another status than 2 to 11 nothing is said, but where a
 signal ended it. What is said is found on the disk after the program ended; files and journals are read for it, and none is written.
 It prints what stands in bad cells and how many records journals have: it is for the operator and the owner.
 """
@@ -99,7 +99,7 @@ def main():
         say([f"the program can't be run: {fault}"])
         os._exit(127)
     try:
-        if 2 <= status <= 10:
+        if 2 <= status <= 11:
             say(causes(status, words, before, script, Progress()))
         elif status < 0:
             say(killed(signal.Signals(-status).name, words, before))

@@ -2,6 +2,7 @@
 use Rattle.std.specs.Prelude.{◌≡◌, ℕ, ◌+◌, ◌^◌, ◌<◌, ◌≤◌, ℤ, ◌+ℤ◌, unsigned_abs, List, [], ◌∷◌, ◌++◌, length}
 use Rattle.std.specs.Prelude.{Option, Some, None, ◌⊎◌, ⊤}
 use mathlib.Core.List.{IsPrefix}
+use Rattle.fz_ast.specs.Limits.{greatest_number}
 use Rattle.journal_records.specs.declared.records.Outcome.{Outcome}
 use Rattle.journal_records.specs.declared.records.Outcome.TheVariants.{Answered, Exhausted, Lost}
 use Rattle.journal_records.specs.declared.records.Record.{Record}
@@ -45,7 +46,7 @@ outcome_reply grant Lost = refused (by_number (NoAnswer grant.number))
 
 -- how far from 0 an answer may be: a number is within 2^50, and noise within 2^33
 abbrev pub answer_limit : ℕ
-answer_limit = 2 ^ 50 + 2 ^ 33
+answer_limit = greatest_number + 2 ^ 33
 
 -- an answer is within the limit
 abbrev pub HasSmallAnswer : Replied → Type 0

@@ -81,7 +81,12 @@ fn outcome_with(
     ensures settled { IsSettledAt (IsWorth dataset.now view (admitted.now.checked.term.now)) (Some noise) result }
     ensures fits { (grant : Grant) → HasSmallAnswer (outcome_reply grant result) }
 {
-    match run(alloc, &admitted.checked, &admitted.plan, dataset.tables(view)) {
+    match run(
+        alloc,
+        &admitted.checked,
+        &admitted.plan,
+        dataset.tables(view),
+    ) {
         Ok(value) => Outcome::Answered(noisy(value, noise)),
         Err(_) => Outcome::Lost,
     }
@@ -264,7 +269,15 @@ fn answer_admitted<'a, R: Wait, D: Disk, S: Streams>(
     match desk.reserve(rt, pass, &asking) {
         Err(fault) => Reply::Refused(book_refusal_of(fault)),
         Ok(grant) => {
-            let outcome = outcome_at(alloc, admitted, dataset, streams, owner, query, grant.number);
+            let outcome = outcome_at(
+                alloc,
+                admitted,
+                dataset,
+                streams,
+                owner,
+                query,
+                grant.number,
+            );
             settle(rt, desk, pass, grant, outcome)
         }
     }

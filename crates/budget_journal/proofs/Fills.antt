@@ -11,7 +11,7 @@ use Rattle.journal_records.proofs.Shapes.{length-encoded, encoded-gate}
 use Rattle.budget_journal.specs.declared.form.Form.{Form}
 use Rattle.budget_journal.specs.declared.form.Form.TheVariants.{Many}
 use Rattle.budget_journal.specs.Journals.{Layout, slot_place, slot, gate_of, Holds, FillsSlots, slots_in, Stands}
-use Rattle.budget_journal.specs.Areas.{form_in, area_begin, area_slots, area_in, live_area}
+use Rattle.budget_journal.specs.Areas.{form_in, area_begin, area_in, live_area}
 use Rattle.budget_journal.specs.Growth.{HasFront}
 use Rattle.budget_journal.proofs.Geometry.{begin-low, end-within}
 use Rattle.budget_journal.proofs.Gates.{piece-moved, live-same, form-same, header-same}

@@ -3,7 +3,7 @@ use Rattle.std.proofs.Common.{◌≡◌, ◌≢◌, ◌⊎◌, ℕ, zero, suc, �
 use Rattle.std.proofs.lemmas.Bool.{cases_lt, cases_eq}
 use Rattle.std.proofs.lemmas.List.{length-take, get_or-take, get_or-drop, ext_get_or, length_push}
 use Rattle.std.proofs.lemmas.Option.{slice_get-get_or}
-use Rattle.std.specs.Prelude.{IfSome}
+use Rattle.std.specs.Prelude.{IfSome, IfErr, OnOk, Result, ⊤, false}
 use Rattle.std.proofs.lemmas.Nat.{pow_pos}
 use Rattle.outside_disks.specs.Disks.{Gives, Trace, noted, seen_of, WhereTold}
 use Rattle.outside_disks.specs.Disks.Step.{Synced}
@@ -19,7 +19,7 @@ use Rattle.budget_journal.specs.declared.form.Form.{Form}
 use Rattle.budget_journal.specs.declared.form.Form.TheVariants.{One, Many}
 use Rattle.budget_journal.specs.Areas.{form_in, area_slots, area_begin, IsArea, area_in, live_area}
 use Rattle.budget_journal.specs.Journals.{Layout, slot_place, slot, gate_of, Holds, IsUnreadable, IsBehindClosed, IsDamaged, FillsSlots, IsFirstDamaged, as_found, HasHeader, slots_in, Stands, Mark, IsMarked, Found, IsHeaderFault, IsOpenFault}
-use Rattle.budget_journal.specs.Opening.{HeaderRead, SlotRead, IsSlotFault, Scanned, SlotsRead, JournalRead}
+use Rattle.budget_journal.specs.Opening.{HeaderRead, IsSlotRefused, SlotAdded, IsSlotFault, Scanned}
 use Rattle.budget_journal.proofs.Fills.{pushed-cases}
 use Rattle.budget_journal.proofs.Geometry.{size-whole}
 
@@ -91,6 +91,14 @@ module _ (layout : Layout) (bytes : List ℕ) (k : ℕ) (records : List Record) 
   first-damaged : k ≤ layout.slots → IsDamaged layout bytes k → IsFirstDamaged layout bytes k
   first-damaged le damaged = record { damaged = damaged; first = λ j below. sound-below le j below }
 
+  pub scanned-added : (closed : Bool) (new : List Record) → slot_place layout k + 64 ≤ length bytes → (closed ≡ false → k ≤ length records)
+      → SlotAdded layout bytes k closed records new (Ok tt) → Scanned layout bytes (k + 1) new
+  scanned-added closed new within all added = ⊎_elim
+      (λ is. let its = added.1 is in subst (λ (rs : List Record). Scanned layout bytes (k + 1) rs) (sym its.3)
+      (scanned-some its.1 (omega (arith, scanned.counted, all its.0)) within its.2))
+      (λ isnt. subst (λ (rs : List Record). Scanned layout bytes (k + 1) rs) (sym (added.0 isnt)) (scanned-none within isnt))
+      (cases_eq (gate_of layout bytes k) gate)
+
   pub torn-off : k < layout.slots → length bytes < slot_place layout k + 64 → IsFirstDamaged layout bytes k
   torn-off lt short = first-damaged (omega arith) (inl (lt, short))
 
@@ -113,7 +121,7 @@ module _ (layout : Layout) (bytes : List ℕ) (k : ℕ) (records : List Record) 
   }
 
   -- why a slot wasn't read is why the slots weren't
-  pub slot-fault : (closed : Bool) (fault : OpenFault) → k < layout.slots → (closed ≡ true → length records < k) → SlotRead layout bytes k closed (Err fault)
+  pub slot-fault : (closed : Bool) (fault : OpenFault) → k < layout.slots → (closed ≡ true → length records < k) → IsSlotRefused layout bytes k closed fault
       → IsSlotFault layout bytes fault
   slot-fault closed DiskFault lt fewer read = tt
   slot-fault closed NoMemory lt fewer read = tt
@@ -124,6 +132,12 @@ module _ (layout : Layout) (bytes : List ℕ) (k : ℕ) (records : List Record) 
       (λ is_closed. behind-closed lt read.1 (fewer is_closed))
       (λ none. unreadable lt read.1 none)
       read.2)
+
+  pub added-or-fault : (closed : Bool) (new : List Record) (result : Result ⊤ OpenFault) → k < layout.slots → slot_place layout k + 64 ≤ length bytes
+      → (closed ≡ true → length records < k) → (closed ≡ false → k ≤ length records) → SlotAdded layout bytes k closed records new result
+      → OnOk result (Scanned layout bytes (k + 1) new) × IfErr result (IsSlotFault layout bytes)
+  added-or-fault closed new (Ok done) lt within fewer all added = (scanned-added closed new within all added, tt)
+  added-or-fault closed new (Err fault) lt within fewer all added = (tt, slot-fault closed fault lt fewer added)
 
 pub scanned-start : (layout : Layout) (bytes : List ℕ) → Scanned layout bytes 0 []
 scanned-start layout bytes = record {

@@ -1,5 +1,5 @@
 -- What the parts of an opening read.
-use Rattle.std.specs.Prelude.{◌≡◌, ◌≢◌, ◌⊎◌, ℕ, ◌+◌, ◌<◌, ◌≤◌, Bool, true, false, List, length, take, slice_get, Option, None, Some, Result, Ok, Err, Vec, ⊤}
+use Rattle.std.specs.Prelude.{◌≡◌, ◌≢◌, ◌⊎◌, ℕ, ◌+◌, ◌<◌, ◌≤◌, Bool, true, false, List, [], ◌∷◌, ◌++◌, length, take, slice_get, Some, Result, Ok, Err, Vec, ⊤}
 use Rattle.std.specs.declared.alloc.Global.{Global}
 use Rattle.journal_records.specs.Encoding.{gate}
 use Rattle.journal_records.specs.declared.records.Record.{Record}
@@ -35,15 +35,19 @@ IsSlotFault layout bytes (NotInitialised n) = ⊥
 IsSlotFault layout bytes (Changed kept found) = ⊥
 IsSlotFault layout bytes _ = ⊤
 
--- what one slot's read gives, where it is wholly there
-abbrev pub SlotRead : Layout → List ℕ → ℕ → Bool → Result (Option Record) OpenFault → Type 0
-SlotRead layout bytes k closed (Ok (Some r)) = Holds (slot layout bytes k) r × (closed ≡ false)
-SlotRead layout bytes k closed (Ok None) = gate_of layout bytes k ≢ gate
-SlotRead layout bytes k closed (Err (Damaged s)) = (s ≡ k) × (gate_of layout bytes k ≡ gate)
+-- why one slot isn't read, where it is wholly there
+abbrev pub IsSlotRefused : Layout → List ℕ → ℕ → Bool → OpenFault → Type 0
+IsSlotRefused layout bytes k closed (Damaged s) = (s ≡ k) × (gate_of layout bytes k ≡ gate)
     × ((closed ≡ true) ⊎ ((r : Record) → Holds (slot layout bytes k) r → ⊥))
-SlotRead layout bytes k closed (Err (NotInitialised n)) = ⊥
-SlotRead layout bytes k closed (Err (Changed kept found)) = ⊥
-SlotRead layout bytes k closed (Err _) = ⊤
+IsSlotRefused layout bytes k closed (NotInitialised n) = ⊥
+IsSlotRefused layout bytes k closed (Changed kept found) = ⊥
+IsSlotRefused layout bytes k closed _ = ⊤
+
+-- what the next slot, where it is wholly there, adds to these: its record where it is open, and else nothing
+abbrev pub SlotAdded : Layout → List ℕ → ℕ → Bool → (old new : List Record) → Result ⊤ OpenFault → Type 0
+SlotAdded layout bytes k closed old new (Ok _) = (gate_of layout bytes k ≢ gate → new ≡ old)
+    × (gate_of layout bytes k ≡ gate → (closed ≡ false) × (r : Record) × Holds (slot layout bytes k) r × (new ≡ old ++ r ∷ []))
+SlotAdded layout bytes k closed old new (Err fault) = IsSlotRefused layout bytes k closed fault
 
 -- The slots below k were read: each is wholly there, and they are records in turn and behind them closed slots.
 pub record Scanned (layout : Layout) (bytes : List ℕ) (k : ℕ) (records : List Record) : Type 0 where

@@ -12,7 +12,7 @@ ghost use Rattle.budget_journal.specs.declared.form.Form.TheVariants.{Many};
 ghost use Rattle.budget_journal.specs.Areas.{area_in, HasGates, IsStray};
 ghost use Rattle.budget_journal.specs.Journals.{Layout, slot_place, Differ, Found, IsMarked, IsOpenFault, MayHaveSynced};
 ghost use Rattle.budget_journal.specs.Journals.{disk_of, used, is_closed, capacity_of, mark_of, version_of};
-ghost use Rattle.budget_journal.specs.Opening.{AreAlike, HeaderRead, SlotRead, Scanned, IsSlotFault, SlotsRead, JournalRead};
+ghost use Rattle.budget_journal.specs.Opening.{AreAlike, HeaderRead, SlotAdded, Scanned, IsSlotFault, SlotsRead, JournalRead};
 
 use crate::area::Area;
 use crate::form::{Form, version_named};
@@ -148,42 +148,53 @@ fn read_header<D: Disk>(disk: &mut D, header: &Header) -> Result<(u64, Area, u8)
     judge_header(size, &kept, header)
 }
 
-// The record in a slot that was read, if it is open.
-fn judge_slot(slot: u32, bytes: &[u8; 64], closed: bool) -> Result<Option<Record>, OpenFault>
+// Adds the record of a slot that was read, if it is open: it is moved once.
+fn judge_slot(
+    slot: u32,
+    bytes: &[u8; 64],
+    closed: bool,
+    records: &mut Vec<Record>,
+) -> Result<(), OpenFault>
     ensures judged { (file : List ℕ) (layout : Layout) → slot_place layout slot + 64 ≤ length file → bytes.now ≡ take 64 (drop (slot_place layout slot) file)
-        → SlotRead layout file slot closed result }
-    ensures valid { IfOk result (λ found. IfSome found IsValid) }
+        → SlotAdded layout file slot closed records.old.items records.new.items result }
+    ensures bounded { length records.new.items ≤ length records.old.items + 1 }
+    ensures valid { All IsValid records.old.items → All IsValid records.new.items }
     ensures sound { IsErrOf result DiskFault → ⊥ }
 {
     if bytes[0] != GATE {
-        return Ok(None);
+        return Ok(());
     }
     if closed {
         return Err(OpenFault::Damaged { slot });
     }
     match decode(bytes) {
-        Some(found) => Ok(Some(found)),
+        Some(found) => {
+            records.push(found)?;
+            Ok(())
+        }
         None => Err(OpenFault::Damaged { slot }),
     }
 }
 
-// Reads a slot that is wholly there.
+// Reads a slot that is wholly there, and adds its record, if it is open.
 fn read_slot<D: Disk>(
     disk: &mut D,
     place: u64,
     slot: u32,
     closed: bool,
-) -> Result<Option<Record>, OpenFault>
+    records: &mut Vec<Record>,
+) -> Result<(), OpenFault>
     ensures judged { (t : Trace) (layout : Layout) → D.trace disk.old ≡ Some t → place ≡ slot_place layout slot → place + 64 ≤ length (seen_of t)
-        → SlotRead layout (seen_of t) slot closed result }
-    ensures valid { IfOk result (λ found. IfSome found IsValid) }
+        → SlotAdded layout (seen_of t) slot closed records.old.items records.new.items result }
+    ensures bounded { length records.new.items ≤ length records.old.items + 1 }
+    ensures valid { All IsValid records.old.items → All IsValid records.new.items }
     ensures same { D.trace disk.new ≡ D.trace disk.old }
     ensures cause { HasCause (D.faults disk.old) (D.faults disk.new) (IsErrOf result DiskFault) }
     ensures passed { OnOk result (D.faults disk.new ≡ D.faults disk.old) }
 {
     let mut bytes = [0u8; 64];
     disk.read_at(place, &mut bytes)?;
-    judge_slot(slot, &bytes, closed)
+    judge_slot(slot, &bytes, closed, records)
 }
 
 // Adds the record of the next slot of the live area, if it is open.
@@ -208,10 +219,7 @@ fn add_slot<D: Disk>(
         return Err(OpenFault::Damaged { slot });
     }
     let closed = records.len() < slot as usize;
-    if let Some(found) = read_slot(disk, place, slot, closed)? {
-        records.push(found)?;
-    }
-    Ok(())
+    read_slot(disk, place, slot, closed, records)
 }
 
 // Reads the live area's slots of a journal with so many bytes, up to the least that is damaged. Takes memory for these alone.

@@ -7,9 +7,12 @@ use Rattle.fz_ast.specs.Terms.{Name, Term, at, VarE, NumE, TextE, UnitE, PairE, 
 use Rattle.fz_ast.specs.Terms.{InlE, InrE, CaseE, IfE, FunE, FnE, AppE, BangE, LetBangE, LetE, PlusE, MinusE}
 use Rattle.fz_ast.specs.Terms.{TimesE, LeE, EqE, ClipE, LeastE, GreatestE, SizeE, SumE, UnionE, MapE, FilterE, SplitE}
 
--- numbers are within -M..M
+-- how great a number may be, in absolute value
+abbrev pub greatest_number : ℕ
+greatest_number = 2 ^ 50
+
 abbrev pub limit : ℤ
-limit = pos (2 ^ 50)
+limit = pos greatest_number
 
 abbrev pub IsNumber : ℤ → Type 0
 IsNumber z = (neg_ℤ limit ≤ℤ z) × (z ≤ℤ limit)

@@ -1,5 +1,6 @@
 -- The cut of a program into blanks and longest tokens.
-use Rattle.std.specs.Prelude.{◌≡◌, ℕ, ◌+◌, ◌^◌, ◌<◌, ◌≤◌, List, [], ◌∷◌, ◌++◌, length, true, ◌⊎◌, ⊤}
+use Rattle.std.specs.Prelude.{◌≡◌, ℕ, ◌+◌, ◌<◌, ◌≤◌, List, [], ◌∷◌, ◌++◌, length, true, ◌⊎◌, ⊤}
+use Rattle.fz_ast.specs.Limits.{greatest_number}
 use Rattle.fz_lexer.specs.declared.token.Token.{Token}
 use Rattle.fz_lexer.specs.declared.token.Kind.{Kind}
 use Rattle.fz_lexer.specs.declared.token.Kind.TheVariants.{Name, Number, Text, Reserved, Punctuation}
@@ -28,7 +29,7 @@ pub record IsNumberToken (text after : List ℕ) (kind : Kind) : Type 0 where
   pub some : begins is_digit text ≡ true
   pub every : every_byte is_digit text ≡ true
   pub ends : stops is_digit after ≡ true
-  pub small : value_from 0 text ≤ 2 ^ 50
+  pub small : value_from 0 text ≤ greatest_number
   pub is : kind ≡ Number (value_from 0 text)
 
 pub record IsTextToken (text after : List ℕ) (kind : Kind) : Type 0 where

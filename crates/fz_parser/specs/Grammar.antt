@@ -1,6 +1,7 @@
 -- What it is for tokens to be a term, a type or a sensitivity: each item of a rule's body stands for a part of the text, and the text is cut.
 use Rattle.std.specs.Prelude.{◌≡◌, ℕ, zero, suc, ◌^◌, ◌<◌, ◌≤◌, List, [], ◌∷◌, ◌++◌, get_or, length}
 use Rattle.fz_ast.specs.declared.span.Span.{Span}
+use Rattle.fz_ast.specs.Limits.{greatest_number}
 use Rattle.fz_frac.specs.Distance.{Distance}
 use Rattle.fz_ast.specs.Types.{Ty}
 use Rattle.fz_ast.specs.Terms.{Term}
@@ -19,7 +20,7 @@ use Rattle.fz_parser.specs.Parts.{State, What, FactorPart, TypePart, TermPart, s
 -- a token of this kind may stand there; one outside the limits of names, numbers and texts stands nowhere
 abbrev pub Fits : Terminal → Kind → Type 0
 Fits Named (Name x) = length x ≤ 32
-Fits Numeral (Number n) = n ≤ 2 ^ 50
+Fits Numeral (Number n) = n ≤ greatest_number
 Fits Positive (Number n) = (0 < n) × (n < 2 ^ 32)
 Fits Quoted (Text x) = length x ≤ 64
 Fits (Keyword w) (Reserved v) = w ≡ v

@@ -5,7 +5,7 @@ use Rattle.fz_ast.specs.Parts.{Parts}
 use Rattle.fz_ast.specs.Names.{name_of, text_of}
 use Rattle.fz_ast.specs.TypeNodes.{type_at}
 use Rattle.fz_ast.specs.TermNodes.{term_at}
-use Rattle.fz_ast.specs.Limits.{IsNumber, IsBang}
+use Rattle.fz_ast.specs.Limits.{IsNumber, IsBang, greatest_number}
 use Rattle.std.specs.Prelude.{length}
 use Rattle.fz_lexer.specs.declared.token.Token.{Token}
 use Rattle.fz_parser.specs.declared.grammar.Terminal.{Terminal}
@@ -41,7 +41,7 @@ state_of r = record { last = r.last; parts = parts_in r.nodes (reverse r.entries
 abbrev pub IsHeld : Parts → Held → Type 0
 IsHeld N Begun = ⊤
 IsHeld N (Name x) = ⊤
-IsHeld N (Number n) = n ≤ 2 ^ 50
+IsHeld N (Number n) = n ≤ greatest_number
 IsHeld N (Positive n) = (0 < n) × (n < 2 ^ 32)
 IsHeld N (Text t) = ⊤
 IsHeld N (Integer z) = IsNumber z

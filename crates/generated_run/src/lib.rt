@@ -8,4 +8,6 @@ mod run;
 pub use counting::Tally;
 pub use run::run_generated;
 // The crates above answer their scripts by these, and admit programs.
-pub use script_workers::{Admitted, Desk, Passes, admit, answer_script, check_program, read_program};
+pub use script_workers::{
+    Admitted, Desk, Passes, admit, answer_script, check_program, read_program,
+};

@@ -16,9 +16,11 @@ fn words_of(alloc: Global, texts: &[&str]) -> Result<Vec<String>, AllocError> {
 
 // Words, and the command that they are.
 #[rattlefmt::skip]
-const COMMANDS: [(&[&str], Command<'static>); 23] = [
+const COMMANDS: [(&[&str], Command<'static>); 25] = [
     // each command
     (&["check", "c", "o", "f"], Command::Check { catalog: "c", owner: "o", file: "f" }),
+    (&["derive", "c", "o", "f"], Command::Derive { catalog: "c", owner: "o", file: "f" }),
+    (&["judge", "c", "o", "f", "d"], Command::Judge { catalog: "c", owner: "o", file: "f", derivation: "d" }),
     (&["init", "c", "k"], Command::Init { catalog: "c", key: "k" }),
     (&["run", "c", "k"], RUN),
     (&["audit", "c", "k"], Command::Audit { catalog: "c", key: "k" }),

@@ -5,8 +5,7 @@ ghost use Rattle.fz_ast.specs.Types.{WellFormed, formed, is_flat};
 ghost use Rattle.table_store.specs.Schema.{most_columns, row_of_schema};
 ghost use Rattle.partition_charge.specs.Views.{part_limit, partition_limit};
 ghost use Rattle.owner_catalog.specs.Limits.{table_limit};
-ghost use Rattle.owner_catalog.specs.Entries.{owner_entry_at, table_entry_at, partition_entry_at, owner_signature, limit_for, table_name};
-ghost use Rattle.owner_catalog.specs.Entries.{table_type_of};
+ghost use Rattle.owner_catalog.specs.Entries.{owner_entry_at, table_entry_at, partition_entry_at, owner_signature, limit_for, table_name, table_type_of};
 ghost use Rattle.owner_catalog.specs.Lawful.{IsCatalog, IsOwner, IsPartition, IsTableEntry};
 
 use crate::list::Listed;

@@ -5,6 +5,6 @@ pub mod laws;
 
 // The crates above meet demands by these, and admit programs.
 pub use answer_path::{
-    Admitted, Demand, Desk, Guarded, Held, House, Knows, LastProgram, Noted, Pass, Query,
-    admit, check_program, meet, read_program,
+    Admitted, Demand, Desk, Guarded, Held, House, Knows, LastProgram, Noted, Pass, Query, admit,
+    check_program, meet, read_program,
 };

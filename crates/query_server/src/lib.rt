@@ -18,10 +18,10 @@ mod writing;
 
 pub use crate::end::Status;
 pub use crate::laws::{
-    derivations_are_exact, disk_refusals_have_causes, faulty_words_are_told, gaps_are_bounded, gaps_are_of_datasets,
-    lines_are_exact, lines_are_headlines, one_worker_transcribes, other_ends_keep_what_was_found,
-    outside_stays, programs_are_exact, refusals_are_exact, runs_are_answered,
-    statuses_are_of_commands, valid_commands_end_well, verdicts_are_exact,
+    derivations_are_exact, disk_refusals_have_causes, faulty_words_are_told, gaps_are_bounded,
+    gaps_are_of_datasets, lines_are_exact, lines_are_headlines, one_worker_transcribes,
+    other_ends_keep_what_was_found, outside_stays, programs_are_exact, refusals_are_exact,
+    runs_are_answered, statuses_are_of_commands, valid_commands_end_well, verdicts_are_exact,
     what_is_loaded_is_lawful,
 };
 pub use crate::server::run_server;

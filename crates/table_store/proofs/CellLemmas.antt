@@ -9,7 +9,8 @@ use Rattle.std.proofs.lemmas.Str.{IsUtf8-from_ascii}
 use Rattle.std.proofs.lemmas.Str.Ascii.{IsAscii-cons}
 use Rattle.std.proofs.lemmas.Str.Parse.{IsNumeralModel, numerals_by_weight, parse_signed_minus, parse_signed_plain, tells_all_ascii_digits}
 use Rattle.fz_ast.specs.Limits.{IsNumber}
-use Rattle.table_store.specs.Cell.{decimal_value, greatest_number, magnitude_of, cell_number}
+use Rattle.fz_ast.specs.Limits.{greatest_number}
+use Rattle.table_store.specs.Cell.{decimal_value, magnitude_of, cell_number}
 
 -- our words for digits and their value are std's
 own : IsNumeralModel (λ digits. all_ascii_digits digits ≡ true) decimal_value

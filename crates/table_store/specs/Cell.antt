@@ -2,13 +2,10 @@
 use Rattle.std.specs.Prelude.{ℕ, ◌+◌, ◌-◌, ◌*◌, ◌^◌, List, [], ◌∷◌, length, Option, Some, None, ℤ, pos, neg_ℤ}
 use Rattle.std.specs.Prelude.{◌&&◌, ◌==◌, nat_lt, nat_le, if◌then◌else◌, option_map}
 use Rattle.std.specs.Str.{all_ascii_digits}
+use Rattle.fz_ast.specs.Limits.{greatest_number}
 use Rattle.fz_ast.specs.declared.row.Column.{Column}
 use Rattle.fz_ast.specs.declared.row.Column.TheVariants.{Num, Text}
 use Rattle.metric_values.specs.Values.{Flat, NumF, TextF}
-
--- how great a number may be, in absolute value
-abbrev pub greatest_number : ℕ
-greatest_number = 2 ^ 50
 
 -- how many bytes a text may have
 abbrev pub longest_text : ℕ
