@@ -1,6 +1,6 @@
 mod ExamplesOfAnalysts
 mod ExamplesOfFaults
-mod ExamplesOfForms
+pub mod ExamplesOfForms
 mod ExamplesOfLimits
 pub mod Laws
 pub mod Lists
