@@ -41,15 +41,22 @@ entry_lawful catalog lawful name entry is = go (find (λ (owner : OwnerEntry). b
         let its : get_or catalog.owners place owner ≡ owner = cc (there, slice_get-get_or catalog.owners place owner within) in
         subst IsOwner (its ∙ same) (lawful.owners place owner within)
 
--- the tables that were read for a task are a signature
-subject_signed : (catalog owner file : List ℕ) (reads : ReadsToCome) (subject : Subject) → (subject_read catalog owner file reads).given ≡ Ok subject → IsSignature subject.tables
-subject_signed catalog owner file reads subject is =
+-- What was read for a task: the tables are those of an owner that keeps the rules.
+pub record IsSubject (subject : Subject) : Type 0 where
+  pub owner : OwnerEntry
+  pub of : IsOwner owner
+  pub is : owner_signature owner ≡ subject.tables
+  pub signed : IsSignature subject.tables
+
+pub subject_lawful : (catalog owner file : List ℕ) (reads : ReadsToCome) (subject : Subject) → (subject_read catalog owner file reads).given ≡ Ok subject → IsSubject subject
+subject_lawful catalog owner file reads subject is =
     let house = inverted (catalog_read catalog) _ reads subject is in
     let rest = (catalog_read catalog reads).rest in
     let entry = inverted (from (entry_named house.0 owner)) _ rest subject house.2 in
     let program = inverted (file_read file) (λ bytes. done (record { tables = owner_signature entry.0; program = bytes })) rest subject entry.2 in
     let same : owner_signature entry.0 ≡ subject.tables = cc program.2 in
-    subst IsSignature same (signature_signed entry.0 (entry_lawful house.0 (catalog_lawful catalog reads house.0 house.1) owner entry.0 entry.1))
+    let lawful = entry_lawful house.0 (catalog_lawful catalog reads house.0 house.1) owner entry.0 entry.1 in
+    record { owner = entry.0; of = lawful; is = same; signed = subst IsSignature same (signature_signed entry.0 lawful) }
 
 judged_signed : (catalog owner file derivation : List ℕ) (reads : ReadsToCome) (subject : Subject) (bytes : List ℕ)
     → (judge_steps catalog owner file derivation reads).given ≡ Ok (to_judge subject bytes) → IsSignature subject.tables
@@ -57,7 +64,7 @@ judged_signed catalog owner file derivation reads subject bytes is =
     let read = inverted (subject_read catalog owner file) (λ s. file_read derivation >>= (λ b. done (to_judge s b))) reads (to_judge subject bytes) is in
     let last = inverted (file_read derivation) (λ b. done (to_judge read.0 b)) (subject_read catalog owner file reads).rest (to_judge subject bytes) read.2 in
     let same : read.0 ≡ subject = cc last.2 in
-    subst (λ (s : Subject). IsSignature s.tables) same (subject_signed catalog owner file reads read.0 read.1)
+    subst (λ (s : Subject). IsSignature s.tables) same (subject_lawful catalog owner file reads read.0 read.1).signed
 
 -- a yes of the program's reading
 yes_of : (reading : Reading) (tables : Signature) (program bytes text : List ℕ) → IsSignature tables → IsReading program reading → IsJudgedBy reading tables bytes (written text)

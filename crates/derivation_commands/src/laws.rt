@@ -3,7 +3,7 @@
 ghost use Rattle.std.specs.Prelude.{◌≡◌};
 ghost use Rattle.derivation_commands.specs.Task.{Task};
 ghost use Rattle.derivation_commands.specs.Outcome.{IsOutcomeOf, Outcome};
-ghost use Rattle.derivation_commands.specs.Promise.{AYesBoundsTheValues};
+ghost use Rattle.derivation_commands.specs.Promise.{AYesBoundsTheValues, WhatIsDerivedIsJudgedYes};
 
 /// What comes of a derivation that is to be written or judged is one.
 pub fn outcomes_are_unique()
@@ -14,4 +14,9 @@ pub fn outcomes_are_unique()
 /// these are apart, and there is one on each.
 pub fn a_yes_bounds_the_values()
     ensures { AYesBoundsTheValues }
+{}
+
+/// What is written as a program's derivation is judged yes, with the sensitivity that a `check` finds.
+pub fn what_is_derived_is_judged_yes()
+    ensures { WhatIsDerivedIsJudgedYes }
 {}
