@@ -18,3 +18,4 @@ pub mod Amounts
 pub mod Tests
 pub mod Factors
 pub mod Scopes
+pub mod Fine

@@ -24,3 +24,4 @@ pub mod Scoped
 pub mod Formed
 pub mod Viewed
 pub mod Walked
+pub mod Walking

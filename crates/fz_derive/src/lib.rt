@@ -17,4 +17,5 @@ pub mod scope;
 pub mod shape;
 pub mod sizes;
 pub mod tables;
+pub mod walk;
 pub mod write;
