@@ -19,3 +19,4 @@ pub mod Tests
 pub mod Factors
 pub mod Scopes
 pub mod Fine
+pub mod Walked

@@ -36,6 +36,16 @@ pub struct View<'a> {
 }
 
 impl View<'_> {
+    /// The type of this line.
+    pub fn line_type(&self, at: usize) -> u32
+        requires view { IsView self.now }
+        requires known { at < length self.now.lines.now }
+        ensures known { result < length self.now.arena.now }
+        ensures is { type_at self.now.arena.now result ≡ (line_at (lines_seen self.now) at).ty }
+    {
+        self.lines[at].ty
+    }
+
     // The part of this line.
     fn part(&self, at: usize) -> Part
         requires view { IsView self.now }
@@ -50,8 +60,8 @@ impl View<'_> {
         }
     }
 
-    // The number in the arena of the type written as number `t`.
-    fn written_type(&self, t: u32) -> u32
+    /// The number in the arena of the type written as number `t`.
+    pub fn written_type(&self, t: u32) -> u32
         requires view { IsView self.now }
         requires known { t < length self.now.nodes.now.types }
         ensures known { result < length self.now.arena.now }
