@@ -103,7 +103,6 @@ module _ {L : List Line} {Γ : Context} {k : ℕ} {r l : Line} {A : List Line} w
       → node L Γ k (f (line_at L (k + 1))) (fault_in L Δ a (k + 1)) ≡ None
   over_one f h w p = let t = holds_rest h in none_below L k (one_at f (holds_first t) (holds_first h) w) (p.none L (k + 1) t)
 
-
   over_two : (f : Line → Line → Option Row) {Δ : Context} (Θ : Ty → Context) {a b : Term} {m : Line} {B : List Line} → Counts (l ∷ A) a
       → Holds L k (r ∷ ((l ∷ A) ++ (m ∷ B))) → Fine Γ (f l m) r → Faultless Δ a (l ∷ A) → Faultless (Θ l.ty) b (m ∷ B)
       → node L Γ k (f (line_at L (k + 1)) (line_at L (second_at k a))) (first_of (fault_in L Δ a (k + 1)) (fault_in L (Θ (line_at L (k + 1)).ty) b (second_at k a))) ≡ None
@@ -163,9 +162,13 @@ faultless {Γ} (is_union p h q i w) = record { none = λ L k t. over_two union_r
 faultless {Γ} (is_map {l = l} {m = m} p h f q i w) = record { none = λ L k t. over_two map_row (λ T. Γ) (count p) t (by_type (λ T. map_of T l m) h (holding f (holding_type i (allowed w)))) (faultless p) (faultless q) }
 faultless {Γ} (is_filter {l = l} {m = m} p h q i w) = record { none = λ L k t. over_two filter_row (λ T. Γ) (count p) t (by_type (λ T. test_of BagT T l m) h (holding_type {A = BoolT} refl (holding_type i (allowed w)))) (faultless p) (faultless q) }
 faultless {Γ} (is_split {l = l} {m = m} p h q i w) = record { none = λ L k t. over_two split_row (λ T. Γ) (count p) t (by_type (λ T. test_of halves T l m) h (holding_type {A = BoolT} refl (holding_type i (allowed w)))) (faultless p) (faultless q) }
-faultless {Γ} (is_case {x = x} {y = y} p h q v i g w) = record { none = λ L k t.
-    over_three (case_row x y) (λ T. Under x (first_type T) Γ) (λ T. Under y (second_type T) Γ) (count p) (count q) t
-    (holding (ap is_sum_type h) (holding_type i (holding g (allowed w)))) (faultless p)
-    (under (ap (λ (T : Ty). Under x (first_type T) Γ) h) (faultless q)) (under (ap (λ (T : Ty). Under y (second_type T) Γ) h) (faultless v)); }
-faultless {Γ} (is_if p h q v i g w) = record { none = λ L k t.
-    over_three if_row (λ T. Γ) (λ T. Γ) (count p) (count q) t (holding_type h (holding_type i (holding g (allowed w)))) (faultless p) (faultless q) (faultless v); }
+faultless {Γ} (is_case {x = x} {y = y} p h q v i g w) = record {
+  none = λ L k t.
+      over_three (case_row x y) (λ T. Under x (first_type T) Γ) (λ T. Under y (second_type T) Γ) (count p) (count q) t
+      (holding (ap is_sum_type h) (holding_type i (holding g (allowed w)))) (faultless p)
+      (under (ap (λ (T : Ty). Under x (first_type T) Γ) h) (faultless q)) (under (ap (λ (T : Ty). Under y (second_type T) Γ) h) (faultless v));
+}
+faultless {Γ} (is_if p h q v i g w) = record {
+  none = λ L k t.
+      over_three if_row (λ T. Γ) (λ T. Γ) (count p) (count q) t (holding_type h (holding_type i (holding g (allowed w)))) (faultless p) (faultless q) (faultless v);
+}

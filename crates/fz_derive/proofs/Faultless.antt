@@ -119,8 +119,10 @@ of_equation {L} {Γ} {a} {b} {k} s room p q f = go (needed_eq l.ty l m f)
   where
     l : Line
     l = line_at L (k + 1)
+
     m : Line
     m = line_at L (second_at k a)
+
     go : ((l.ty ≡ NumT) × (m.ty ≡ NumT) × Allows Γ BoolT (endless_both (says_at l) (says_at m)) (line_at L k)) ⊎ ((l.ty ≡ TextT) × (m.ty ≡ TextT) × Allows Γ BoolT (sums (says_at l) (says_at m)) (line_at L k))
         → Stands L Γ (at s (EqE a b)) k
     go (inl i) = over_two L k room refl p q (is_eq_num p.derives i.0 q.derives i.1 i.2)
@@ -160,7 +162,7 @@ built (at s (InrE u T e)) L Γ k room h =
     over_one L k room refl p (is_inr p.derives (is_well (formed T) f.0) g.0 i.0 (allows i.1))
 built (at s (CaseE e x a y b)) L Γ k room h =
     let n = below_three L Γ k (case_row x y (line_at L (k + 1)) (line_at L (second_at k e)) (line_at L (third_at k e a))) Γ (Under x (first_type (line_at L (k + 1)).ty) Γ) (Under y (second_type (line_at L (k + 1)).ty) Γ) e a b room h
-        (λ j r i. built e L Γ j r i) (λ j r i. built a L (Under x (first_type (line_at L (k + 1)).ty) Γ) j r i) (λ j r i. built b L (Under y (second_type (line_at L (k + 1)).ty) Γ) j r i) in
+    (λ j r i. built e L Γ j r i) (λ j r i. built a L (Under x (first_type (line_at L (k + 1)).ty) Γ) j r i) (λ j r i. built b L (Under y (second_type (line_at L (k + 1)).ty) Γ) j r i) in
     let p = n.parts.0 in let f = needed (is_sum_type (line_at L (k + 1)).ty) n.fine in let t = sum_of (line_at L (k + 1)).ty f.0 in
     let g = needed_type (line_at L (third_at k e a)).ty (line_at L (second_at k e)).ty f.1 in let i = needed (is_ground (line_at L (second_at k e)).ty) g.1 in
     let q = moved (ap (λ (T : Ty). Under x (first_type T) Γ) t.2) n.parts.1 in

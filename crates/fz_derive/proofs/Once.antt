@@ -42,7 +42,7 @@ saids_once (text ∷ texts) [] us h k = absurd h
 saids_once (text ∷ texts) (s ∷ ss) [] h k = absurd k
 saids_once (text ∷ texts) (s ∷ ss) (u ∷ us) h k = λ i. said_once text s u h.0 k.0 i ∷ saids_once texts ss us h.1 k.1 i
 
-pieces_once : (texts : List (List ℕ)) (l m : Line) → ArePieces texts l → ArePieces texts m → l ≡ m
+pub pieces_once : (texts : List (List ℕ)) (l m : Line) → ArePieces texts l → ArePieces texts m → l ≡ m
 pieces_once [] l m h k = absurd h
 pieces_once (text ∷ texts) l m h k = λ i. record { ty = type_once text l.ty m.ty h.0 k.0 i; says = saids_once texts l.says m.says h.1 k.1 i }
 
@@ -51,7 +51,7 @@ line_once text l m h k = pieces_once (slice_split (λ b. b == bar) text) l m h.p
 
 -- the first LF is at one place
 
-is_not : (c : ℕ) → not (c == c) ≡ true → ⊥
+pub is_not : (c : ℕ) → not (c == c) ≡ true → ⊥
 is_not c h = let e : (c == c) ≡ true = grind arith in cc
 
 pub first_once : (c : ℕ) (v w x y : List ℕ) → lacks c v ≡ true → lacks c w ≡ true → v ++ c ∷ x ≡ w ++ c ∷ y → (v ≡ w) × (x ≡ y)

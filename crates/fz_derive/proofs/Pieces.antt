@@ -1,19 +1,17 @@
 -- Texts cut at bytes, and why a piece is none.
-use Rattle.std.proofs.Common.{◌≡◌, ◌≢◌, ℕ, zero, suc, ◌+◌, ◌<◌, ◌≤◌, Bool, true, false, not, cond, eqb, List, [], ◌∷◌, ◌++◌, length, get_or, take, drop, refl, sym, ap, subst, ◌∙◌, arith, inl, inr}
-use Rattle.std.specs.Prelude.{Option, Some, None, Result, Ok, Err, ⊤, ◌&&◌, ◌==◌, IfErr}
+use Rattle.std.proofs.Common.{◌≡◌, ℕ, zero, suc, ◌+◌, ◌<◌, ◌≤◌, Bool, true, false, not, eqb, List, [], ◌∷◌, ◌++◌, length, get_or, take, drop, refl, sym, ap, subst, ◌∙◌, arith, inl, inr}
+use Rattle.std.specs.Prelude.{Result, Ok, Err, ◌==◌, IfErr}
 use Rattle.std.specs.Result.{IsErrAnd}
-use Rattle.std.specs.List.{slice_split, onto_first}
-use Rattle.std.proofs.lemmas.Bool.{eq-eqb, eqb-true, not-true, and_parts, and_from, cases_Bool}
+use Rattle.std.proofs.lemmas.Bool.{eqb-true, not-true, and_parts}
 use Rattle.std.proofs.lemmas.List.{drop_more, get_or-take, length-take-le, take-append-drop}
 use Rattle.memchr.specs.Find.{Nowhere, Passes, is_byte}
 use Rattle.fz_frac.specs.Distance.{Distance}
 use Rattle.fz_ast.specs.Terms.{Name}
 use Rattle.fz_ast.specs.Types.{Ty}
-use Rattle.fz_lexer.specs.Bytes.{every_byte}
-use Rattle.fz_lexer.specs.Tokens.{IsToken, IsNameToken, AreTokens, ExplainsLine}
+use Rattle.fz_lexer.specs.Tokens.{IsToken, AreTokens, ExplainsLine}
 use Rattle.fz_lexer.specs.declared.token.Token.{Token}
 use Rattle.fz_lexer.specs.declared.token.Kind.{Kind}
-use Rattle.fz_lexer.specs.declared.token.Kind.TheVariants.{Name as NameKind, Number, Text, Reserved, Punctuation}
+use Rattle.fz_lexer.specs.declared.token.Kind.TheVariants.{Name as NameKind}
 use Rattle.fz_lexer.specs.declared.token.LexFault.{LexFault}
 use Rattle.fz_lexer.specs.declared.token.LexFault.TheVariants.{Bad, TooManyTokens, NoMemory as NoLexMemory}
 use Rattle.fz_lexer.proofs.Cuts.{only, line_refused}
@@ -21,8 +19,9 @@ use Rattle.fz_parser.specs.Grammar.{IsTypeOf, IsSensitivityOf}
 use Rattle.fz_parser.specs.Reading.{ExplainsType, ExplainsSensitivity}
 use Rattle.fz_parser.specs.declared.fault.ParseFault.{ParseFault}
 use Rattle.fz_parser.specs.declared.fault.ParseFault.TheVariants.{Stuck, TooNested, NoMemory as NoParseMemory}
-use Rattle.fz_derive.specs.Texts.{bar, lacks}
-use Rattle.fz_derive.specs.Pieces.{pieces_of, Explains, NoTypeText, NoSaidText, of_lexer, of_parser}
+use Rattle.fz_derive.specs.Lines.{Said}
+use Rattle.fz_derive.specs.Texts.{bar, lacks, IsTypeText, ArePieces, IsLineText}
+use Rattle.fz_derive.specs.Pieces.{pieces_of, Explains, NoTypeText, NoSaidText, NoLineText, AreSaid, NoneSaid, of_lexer, of_parser}
 use Rattle.fz_derive.specs.declared.lines.TextFault.{TextFault}
 use Rattle.fz_derive.specs.declared.lines.TextFault.TheVariants.{Form, NoMemory}
 
@@ -69,6 +68,10 @@ pieces_cut text piece rest h e = ap pieces_of e ∙ go piece h
 pub explains : (P : Type 0) (e : TextFault) → (e ≡ Form → P) → Explains P e
 explains P Form h = h refl
 explains P NoMemory h = tt
+
+pub explained : (P : Type 0) (e : TextFault) → Explains P e → e ≡ Form → P
+explained P Form h is = h
+explained P NoMemory h is = absurd cc
 
 -- what `?` passes on
 pub passed : {T : Type 0} (P : Type 0) (r : Result T TextFault) (e : TextFault) → IsErrAnd r (λ f. f ≡ e) → (e ≡ Form → P) → IfErr r (Explains P)
@@ -127,3 +130,14 @@ short_kind text after k x (inr (inr (inr is))) e = let f = is.is in absurd cc
 
 pub short_name : (text : List ℕ) (t : Token) (ts : List Token) (x : Name) → AreTokens text (t ∷ ts) → t.kind ≡ NameKind x → length x ≤ 32
 short_name text t ts x are e = short_kind are.1 are.2 t.kind x are.5 e
+
+-- A line by its first piece.
+module _ (text p : List ℕ) (ps : List (List ℕ)) (cut : pieces_of text ≡ p ∷ ps) where
+  pub no_line_type : NoTypeText p → NoLineText text
+  no_line_type never l is = never l.ty (subst (λ qs. ArePieces qs l) cut is.pieces).0
+
+  pub no_line_said : NoneSaid ps → NoLineText text
+  no_line_said never l is = never l.says (record { are = (subst (λ qs. ArePieces qs l) cut is.pieces).1; order = is.order })
+
+  pub is_line : (A : Ty) (says : List Said) → IsTypeText p A → AreSaid ps says → IsLineText text (record { ty = A; says = says })
+  is_line A says is said = record { pieces = subst (λ qs. ArePieces qs (record { ty = A; says = says })) (sym cut) (is, said.are); order = said.order }

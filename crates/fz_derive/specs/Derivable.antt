@@ -39,72 +39,145 @@ pub data Derives : Context → Term → List Line → Type 0 where
   -- x has its type, at 1
   is_var : {Γ : Context} {s : Span} {x : Name} {A : Ty} {r : Line} → IsNamed Γ x A → Allows Γ A (named x) r → Derives Γ (at s (VarE x)) (r ∷ [])
   -- a number
-  is_num : {Γ : Context} {s : Span} {z : ℤ} {r : Line} → Allows Γ NumT (nothing) r → Derives Γ (at s (NumE z)) (r ∷ [])
+  is_num : {Γ : Context} {s : Span} {z : ℤ} {r : Line} → Allows Γ NumT nothing r → Derives Γ (at s (NumE z)) (r ∷ [])
   -- a text
-  is_text : {Γ : Context} {s : Span} {t : List ℕ} {r : Line} → Allows Γ TextT (nothing) r → Derives Γ (at s (TextE t)) (r ∷ [])
+  is_text : {Γ : Context} {s : Span} {t : List ℕ} {r : Line} → Allows Γ TextT nothing r → Derives Γ (at s (TextE t)) (r ∷ [])
   -- ()
-  is_unit : {Γ : Context} {s : Span} {r : Line} → Allows Γ UnitT (nothing) r → Derives Γ (at s UnitE) (r ∷ [])
+  is_unit : {Γ : Context} {s : Span} {r : Line} → Allows Γ UnitT nothing r → Derives Γ (at s UnitE) (r ∷ [])
   -- (a, b) : A * B, at Da + Db
-  is_pair : {Γ : Context} {s : Span} {a b : Term} {l m : Line} {L M : List Line} {r : Line} → Derives Γ a (l ∷ L) → Derives Γ b (m ∷ M) → Allows Γ (TensorT l.ty m.ty) (sums (says_at l) (says_at m)) r → Derives Γ (at s (PairE a b)) (r ∷ (l ∷ L) ++ (m ∷ M))
+  is_pair : {Γ : Context} {s : Span} {a b : Term} {l m : Line} {L M : List Line} {r : Line}
+      → Derives Γ a (l ∷ L) → Derives Γ b (m ∷ M) → Allows Γ (TensorT l.ty m.ty) (sums (says_at l) (says_at m)) r
+      → Derives Γ (at s (PairE a b)) (r ∷ (l ∷ L) ++ (m ∷ M))
   -- <a, b> : A & B, at max(Da, Db)
-  is_with : {Γ : Context} {s : Span} {a b : Term} {l m : Line} {L M : List Line} {r : Line} → Derives Γ a (l ∷ L) → Derives Γ b (m ∷ M) → Allows Γ (WithT l.ty m.ty) (same_as (greater_at (says_at l) (says_at m))) r → Derives Γ (at s (WithE a b)) (r ∷ (l ∷ L) ++ (m ∷ M))
+  is_with : {Γ : Context} {s : Span} {a b : Term} {l m : Line} {L M : List Line} {r : Line}
+      → Derives Γ a (l ∷ L) → Derives Γ b (m ∷ M) → Allows Γ (WithT l.ty m.ty) (same_as (greater_at (says_at l) (says_at m))) r
+      → Derives Γ (at s (WithE a b)) (r ∷ (l ∷ L) ++ (m ∷ M))
   -- fst e : A where e : A & B, at De
-  is_fst : {Γ : Context} {s : Span} {e : Term} {A B : Ty} {l : Line} {L : List Line} {r : Line} → Derives Γ e (l ∷ L) → l.ty ≡ WithT A B → Allows Γ A (same_as (says_at l)) r → Derives Γ (at s (FstE e)) (r ∷ l ∷ L)
+  is_fst : {Γ : Context} {s : Span} {e : Term} {A B : Ty} {l : Line} {L : List Line} {r : Line}
+      → Derives Γ e (l ∷ L) → l.ty ≡ WithT A B → Allows Γ A (same_as (says_at l)) r
+      → Derives Γ (at s (FstE e)) (r ∷ l ∷ L)
   -- snd e : B where e : A & B, at De
-  is_snd : {Γ : Context} {s : Span} {e : Term} {A B : Ty} {l : Line} {L : List Line} {r : Line} → Derives Γ e (l ∷ L) → l.ty ≡ WithT A B → Allows Γ B (same_as (says_at l)) r → Derives Γ (at s (SndE e)) (r ∷ l ∷ L)
+  is_snd : {Γ : Context} {s : Span} {e : Term} {A B : Ty} {l : Line} {L : List Line} {r : Line}
+      → Derives Γ e (l ∷ L) → l.ty ≡ WithT A B → Allows Γ B (same_as (says_at l)) r
+      → Derives Γ (at s (SndE e)) (r ∷ l ∷ L)
   -- let (x, y) = e in b where e : A * B, at Db + r De, r being the greater of x and y in Db
-  is_let_pair : {Γ : Context} {s : Span} {x y : Name} {e b : Term} {A B : Ty} {l m : Line} {L M : List Line} {r : Line} → Derives Γ e (l ∷ L) → l.ty ≡ TensorT A B → Derives (Under y B (Under x A Γ)) b (m ∷ M) → Allows Γ m.ty (bound_sums (without x (without y (says_at m))) (greater (without y (says_at m) x) (says_at m y)) (says_at l)) r → Derives Γ (at s (LetPairE x y e b)) (r ∷ (l ∷ L) ++ (m ∷ M))
+  is_let_pair : {Γ : Context} {s : Span} {x y : Name} {e b : Term} {A B : Ty} {l m : Line} {L M : List Line} {r : Line}
+      → Derives Γ e (l ∷ L) → l.ty ≡ TensorT A B → Derives (Under y B (Under x A Γ)) b (m ∷ M)
+      → Allows Γ m.ty (bound_sums (without x (without y (says_at m))) (greater (without y (says_at m) x) (says_at m y)) (says_at l)) r
+      → Derives Γ (at s (LetPairE x y e b)) (r ∷ (l ∷ L) ++ (m ∷ M))
   -- inl[T] e : A + T, T well formed and ground, A ground, at De
-  is_inl : {Γ : Context} {s : Span} {u : Span} {e : Term} {T : Ty} {l : Line} {L : List Line} {r : Line} → Derives Γ e (l ∷ L) → formed T ≡ WellFormed → is_ground T ≡ true → is_ground l.ty ≡ true → Allows Γ (SumT l.ty T) (same_as (says_at l)) r → Derives Γ (at s (InlE u T e)) (r ∷ l ∷ L)
+  is_inl : {Γ : Context} {s u : Span} {e : Term} {T : Ty} {l : Line} {L : List Line} {r : Line}
+      → Derives Γ e (l ∷ L) → formed T ≡ WellFormed → is_ground T ≡ true → is_ground l.ty ≡ true
+      → Allows Γ (SumT l.ty T) (same_as (says_at l)) r
+      → Derives Γ (at s (InlE u T e)) (r ∷ l ∷ L)
   -- inr[T] e : T + A, T well formed and ground, A ground, at De
-  is_inr : {Γ : Context} {s : Span} {u : Span} {e : Term} {T : Ty} {l : Line} {L : List Line} {r : Line} → Derives Γ e (l ∷ L) → formed T ≡ WellFormed → is_ground T ≡ true → is_ground l.ty ≡ true → Allows Γ (SumT T l.ty) (same_as (says_at l)) r → Derives Γ (at s (InrE u T e)) (r ∷ l ∷ L)
+  is_inr : {Γ : Context} {s u : Span} {e : Term} {T : Ty} {l : Line} {L : List Line} {r : Line}
+      → Derives Γ e (l ∷ L) → formed T ≡ WellFormed → is_ground T ≡ true → is_ground l.ty ≡ true
+      → Allows Γ (SumT T l.ty) (same_as (says_at l)) r
+      → Derives Γ (at s (InrE u T e)) (r ∷ l ∷ L)
   -- case e of inl x => a | inr y => b where e : A + B, both branches of one ground type, at max(Da, Db) + r De,
   -- r being the greater of x in Da and y in Db, and 1 where that is 0
-  is_case : {Γ : Context} {s : Span} {x y : Name} {e a b : Term} {A B : Ty} {l m n : Line} {L M N : List Line} {r : Line} → Derives Γ e (l ∷ L) → l.ty ≡ SumT A B → Derives (Under x A Γ) a (m ∷ M) → Derives (Under y B Γ) b (n ∷ N) → n.ty ≡ m.ty → is_ground m.ty ≡ true → Allows Γ m.ty (bound_sums (greater_at (without x (says_at m)) (without y (says_at n))) (above_zero (greater (says_at m x) (says_at n y))) (says_at l)) r → Derives Γ (at s (CaseE e x a y b)) (r ∷ (l ∷ L) ++ ((m ∷ M) ++ (n ∷ N)))
+  is_case : {Γ : Context} {s : Span} {x y : Name} {e a b : Term} {A B : Ty} {l m n : Line} {L M N : List Line} {r : Line}
+      → Derives Γ e (l ∷ L) → l.ty ≡ SumT A B → Derives (Under x A Γ) a (m ∷ M) → Derives (Under y B Γ) b (n ∷ N) → n.ty ≡ m.ty
+      → is_ground m.ty ≡ true
+      → Allows Γ m.ty (bound_sums (greater_at (without x (says_at m)) (without y (says_at n))) (above_zero (greater (says_at m x) (says_at n y))) (says_at l)) r
+      → Derives Γ (at s (CaseE e x a y b)) (r ∷ (l ∷ L) ++ ((m ∷ M) ++ (n ∷ N)))
   -- if e then a else b where e : bool, both branches of one ground type, at max(Da, Db) + De
-  is_if : {Γ : Context} {s : Span} {e a b : Term} {l m n : Line} {L M N : List Line} {r : Line} → Derives Γ e (l ∷ L) → l.ty ≡ BoolT → Derives Γ a (m ∷ M) → Derives Γ b (n ∷ N) → n.ty ≡ m.ty → is_ground m.ty ≡ true → Allows Γ m.ty (sums (greater_at (says_at m) (says_at n)) (says_at l)) r → Derives Γ (at s (IfE e a b)) (r ∷ (l ∷ L) ++ ((m ∷ M) ++ (n ∷ N)))
+  is_if : {Γ : Context} {s : Span} {e a b : Term} {l m n : Line} {L M N : List Line} {r : Line}
+      → Derives Γ e (l ∷ L) → l.ty ≡ BoolT → Derives Γ a (m ∷ M) → Derives Γ b (n ∷ N) → n.ty ≡ m.ty → is_ground m.ty ≡ true
+      → Allows Γ m.ty (sums (greater_at (says_at m) (says_at n)) (says_at l)) r
+      → Derives Γ (at s (IfE e a b)) (r ∷ (l ∷ L) ++ ((m ∷ M) ++ (n ∷ N)))
   -- fun (x : T) => e : T -o A, T well formed, where x is at most 1 in De, at De
-  is_fun : {Γ : Context} {s : Span} {x : Name} {u : Span} {T : Ty} {e : Term} {l : Line} {L : List Line} {r : Line} → Derives (Under x T Γ) e (l ∷ L) → formed T ≡ WellFormed → says_at l x ⊑ one → Allows Γ (ArrowT T l.ty) (same_as (without x (says_at l))) r → Derives Γ (at s (FunE x u T e)) (r ∷ l ∷ L)
+  is_fun : {Γ : Context} {s : Span} {x : Name} {u : Span} {T : Ty} {e : Term} {l : Line} {L : List Line} {r : Line}
+      → Derives (Under x T Γ) e (l ∷ L) → formed T ≡ WellFormed → says_at l x ⊑ one
+      → Allows Γ (ArrowT T l.ty) (same_as (without x (says_at l))) r
+      → Derives Γ (at s (FunE x u T e)) (r ∷ l ∷ L)
   -- fn (x : T) => e : T -> A, T well formed, at De
-  is_fn : {Γ : Context} {s : Span} {x : Name} {u : Span} {T : Ty} {e : Term} {l : Line} {L : List Line} {r : Line} → Derives (Under x T Γ) e (l ∷ L) → formed T ≡ WellFormed → Allows Γ (UnlimitedT T l.ty) (same_as (without x (says_at l))) r → Derives Γ (at s (FnE x u T e)) (r ∷ l ∷ L)
+  is_fn : {Γ : Context} {s : Span} {x : Name} {u : Span} {T : Ty} {e : Term} {l : Line} {L : List Line} {r : Line}
+      → Derives (Under x T Γ) e (l ∷ L) → formed T ≡ WellFormed → Allows Γ (UnlimitedT T l.ty) (same_as (without x (says_at l))) r
+      → Derives Γ (at s (FnE x u T e)) (r ∷ l ∷ L)
   -- f a : B where f : A -o B and a : A, at Df + Da
-  is_app : {Γ : Context} {s : Span} {f a : Term} {A B : Ty} {l m : Line} {L M : List Line} {r : Line} → Derives Γ f (l ∷ L) → l.ty ≡ ArrowT A B → Derives Γ a (m ∷ M) → m.ty ≡ A → Allows Γ B (sums (says_at l) (says_at m)) r → Derives Γ (at s (AppE f a)) (r ∷ (l ∷ L) ++ (m ∷ M))
+  is_app : {Γ : Context} {s : Span} {f a : Term} {A B : Ty} {l m : Line} {L M : List Line} {r : Line}
+      → Derives Γ f (l ∷ L) → l.ty ≡ ArrowT A B → Derives Γ a (m ∷ M) → m.ty ≡ A → Allows Γ B (sums (says_at l) (says_at m)) r
+      → Derives Γ (at s (AppE f a)) (r ∷ (l ∷ L) ++ (m ∷ M))
   -- ![q] e : ![q] A, at q De
-  is_bang : {Γ : Context} {s : Span} {q : Distance} {e : Term} {l : Line} {L : List Line} {r : Line} → Derives Γ e (l ∷ L) → Allows Γ (BangT q l.ty) (products q (says_at l)) r → Derives Γ (at s (BangE q e)) (r ∷ l ∷ L)
+  is_bang : {Γ : Context} {s : Span} {q : Distance} {e : Term} {l : Line} {L : List Line} {r : Line}
+      → Derives Γ e (l ∷ L) → Allows Γ (BangT q l.ty) (products q (says_at l)) r
+      → Derives Γ (at s (BangE q e)) (r ∷ l ∷ L)
   -- let !x = e in b where e : ![q] A, at Db + k De, k being x in Db over q, in range
-  is_let_bang : {Γ : Context} {s : Span} {x : Name} {e b : Term} {q : Distance} {A : Ty} {l m : Line} {L M : List Line} {r : Line} → Derives Γ e (l ∷ L) → l.ty ≡ BangT q A → Derives (Under x A Γ) b (m ∷ M) → is_out (quotient (says_at m x) q) ≡ false → Allows Γ m.ty (bound_sums (without x (says_at m)) (quotient (says_at m x) q) (says_at l)) r → Derives Γ (at s (LetBangE x e b)) (r ∷ (l ∷ L) ++ (m ∷ M))
+  is_let_bang : {Γ : Context} {s : Span} {x : Name} {e b : Term} {q : Distance} {A : Ty} {l m : Line} {L M : List Line} {r : Line}
+      → Derives Γ e (l ∷ L) → l.ty ≡ BangT q A → Derives (Under x A Γ) b (m ∷ M) → is_out (quotient (says_at m x) q) ≡ false
+      → Allows Γ m.ty (bound_sums (without x (says_at m)) (quotient (says_at m x) q) (says_at l)) r
+      → Derives Γ (at s (LetBangE x e b)) (r ∷ (l ∷ L) ++ (m ∷ M))
   -- let x = e in b, at Db + k De, k being x in Db
-  is_let : {Γ : Context} {s : Span} {x : Name} {e b : Term} {l m : Line} {L M : List Line} {r : Line} → Derives Γ e (l ∷ L) → Derives (Under x l.ty Γ) b (m ∷ M) → Allows Γ m.ty (bound_sums (without x (says_at m)) (says_at m x) (says_at l)) r → Derives Γ (at s (LetE x e b)) (r ∷ (l ∷ L) ++ (m ∷ M))
+  is_let : {Γ : Context} {s : Span} {x : Name} {e b : Term} {l m : Line} {L M : List Line} {r : Line}
+      → Derives Γ e (l ∷ L) → Derives (Under x l.ty Γ) b (m ∷ M)
+      → Allows Γ m.ty (bound_sums (without x (says_at m)) (says_at m x) (says_at l)) r
+      → Derives Γ (at s (LetE x e b)) (r ∷ (l ∷ L) ++ (m ∷ M))
   -- a + b : num, at Da + Db
-  is_plus : {Γ : Context} {s : Span} {a b : Term} {l m : Line} {L M : List Line} {r : Line} → Derives Γ a (l ∷ L) → l.ty ≡ NumT → Derives Γ b (m ∷ M) → m.ty ≡ NumT → Allows Γ NumT (sums (says_at l) (says_at m)) r → Derives Γ (at s (PlusE a b)) (r ∷ (l ∷ L) ++ (m ∷ M))
+  is_plus : {Γ : Context} {s : Span} {a b : Term} {l m : Line} {L M : List Line} {r : Line}
+      → Derives Γ a (l ∷ L) → l.ty ≡ NumT → Derives Γ b (m ∷ M) → m.ty ≡ NumT → Allows Γ NumT (sums (says_at l) (says_at m)) r
+      → Derives Γ (at s (PlusE a b)) (r ∷ (l ∷ L) ++ (m ∷ M))
   -- a - b : num, at Da + Db
-  is_minus : {Γ : Context} {s : Span} {a b : Term} {l m : Line} {L M : List Line} {r : Line} → Derives Γ a (l ∷ L) → l.ty ≡ NumT → Derives Γ b (m ∷ M) → m.ty ≡ NumT → Allows Γ NumT (sums (says_at l) (says_at m)) r → Derives Γ (at s (MinusE a b)) (r ∷ (l ∷ L) ++ (m ∷ M))
+  is_minus : {Γ : Context} {s : Span} {a b : Term} {l m : Line} {L M : List Line} {r : Line}
+      → Derives Γ a (l ∷ L) → l.ty ≡ NumT → Derives Γ b (m ∷ M) → m.ty ≡ NumT → Allows Γ NumT (sums (says_at l) (says_at m)) r
+      → Derives Γ (at s (MinusE a b)) (r ∷ (l ∷ L) ++ (m ∷ M))
   -- k * e : num where |k| is in range, at |k| De
-  is_times : {Γ : Context} {s : Span} {k : ℤ} {e : Term} {l : Line} {L : List Line} {r : Line} → Derives Γ e (l ∷ L) → l.ty ≡ NumT → is_out (size_of k) ≡ false → Allows Γ NumT (products (size_of k) (says_at l)) r → Derives Γ (at s (TimesE k e)) (r ∷ l ∷ L)
+  is_times : {Γ : Context} {s : Span} {k : ℤ} {e : Term} {l : Line} {L : List Line} {r : Line}
+      → Derives Γ e (l ∷ L) → l.ty ≡ NumT → is_out (size_of k) ≡ false → Allows Γ NumT (products (size_of k) (says_at l)) r
+      → Derives Γ (at s (TimesE k e)) (r ∷ l ∷ L)
   -- a <= b : bool, at inf Da + inf Db
-  is_at_most : {Γ : Context} {s : Span} {a b : Term} {l m : Line} {L M : List Line} {r : Line} → Derives Γ a (l ∷ L) → l.ty ≡ NumT → Derives Γ b (m ∷ M) → m.ty ≡ NumT → Allows Γ BoolT (endless_both (says_at l) (says_at m)) r → Derives Γ (at s (LeE a b)) (r ∷ (l ∷ L) ++ (m ∷ M))
+  is_at_most : {Γ : Context} {s : Span} {a b : Term} {l m : Line} {L M : List Line} {r : Line}
+      → Derives Γ a (l ∷ L) → l.ty ≡ NumT → Derives Γ b (m ∷ M) → m.ty ≡ NumT → Allows Γ BoolT (endless_both (says_at l) (says_at m)) r
+      → Derives Γ (at s (LeE a b)) (r ∷ (l ∷ L) ++ (m ∷ M))
   -- a == b : bool of numbers, at inf Da + inf Db
-  is_eq_num : {Γ : Context} {s : Span} {a b : Term} {l m : Line} {L M : List Line} {r : Line} → Derives Γ a (l ∷ L) → l.ty ≡ NumT → Derives Γ b (m ∷ M) → m.ty ≡ NumT → Allows Γ BoolT (endless_both (says_at l) (says_at m)) r → Derives Γ (at s (EqE a b)) (r ∷ (l ∷ L) ++ (m ∷ M))
+  is_eq_num : {Γ : Context} {s : Span} {a b : Term} {l m : Line} {L M : List Line} {r : Line}
+      → Derives Γ a (l ∷ L) → l.ty ≡ NumT → Derives Γ b (m ∷ M) → m.ty ≡ NumT → Allows Γ BoolT (endless_both (says_at l) (says_at m)) r
+      → Derives Γ (at s (EqE a b)) (r ∷ (l ∷ L) ++ (m ∷ M))
   -- a == b : bool of texts, at Da + Db
-  is_eq_text : {Γ : Context} {s : Span} {a b : Term} {l m : Line} {L M : List Line} {r : Line} → Derives Γ a (l ∷ L) → l.ty ≡ TextT → Derives Γ b (m ∷ M) → m.ty ≡ TextT → Allows Γ BoolT (sums (says_at l) (says_at m)) r → Derives Γ (at s (EqE a b)) (r ∷ (l ∷ L) ++ (m ∷ M))
+  is_eq_text : {Γ : Context} {s : Span} {a b : Term} {l m : Line} {L M : List Line} {r : Line}
+      → Derives Γ a (l ∷ L) → l.ty ≡ TextT → Derives Γ b (m ∷ M) → m.ty ≡ TextT → Allows Γ BoolT (sums (says_at l) (says_at m)) r
+      → Derives Γ (at s (EqE a b)) (r ∷ (l ∷ L) ++ (m ∷ M))
   -- clip[lo,hi] e : num, at De
-  is_clip : {Γ : Context} {s : Span} {lo hi : ℤ} {e : Term} {l : Line} {L : List Line} {r : Line} → Derives Γ e (l ∷ L) → l.ty ≡ NumT → Allows Γ NumT (same_as (says_at l)) r → Derives Γ (at s (ClipE lo hi e)) (r ∷ l ∷ L)
+  is_clip : {Γ : Context} {s : Span} {lo hi : ℤ} {e : Term} {l : Line} {L : List Line} {r : Line}
+      → Derives Γ e (l ∷ L) → l.ty ≡ NumT → Allows Γ NumT (same_as (says_at l)) r
+      → Derives Γ (at s (ClipE lo hi e)) (r ∷ l ∷ L)
   -- least e : num where e : num & num, at De
-  is_least : {Γ : Context} {s : Span} {e : Term} {l : Line} {L : List Line} {r : Line} → Derives Γ e (l ∷ L) → l.ty ≡ WithT NumT NumT → Allows Γ NumT (same_as (says_at l)) r → Derives Γ (at s (LeastE e)) (r ∷ l ∷ L)
+  is_least : {Γ : Context} {s : Span} {e : Term} {l : Line} {L : List Line} {r : Line}
+      → Derives Γ e (l ∷ L) → l.ty ≡ WithT NumT NumT → Allows Γ NumT (same_as (says_at l)) r
+      → Derives Γ (at s (LeastE e)) (r ∷ l ∷ L)
   -- greatest e : num where e : num & num, at De
-  is_greatest : {Γ : Context} {s : Span} {e : Term} {l : Line} {L : List Line} {r : Line} → Derives Γ e (l ∷ L) → l.ty ≡ WithT NumT NumT → Allows Γ NumT (same_as (says_at l)) r → Derives Γ (at s (GreatestE e)) (r ∷ l ∷ L)
+  is_greatest : {Γ : Context} {s : Span} {e : Term} {l : Line} {L : List Line} {r : Line}
+      → Derives Γ e (l ∷ L) → l.ty ≡ WithT NumT NumT → Allows Γ NumT (same_as (says_at l)) r
+      → Derives Γ (at s (GreatestE e)) (r ∷ l ∷ L)
   -- size e : num where e : bag A, at De
-  is_size : {Γ : Context} {s : Span} {e : Term} {A : Ty} {l : Line} {L : List Line} {r : Line} → Derives Γ e (l ∷ L) → l.ty ≡ BagT A → Allows Γ NumT (same_as (says_at l)) r → Derives Γ (at s (SizeE e)) (r ∷ l ∷ L)
+  is_size : {Γ : Context} {s : Span} {e : Term} {A : Ty} {l : Line} {L : List Line} {r : Line}
+      → Derives Γ e (l ∷ L) → l.ty ≡ BagT A → Allows Γ NumT (same_as (says_at l)) r
+      → Derives Γ (at s (SizeE e)) (r ∷ l ∷ L)
   -- sum[lo,hi] e : num where e : bag num and max(|lo|, |hi|) is in range, at max(|lo|, |hi|) De
-  is_sum : {Γ : Context} {s : Span} {lo hi : ℤ} {e : Term} {l : Line} {L : List Line} {r : Line} → Derives Γ e (l ∷ L) → l.ty ≡ BagT NumT → is_out (widest_of lo hi) ≡ false → Allows Γ NumT (products (widest_of lo hi) (says_at l)) r → Derives Γ (at s (SumE lo hi e)) (r ∷ l ∷ L)
+  is_sum : {Γ : Context} {s : Span} {lo hi : ℤ} {e : Term} {l : Line} {L : List Line} {r : Line}
+      → Derives Γ e (l ∷ L) → l.ty ≡ BagT NumT → is_out (widest_of lo hi) ≡ false
+      → Allows Γ NumT (products (widest_of lo hi) (says_at l)) r
+      → Derives Γ (at s (SumE lo hi e)) (r ∷ l ∷ L)
   -- union a b : bag A where both are, at Da + Db
-  is_union : {Γ : Context} {s : Span} {a b : Term} {A : Ty} {l m : Line} {L M : List Line} {r : Line} → Derives Γ a (l ∷ L) → l.ty ≡ BagT A → Derives Γ b (m ∷ M) → m.ty ≡ BagT A → Allows Γ (BagT A) (sums (says_at l) (says_at m)) r → Derives Γ (at s (UnionE a b)) (r ∷ (l ∷ L) ++ (m ∷ M))
+  is_union : {Γ : Context} {s : Span} {a b : Term} {A : Ty} {l m : Line} {L M : List Line} {r : Line}
+      → Derives Γ a (l ∷ L) → l.ty ≡ BagT A → Derives Γ b (m ∷ M) → m.ty ≡ BagT A → Allows Γ (BagT A) (sums (says_at l) (says_at m)) r
+      → Derives Γ (at s (UnionE a b)) (r ∷ (l ∷ L) ++ (m ∷ M))
   -- map f b : bag B where f : A -> B, B flat, and b : bag A, at inf Df + Db
-  is_map : {Γ : Context} {s : Span} {f b : Term} {A B : Ty} {l m : Line} {L M : List Line} {r : Line} → Derives Γ f (l ∷ L) → l.ty ≡ UnlimitedT A B → is_flat B ≡ true → Derives Γ b (m ∷ M) → m.ty ≡ BagT A → Allows Γ (BagT B) (endless_sums (says_at l) (says_at m)) r → Derives Γ (at s (MapE f b)) (r ∷ (l ∷ L) ++ (m ∷ M))
+  is_map : {Γ : Context} {s : Span} {f b : Term} {A B : Ty} {l m : Line} {L M : List Line} {r : Line}
+      → Derives Γ f (l ∷ L) → l.ty ≡ UnlimitedT A B → is_flat B ≡ true → Derives Γ b (m ∷ M) → m.ty ≡ BagT A
+      → Allows Γ (BagT B) (endless_sums (says_at l) (says_at m)) r
+      → Derives Γ (at s (MapE f b)) (r ∷ (l ∷ L) ++ (m ∷ M))
   -- filter f b : bag A where f : A -> bool and b : bag A, at inf Df + Db
-  is_filter : {Γ : Context} {s : Span} {f b : Term} {A : Ty} {l m : Line} {L M : List Line} {r : Line} → Derives Γ f (l ∷ L) → l.ty ≡ UnlimitedT A BoolT → Derives Γ b (m ∷ M) → m.ty ≡ BagT A → Allows Γ (BagT A) (endless_sums (says_at l) (says_at m)) r → Derives Γ (at s (FilterE f b)) (r ∷ (l ∷ L) ++ (m ∷ M))
+  is_filter : {Γ : Context} {s : Span} {f b : Term} {A : Ty} {l m : Line} {L M : List Line} {r : Line}
+      → Derives Γ f (l ∷ L) → l.ty ≡ UnlimitedT A BoolT → Derives Γ b (m ∷ M) → m.ty ≡ BagT A
+      → Allows Γ (BagT A) (endless_sums (says_at l) (says_at m)) r
+      → Derives Γ (at s (FilterE f b)) (r ∷ (l ∷ L) ++ (m ∷ M))
   -- split f b : bag A * bag A where f : A -> bool and b : bag A, at inf Df + Db
-  is_split : {Γ : Context} {s : Span} {f b : Term} {A : Ty} {l m : Line} {L M : List Line} {r : Line} → Derives Γ f (l ∷ L) → l.ty ≡ UnlimitedT A BoolT → Derives Γ b (m ∷ M) → m.ty ≡ BagT A → Allows Γ (TensorT (BagT A) (BagT A)) (endless_sums (says_at l) (says_at m)) r → Derives Γ (at s (SplitE f b)) (r ∷ (l ∷ L) ++ (m ∷ M))
+  is_split : {Γ : Context} {s : Span} {f b : Term} {A : Ty} {l m : Line} {L M : List Line} {r : Line}
+      → Derives Γ f (l ∷ L) → l.ty ≡ UnlimitedT A BoolT → Derives Γ b (m ∷ M) → m.ty ≡ BagT A
+      → Allows Γ (TensorT (BagT A) (BagT A)) (endless_sums (says_at l) (says_at m)) r
+      → Derives Γ (at s (SplitE f b)) (r ∷ (l ∷ L) ++ (m ∷ M))
 
 -- the lines are a derivation of a program over the tables: a number, finite in each table
 pub record IsDerivable (ts : Signature) (e : Term) (lines : List Line) : Type 0 where

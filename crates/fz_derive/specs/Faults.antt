@@ -75,7 +75,8 @@ fault_in L Γ (at s (WithE a b)) k =
 fault_in L Γ (at s (FstE e)) k = node L Γ k (fst_row (line_at L (k + 1))) (fault_in L Γ e (k + 1))
 fault_in L Γ (at s (SndE e)) k = node L Γ k (snd_row (line_at L (k + 1))) (fault_in L Γ e (k + 1))
 fault_in L Γ (at s (LetPairE x y e b)) k =
-    node L Γ k (let_pair_row x y (line_at L (k + 1)) (line_at L (second_at k e))) (first_of (fault_in L Γ e (k + 1)) (fault_in L (Under y (second_type (line_at L (k + 1)).ty) (Under x (first_type (line_at L (k + 1)).ty) Γ)) b (second_at k e)))
+    node L Γ k (let_pair_row x y (line_at L (k + 1)) (line_at L (second_at k e)))
+    (first_of (fault_in L Γ e (k + 1)) (fault_in L (Under y (second_type (line_at L (k + 1)).ty) (Under x (first_type (line_at L (k + 1)).ty) Γ)) b (second_at k e)))
 fault_in L Γ (at s (InlE u T e)) k = node L Γ k (inl_row T (line_at L (k + 1))) (fault_in L Γ e (k + 1))
 fault_in L Γ (at s (InrE u T e)) k = node L Γ k (inr_row T (line_at L (k + 1))) (fault_in L Γ e (k + 1))
 fault_in L Γ (at s (CaseE e x a y b)) k =
@@ -91,7 +92,8 @@ fault_in L Γ (at s (AppE f a)) k =
     node L Γ k (app_row (line_at L (k + 1)) (line_at L (second_at k f))) (first_of (fault_in L Γ f (k + 1)) (fault_in L Γ a (second_at k f)))
 fault_in L Γ (at s (BangE r e)) k = node L Γ k (bang_row r (line_at L (k + 1))) (fault_in L Γ e (k + 1))
 fault_in L Γ (at s (LetBangE x e b)) k =
-    node L Γ k (let_bang_row x (line_at L (k + 1)) (line_at L (second_at k e))) (first_of (fault_in L Γ e (k + 1)) (fault_in L (Under x (first_type (line_at L (k + 1)).ty) Γ) b (second_at k e)))
+    node L Γ k (let_bang_row x (line_at L (k + 1)) (line_at L (second_at k e)))
+    (first_of (fault_in L Γ e (k + 1)) (fault_in L (Under x (first_type (line_at L (k + 1)).ty) Γ) b (second_at k e)))
 fault_in L Γ (at s (LetE x e b)) k =
     node L Γ k (let_row x (line_at L (k + 1)) (line_at L (second_at k e))) (first_of (fault_in L Γ e (k + 1)) (fault_in L (Under x (line_at L (k + 1)).ty Γ) b (second_at k e)))
 fault_in L Γ (at s (PlusE a b)) k =

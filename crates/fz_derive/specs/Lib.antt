@@ -10,9 +10,14 @@ pub mod Nodes
 pub mod Faults
 pub mod Derivable
 pub mod Judged
+pub mod Bound
 pub mod ByPlace
 pub mod Least
 pub mod Written
+pub mod Readable
+pub mod Counted
+pub mod Pending
+pub mod Unwritten
 pub mod Law
 pub mod Found
 pub mod Interned

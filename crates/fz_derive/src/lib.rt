@@ -1,6 +1,7 @@
 //! Derivations: a program's typing written out, a line for each node, and a judge of them that stands on meanings alone.
 #![tactic(auto)]
 
+pub mod count;
 pub mod interned;
 pub mod judge;
 pub mod laws;

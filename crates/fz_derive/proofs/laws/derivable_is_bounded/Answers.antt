@@ -1,8 +1,8 @@
-use Rattle.fz_derive.proofs.Whole.{derivable_bounded, derivable_value}
+use Rattle.fz_derive.proofs.Exactly.{derivable_has_bound, judged_has_bound}
 use Rattle.fz_derive.proofs.laws.derivable_is_bounded.Goals as goal
 
-pub returns-clause-bound : goal.returns-clause-bound
-returns-clause-bound c = derivable_bounded
+pub returns-clause-derivable : goal.returns-clause-derivable
+returns-clause-derivable c = derivable_has_bound
 
-pub returns-clause-value : goal.returns-clause-value
-returns-clause-value c = derivable_value
+pub returns-clause-judged : goal.returns-clause-judged
+returns-clause-judged c = judged_has_bound

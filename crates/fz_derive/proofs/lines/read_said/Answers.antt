@@ -1,4 +1,4 @@
-use Rattle.std.proofs.Common.{[], ◌∷◌, ap, sym, subst, ◌∙◌}
+use Rattle.std.proofs.Common.{◌∷◌, ap, sym, subst, ◌∙◌}
 use Rattle.std.proofs.lemmas.List.{nil_from_length}
 use Rattle.fz_lexer.specs.Tokens.{AreTokens}
 use Rattle.fz_lexer.specs.declared.token.Kind.TheVariants.{Name}
