@@ -33,6 +33,8 @@ pub mod Programs
 pub mod ReadBack
 pub mod Says
 pub mod Scopes
+pub mod Fine
+pub mod Walked
 pub mod Segments
 pub mod Shapes
 pub mod Tests
