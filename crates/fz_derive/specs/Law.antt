@@ -1,35 +1,27 @@
 -- What a derivation promises.
-use Rattle.std.specs.Prelude.{◌≡◌, ◌↔◌, ℕ, ℤ, List, [], ◌∷◌, length, Option, Some, None}
-use Rattle.fz_frac.specs.Distance.{Distance, Fin, mul, ◌⊑◌}
-use Rattle.fz_ast.specs.Limits.{IsNumber, TermLimits}
+use Rattle.std.specs.Prelude.{◌≡◌, ◌↔◌, ◌⊎◌, ℕ, List, ◌∷◌, length, Some, None}
+use Rattle.fz_frac.specs.Distance.{Distance}
+use Rattle.fz_ast.specs.Limits.{TermLimits}
 use Rattle.fz_ast.specs.Signature.{IsSignature, Signature}
 use Rattle.fz_ast.specs.Terms.{Term}
 use Rattle.fz_ast.specs.Types.{Ty}
-use Rattle.metric_values.specs.Distances.{gap}
-use Rattle.metric_values.specs.Tables.{Dataset, IsDataset, apart, rows_of}
-use Rattle.metric_values.specs.Values.{Env, NumV, Value}
+use Rattle.metric_values.specs.Values.{Env, Value}
 use Rattle.term_meanings.specs.Environments.{NearEnv, TypedEnv, dot}
 use Rattle.term_meanings.specs.Means.{Means}
 use Rattle.term_meanings.specs.Near.{Near, Typed}
-use Rattle.term_meanings.specs.Scopes.{AllTypes, Closed, Context, Under}
+use Rattle.term_meanings.specs.Scopes.{AllTypes, Context}
 use Rattle.term_meanings.specs.Sensitivities.{Sensitivities}
-use Rattle.fz_derive.specs.ByPlace.{Derivable}
+use Rattle.fz_derive.specs.Bound.{HasBound}
+use Rattle.fz_derive.specs.ByPlace.{Derivable, by_place}
 use Rattle.fz_derive.specs.Derivable.{Derives, IsDerivable}
-use Rattle.fz_derive.specs.Faults.{fault_in}
 use Rattle.fz_derive.specs.Judged.{fault_of, greatest_said, names_of, IsJudged, IsMisjudged}
-use Rattle.fz_derive.specs.Least.{least, lines_of}
+use Rattle.fz_derive.specs.Least.{Derived, least, lines_of}
 use Rattle.fz_derive.specs.Lines.{Line, line_at, amount_in}
 use Rattle.fz_derive.specs.Nodes.{nodes_of}
-use Rattle.fz_derive.specs.Numbers.{Amounts, without}
-
--- the numbers of the names in scope by their places: a hidden name is at 0
-abbrev pub by_place : Context → Amounts → Sensitivities
-by_place Closed D = []
-by_place (Under x A Γ) D = D x ∷ by_place Γ (without x D)
 
 -- what is derived by names is derived by places
 abbrev pub DerivedByPlace : Type 0
-DerivedByPlace = (Γ : Context) (e : Term) (l : Line) (below : List Line) → AllTypes Γ → TermLimits e → Derives Γ e (l ∷ below) → Derivable Γ e l.ty (by_place Γ (amount_in l.says))
+DerivedByPlace = (Γ : Context) (e : Term) (l : Line) (below : List Line) → TermLimits e → Derives Γ e (l ∷ below) → Derivable Γ e l.ty (by_place Γ (amount_in l.says))
 
 -- what is derived of a term bounds how far its values on near environments are apart
 abbrev pub DerivedIsBounded : Type 0
@@ -44,19 +36,14 @@ DerivedHasValue =
     (Γ : Context) (e : Term) (A : Ty) (D : Sensitivities) → AllTypes Γ → Derivable Γ e A D
     → (γ : Env) → TypedEnv Γ γ → (v : Value) × Means γ e v × Typed A v
 
--- The numbers of a program that is derivable, on two datasets, differ by at most the greatest of what its first line says times how far
--- the datasets are apart.
+-- a program that is derivable is bounded by the greatest of what its first line says
 abbrev pub DerivableIsBounded : Type 0
 DerivableIsBounded =
-    (ts : Signature) (e : Term) (lines : List Line) → IsSignature ts → TermLimits e → IsDerivable ts e lines
-    → (X Y : Dataset) → IsDataset ts X → IsDataset ts Y → (y z : ℤ) → Means (rows_of ts X) e (NumV y) → Means (rows_of ts Y) e (NumV z)
-    → Fin (gap y z) 1 ⊑ mul (greatest_said (line_at lines 0).says) (Fin (apart X Y) 1)
+    (ts : Signature) (e : Term) (lines : List Line) → IsSignature ts → TermLimits e → IsDerivable ts e lines → HasBound ts e (greatest_said (line_at lines 0).says)
 
--- and it has a number on each dataset
-abbrev pub DerivableHasValue : Type 0
-DerivableHasValue =
-    (ts : Signature) (e : Term) (lines : List Line) → IsSignature ts → TermLimits e → IsDerivable ts e lines
-    → (X : Dataset) → IsDataset ts X → (z : ℤ) × Means (rows_of ts X) e (NumV z) × IsNumber z
+-- for all bytes, where they are judged to be a number, that number bounds the program
+abbrev pub JudgedIsBounded : Type 0
+JudgedIsBounded = (ts : Signature) (e : Term) (bytes : List ℕ) (r : Distance) → IsSignature ts → TermLimits e → IsJudged ts e bytes r → HasBound ts e r
 
 -- of lines that are as many as the nodes, none is at fault exactly where they are a derivation
 abbrev pub DerivableExactly : Type 0
@@ -69,4 +56,17 @@ LinesAreNodes = (Γ : Context) (e : Term) (lines : List Line) → Derives Γ e l
 
 -- the least derivation of a term, where there is one, is a derivation
 abbrev pub LeastIsDerived : Type 0
-LeastIsDerived = (Γ : Context) (e : Term) → (d : _) → least Γ e ≡ Some d → Derives Γ e (lines_of d)
+LeastIsDerived = (Γ : Context) (e : Term) (d : Derived) → least Γ e ≡ Some d → Derives Γ e (lines_of d)
+
+-- all bytes are judged, in one way: a number, and one alone, or a least line at fault, and one alone
+abbrev pub OneNumber : Type 0
+OneNumber = (ts : Signature) (e : Term) (bytes : List ℕ) (r s : Distance) → IsJudged ts e bytes r → IsJudged ts e bytes s → r ≡ s
+
+abbrev pub NumberOrLine : Type 0
+NumberOrLine = (ts : Signature) (e : Term) (bytes : List ℕ) (r : Distance) (k : ℕ) → IsJudged ts e bytes r → IsMisjudged ts e bytes k → ⊥
+
+abbrev pub OneLine : Type 0
+OneLine = (ts : Signature) (e : Term) (bytes : List ℕ) (j k : ℕ) → IsMisjudged ts e bytes j → IsMisjudged ts e bytes k → j ≡ k
+
+abbrev pub EitherForAllBytes : Type 0
+EitherForAllBytes = (ts : Signature) (e : Term) (bytes : List ℕ) → ((r : Distance) × IsJudged ts e bytes r) ⊎ ((k : ℕ) × IsMisjudged ts e bytes k)

@@ -2,7 +2,6 @@
 pub mod Lines
 pub mod Said
 pub mod Held
-pub mod Goals
 pub mod Texts
 pub mod Numbers
 pub mod Rows
@@ -11,6 +10,7 @@ pub mod Nodes
 pub mod Faults
 pub mod Derivable
 pub mod Judged
+pub mod Bound
 pub mod ByPlace
 pub mod Least
 pub mod Written
@@ -22,3 +22,10 @@ pub mod Law
 pub mod Found
 pub mod Interned
 pub mod Pieces
+pub mod Shapes
+pub mod Placed
+pub mod Ruled
+pub mod Scoped
+pub mod Formed
+pub mod Viewed
+pub mod Walked

@@ -9,7 +9,7 @@ use Rattle.fz_lexer.specs.declared.token.Token.{Token}
 use Rattle.fz_lexer.specs.declared.token.Kind.TheVariants.{Name as NameKind}
 use Rattle.fz_lexer.specs.Tokens.{IsNameToken}
 use Rattle.fz_parser.specs.Printer.{kinds_of, type_kinds, factor_kinds}
-use Rattle.fz_derive.specs.Goals.{IsTypeOf, IsSensitivityOf}
+use Rattle.fz_parser.specs.Grammar.{IsTypeOf, IsSensitivityOf}
 use Rattle.fz_derive.specs.Lines.{Said, Line, AreInOrder}
 use Rattle.fz_derive.specs.Texts.{AreLines}
 use Rattle.fz_derive.specs.Written.{derivation_text}

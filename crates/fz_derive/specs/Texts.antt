@@ -8,7 +8,7 @@ use Rattle.fz_lexer.specs.Bytes.{every_byte}
 use Rattle.fz_lexer.specs.Tokens.{AreTokens}
 use Rattle.fz_lexer.specs.declared.token.Token.{Token}
 use Rattle.fz_lexer.specs.declared.token.Kind.TheVariants.{Name as NameKind}
-use Rattle.fz_derive.specs.Goals.{IsTypeOf, IsSensitivityOf}
+use Rattle.fz_parser.specs.Grammar.{IsTypeOf, IsSensitivityOf}
 use Rattle.fz_derive.specs.Lines.{Said, Line, AreInOrder}
 
 -- LF

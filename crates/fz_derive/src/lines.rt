@@ -1,14 +1,11 @@
 //! The lines of a derivation, from its bytes.
-ghost use Rattle.std.specs.Prelude.{◌≡◌, ◌≢◌, ◌<◌, ◌^◌, ◌++◌, ◌∷◌, ◌↔◌, IsTrue, All, length, IfOk, IfErr, IfSome, IfNone};
-ghost use Rattle.std.specs.Cmp.Lexicographic.{slice_cmp};
-ghost use Rattle.std.specs.Ordering.{nat_cmp};
-ghost use Rattle.fz_ast.specs.Names.{name_of};
+ghost use Rattle.std.specs.Prelude.{◌≡◌, ◌<◌, ◌≤◌, ◌^◌, ◌++◌, [], ◌∷◌, ◌↔◌, true, IsTrue, length, IfOk, IfErr, IfSome, IfNone};
 ghost use Rattle.fz_ast.specs.TypeNodes.{type_at};
 ghost use Rattle.fz_ast.specs.Arena.{Grows};
-ghost use Rattle.fz_derive.specs.Texts.{AreLines, IsTypeText, IsSaidText, IsLineText};
+ghost use Rattle.fz_derive.specs.Lines.{AreInOrder};
+ghost use Rattle.fz_derive.specs.Texts.{lacks, AreLines, IsTypeText, IsSaidText, IsLineText};
 ghost use Rattle.fz_derive.specs.Said.{said_of, says_of};
 ghost use Rattle.fz_derive.specs.Held.{line_in, lines_in, AreHeld};
-ghost use Rattle.fz_derive.specs.Interned.{IsNumberOf};
 ghost use Rattle.fz_derive.specs.Pieces.{Explains, NoTypeText, NoSaidText, NoLineText, AreSaid, NoneSaid, pieces_of, pieces_behind, ExplainsLines};
 
 use crate::interned::interned;
@@ -68,18 +65,22 @@ impl From<ParseFault> for TextFault {
 }
 
 /// What stands before and behind the first such byte. None where there is none.
+#[tactic(auto, using(crate::proofs::Pieces::cut_here, crate::proofs::Pieces::lacks_before, crate::proofs::Pieces::lacks_all))]
 fn cut_at(bytes: &[u8], byte: u8) -> Option<(&[u8], &[u8])>
     ensures cut { IfSome result (λ r. bytes.now ≡ r.0.now ++ byte ∷ r.1.now) }
-    ensures first { IfSome result (λ r. All (λ b. b ≢ byte) r.0.now) }
-    ensures none { IfNone result (All (λ b. b ≢ byte) bytes.now) }
+    ensures first { IfSome result (λ r. lacks byte r.0.now ≡ true) }
+    ensures none { IfNone result (lacks byte bytes.now ≡ true) }
 {
     let at = memchr(byte, bytes)?;
     Some((&bytes[..at], &bytes[at + 1..]))
 }
 
 /// The first piece of a text, and what is left behind its bar.
+#[tactic(auto, using(crate::proofs::Pieces::pieces_one, crate::proofs::Pieces::pieces_cut))]
 fn split_piece(text: &[u8]) -> (&[u8], Option<&[u8]>)
-    ensures { pieces_of text.now ≡ result.0.now ∷ pieces_behind result.1 }
+    ensures pieces { pieces_of text.now ≡ result.0.now ∷ pieces_behind result.1 }
+    ensures piece { length result.0.now ≤ length text.now }
+    ensures rest { IfSome result.1 (λ rest. length rest.now < length text.now) }
 {
     match cut_at(text, b'|') {
         Some((piece, rest)) => (piece, Some(rest)),
@@ -122,8 +123,20 @@ fn read_said(alloc: Global, text: &[u8]) -> Result<Said, TextFault>
     })
 }
 
+/// Whether the next name stands behind the last one in byte order.
+fn may_follow(says: &[Said], next: &Said) -> bool
+    requires { AreInOrder (says_of says.now) }
+    ensures { IsTrue result ↔ AreInOrder (says_of says.now ++ said_of next.now ∷ []) }
+{
+    match says.split_last() {
+        Some((last, _)) => byte_order(&last.name, &next.name).is_lt(),
+        None => true,
+    }
+}
+
 /// What is said of names in the pieces behind a line's first bar.
 fn read_says(alloc: Global, behind: Option<&[u8]>) -> Result<Vec<Said>, TextFault>
+    requires { IfSome behind (λ rest. length rest.now < 2 ^ 32) }
     ensures are { IfOk result (λ says. AreSaid (pieces_behind behind.entry) (says_of says.items)) }
     ensures fault { IfErr result (Explains (NoneSaid (pieces_behind behind.entry))) }
 {
@@ -132,10 +145,8 @@ fn read_says(alloc: Global, behind: Option<&[u8]>) -> Result<Vec<Said>, TextFaul
     while let Some(text) = behind {
         let (piece, rest) = split_piece(text);
         let said = read_said(alloc, piece)?;
-        if let Some(last) = says.last() {
-            if !byte_order(&last.name, &said.name).is_lt() {
-                return Err(TextFault::Form);
-            }
+        if !may_follow(&says, &said) {
+            return Err(TextFault::Form);
         }
         if let Err(_) = says.push(said) {
             return Err(TextFault::NoMemory);

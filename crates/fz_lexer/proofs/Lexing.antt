@@ -201,7 +201,7 @@ unfoldable pub line_answer : List ℕ → Answer
 line_answer w = cut (length w) w
 
 -- the answer holds
-abbrev CutHolds : ℕ → List ℕ → Answer → Type 0
+abbrev pub CutHolds : ℕ → List ℕ → Answer → Type 0
 CutHolds most w (Tokens ts) = AreTokens w ts × (length ts ≤ most)
 CutHolds most w (Refused fault) = (fault ≡ NoMemory → ⊥) × ExplainsCut most w fault
 
@@ -247,7 +247,7 @@ unfolding tokens_from
 tokens_are most w zero ts i l m c h = absurd (omega arith)
 tokens_are most w (suc n) ts i l m c h = next_is most w n (tokens_are most w n) ts i (drop i w) (prefix_of (drop i w)) refl (prefix_is (drop i w)) l m c h
 
-cut_holds : (most : ℕ) (w : List ℕ) → CutHolds most w (cut most w)
+pub cut_holds : (most : ℕ) (w : List ℕ) → CutHolds most w (cut most w)
 cut_holds most w = tokens_are most w (suc (length w)) [] (run is_blank w) (omega arith) (run_within is_blank w) (omega arith) (cut_start w (run is_blank w) (run_within is_blank w) (run_every is_blank w) (run_stops is_blank w))
 
 in_limits : (w : List ℕ) (a : Answer) → length w ≤ most_bytes → CutHolds most_tokens w a → Holds w a

@@ -19,12 +19,15 @@ use Rattle.fz_parser.specs.declared.grammar.Terminal.TheVariants.{Named, Numeral
 use Rattle.fz_parser.specs.declared.fault.ParseFault.TheVariants.{TooNested}
 use Rattle.fz_parser.specs.Table.{rules}
 use Rattle.fz_parser.specs.Parts.{StackPart, What, BegunPart, NamePart, NumberPart, PositivePart, TextPart, IntegerPart, FactorPart, TypePart, TermPart, takes, arity, shift, build, in_lowest_terms}
-use Rattle.fz_parser.specs.Grammar.{Fits, body, IsTerm}
+use Rattle.fz_parser.specs.declared.grammar.Phrase.TheVariants.{Expression}
+use Rattle.fz_parser.specs.Grammar.{Fits, body, IsPhrase, IsTerm}
 use Rattle.fz_parser.specs.Classes.{phrase_number, class_of, word_number, sign_number, terminal_number, may_stand}
 use Rattle.fz_parser.specs.Tests.{choice, weight, may_be_empty}
 use Rattle.fz_parser.specs.Rows.{choice_rows, weight_rows, empty_rows}
 use Rattle.fz_parser.specs.Reading.{IsParsed, IsStuck, ExplainsParse}
 use Rattle.fz_parser.proofs.Parsing.{settled, ends, goes_on, parse_from, parse, parse_holds, Answer, Whole, StuckAt, AnswerHolds}
+use Rattle.fz_parser.proofs.Machine.{term_goal}
+use Rattle.fz_parser.proofs.Phrases.{term_stuck}
 
 -- these bytes are this term
 abbrev IsReading : List ℕ → Term → Type 0
@@ -72,24 +75,35 @@ reading w = term_of (answer w)
 stuck_at : List ℕ → Option ℕ
 stuck_at w = place_of (answer w)
 
+what_is : (x : What) (e : Term) → in_what x ≡ Some e → x ≡ TermPart e
+what_is BegunPart e h = absurd (cc h)
+what_is (NamePart x) e h = absurd (cc h)
+what_is (NumberPart n) e h = absurd (cc h)
+what_is (PositivePart n) e h = absurd (cc h)
+what_is (TextPart s) e h = absurd (cc h)
+what_is (IntegerPart z) e h = absurd (cc h)
+what_is (FactorPart r) e h = absurd (cc h)
+what_is (TypePart u t) e h = absurd (cc h)
+what_is (TermPart d) e h = cc h
+
 module _ (w : List ℕ) (ts : List Token) (h : AreTokens w ts) where
-  parsed_is : (e : Term) (a : Answer) → AnswerHolds ts a → term_in a ≡ Some e → IsReading w e
-  parsed_is e (Whole s) g q =
-      let d : Some g.1 ≡ Some e = sym (ap (λ s. in_parts s.parts) g.2) ∙ q in
-      let same : g.1 ≡ e = cc d in
-      (ts, h, subst (IsTerm ts) same g.3)
+  parsed_is : (e : Term) (a : Answer) → AnswerHolds Expression ts a → term_in a ≡ Some e → IsReading w e
+  unfolding IsTerm
+  parsed_is e (Whole s) g q = (ts, h, subst (IsPhrase Expression ts) (what_is g.1 e (sym (ap (λ s. in_parts s.parts) g.2) ∙ q)) g.3)
   parsed_is e (StuckAt k) g q = absurd (cc q)
 
-  place_is : (k : ℕ) (a : Answer) → AnswerHolds ts a → place_in a ≡ Some k → IsStuckText w k
+  place_is : (k : ℕ) (a : Answer) → AnswerHolds Expression ts a → place_in a ≡ Some k → IsStuckText w k
   place_is k (Whole s) g q = absurd (cc q)
-  place_is k (StuckAt i) g q = let same : i ≡ k = cc q in (ts, h, subst (IsStuck ts) same g)
+  place_is k (StuckAt i) g q = let same : i ≡ k = cc q in (ts, h, subst (IsStuck ts) same (term_stuck ts i g))
 
 lexed_is : (w : List ℕ) (e : Term) (a : Lexed) → HoldsLexed w a → term_of a ≡ Some e → IsReading w e
-lexed_is w e (Tokens ts) h q = parsed_is w ts h.tokens e (parse ts) (parse_holds ts) q
+unfolding parse
+lexed_is w e (Tokens ts) h q = parsed_is w ts h.tokens e (parse ts) (parse_holds Expression term_goal ts) q
 lexed_is w e (Refused fault) h q = absurd (cc q)
 
 stuck_is : (w : List ℕ) (k : ℕ) (a : Lexed) → HoldsLexed w a → place_of a ≡ Some k → IsStuckText w k
-stuck_is w k (Tokens ts) h q = place_is w ts h.tokens k (parse ts) (parse_holds ts) q
+unfolding parse
+stuck_is w k (Tokens ts) h q = place_is w ts h.tokens k (parse ts) (parse_holds Expression term_goal ts) q
 stuck_is w k (Refused fault) h q = absurd (cc q)
 
 reads_so : (w : List ℕ) (e : Term) → reading w ≡ Some e → IsReading w e

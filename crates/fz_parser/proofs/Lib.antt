@@ -17,3 +17,4 @@ pub mod Printing
 pub mod Spans
 pub mod Types
 pub mod Examples
+pub mod ExamplesOfTypes
