@@ -37,3 +37,4 @@ pub mod Segments
 pub mod Shapes
 pub mod Tests
 pub mod Whole
+pub mod Fine

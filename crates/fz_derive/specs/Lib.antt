@@ -29,3 +29,4 @@ pub mod Scoped
 pub mod Formed
 pub mod Viewed
 pub mod Walked
+pub mod Walking
