@@ -21,6 +21,7 @@ pub mod ExamplesOfSums
 pub mod ExamplesOfTexts
 pub mod Factors
 pub mod Faultless
+pub mod Fine
 pub mod Fronts
 pub mod LeastDerived
 pub mod LeastNames
@@ -33,9 +34,8 @@ pub mod Programs
 pub mod ReadBack
 pub mod Says
 pub mod Scopes
-pub mod Fine
-pub mod Walked
 pub mod Segments
 pub mod Shapes
 pub mod Tests
+pub mod Walked
 pub mod Whole
