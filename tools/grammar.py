@@ -269,36 +269,62 @@ def item(i):
     return f'{t} {x}'
 
 
-def imports(kind):
+def as_named(kind):
     names = []
     for form, name, k in OPERATIONS.values():
         if k == kind and name not in names:
             names.append(name)
-    return ', '.join(f'{n} as {n}{kind}' for n in names)
+    return [f'{n} as {n}{kind}' for n in names]
+
+
+WIDTH = 150
+
+
+def filled(parts, between, first, other):
+    """The parts one after another, on lines that begin with `first` and then `other`."""
+    rows, row = [], first
+    for i, x in enumerate(parts):
+        x += between if i + 1 < len(parts) else ''
+        if len(row) + len(x.rstrip()) > WIDTH and row not in (first, other):
+            rows.append(row.rstrip())
+            row = other
+        row += x
+    return '\n'.join(rows + [row])
+
+
+def imports(module, names):
+    """`use` lines of these names, as many as there must be."""
+    rows, row = [], []
+    for x in names:
+        if row and len(f'use {module}.{{{", ".join(row + [x])}}}') > WIDTH:
+            rows.append(row)
+            row = []
+        row.append(x)
+    return ''.join(f'use {module}.{{{", ".join(r)}}}\n' for r in rows + [row])
 
 
 root = os.path.join(os.path.dirname(os.path.abspath(__file__)), '..', 'crates', 'fz_parser')
 used_words = [w for w in WORDS if any(('Take', w.lower()) in b for _, b, _ in rules)]
 used_signs = [n for n, s in SIGNS if any(('Take', s) in b for _, b, _ in rules)]
 with open(root + '/specs/Table.antt', 'w') as f:
-    f.write('''-- The grammar, a rule a line: what is replaced, and the items that stand for it. `Take` is a token, `Read` another phrase, and `Make` makes a part of those just read.
+    f.write('''-- The grammar, a rule a line: what is replaced, and the items that stand for it. `Take` is a token, `Read` another phrase, and `Make` makes a part of
+-- those just read.
 -- Written by tools/grammar.py; the lines above a rule have it in the usual form.
 use Rattle.std.specs.Prelude.{ℕ, List, [], ◌∷◌}
-use Rattle.fz_lexer.specs.declared.token.Word.TheVariants.{%s}
-use Rattle.fz_lexer.specs.declared.token.Sign.TheVariants.{%s}
-use Rattle.fz_parser.specs.declared.grammar.Item.{Item}
-use Rattle.fz_parser.specs.declared.grammar.Item.TheVariants.{Take, Read, Make}
-use Rattle.fz_parser.specs.declared.grammar.Terminal.TheVariants.{Named, Numeral, Positive, Quoted, Keyword, Symbol}
-use Rattle.fz_parser.specs.declared.grammar.Phrase.{Phrase}
-use Rattle.fz_parser.specs.declared.grammar.Phrase.TheVariants.{%s}
-use Rattle.fz_parser.specs.declared.grammar.Action.TheVariants.{%s}
-use Rattle.fz_parser.specs.declared.grammar.Joint.TheVariants.{%s}
-use Rattle.fz_ast.specs.declared.term.Arrow.TheVariants.{%s}
-use Rattle.fz_ast.specs.declared.term.Binary.TheVariants.{%s}
-use Rattle.fz_ast.specs.declared.term.Unary.TheVariants.{%s}
-use Rattle.fz_ast.specs.declared.term.Ranged.TheVariants.{%s}
-use Rattle.fz_ast.specs.declared.term.Side.TheVariants.{%s}
-
+''')
+    for module, names in [
+            ('fz_lexer.specs.declared.token.Word.TheVariants', used_words),
+            ('fz_lexer.specs.declared.token.Sign.TheVariants', used_signs),
+            ('fz_parser.specs.declared.grammar.Item', ['Item']),
+            ('fz_parser.specs.declared.grammar.Item.TheVariants', ['Take', 'Read', 'Make']),
+            ('fz_parser.specs.declared.grammar.Terminal.TheVariants', ['Named', 'Numeral', 'Positive', 'Quoted', 'Keyword', 'Symbol']),
+            ('fz_parser.specs.declared.grammar.Phrase', ['Phrase']),
+            ('fz_parser.specs.declared.grammar.Phrase.TheVariants', list(PHRASES)),
+            ('fz_parser.specs.declared.grammar.Action.TheVariants', FORMS),
+            ('fz_parser.specs.declared.grammar.Joint.TheVariants', as_named('Joint')),
+            *((f'fz_ast.specs.declared.term.{kind}.TheVariants', as_named(kind)) for kind in ['Arrow', 'Binary', 'Unary', 'Ranged', 'Side'])]:
+        f.write(imports('Rattle.' + module, names))
+    f.write('''
 pub record Rule : Type 0 where
   pub head : Phrase
   pub body : List Item
@@ -311,11 +337,11 @@ rule_count = %d
 
 unfoldable pub rules : List Rule
 rules =
-''' % (', '.join(used_words), ', '.join(used_signs), ', '.join(PHRASES), ', '.join(FORMS), imports('Joint'), imports('Arrow'), imports('Binary'), imports('Unary'), imports('Ranged'), imports('Side'), len(rules)))
+''' % len(rules))
     for h, b, c in rules:
         if c:
             f.write(f'    -- {c}\n')
-        f.write(f'    is_ {h} ({" ∷ ".join([item(i) for i in b] + ["[]"])}) ∷\n')
+        f.write(filled([item(i) for i in b] + ['[]) ∷'], ' ∷ ', f'    is_ {h} (', '    ') + '\n')
     f.write('    []\n')
 with open(root + '/specs/Rows.antt', 'w') as f:
     f.write('-- Found by tools/grammar.py, and tested in proofs/Checks: nothing here is believed. By the phrases\' numbers.\nuse Rattle.std.specs.Prelude.{ℕ, List, [], ◌∷◌}\n')
@@ -334,7 +360,7 @@ with open(root + '/specs/Rows.antt', 'w') as f:
             ('weight_rows', 'how many steps there are at most before a token is taken', [weight[x] for x in PHRASES]),
             ('empty_rows', '1 where no token may stand for it', [int(null[x]) for x in PHRASES])]:
         f.write(f'\n-- {comment}\nunfoldable pub {name} : List ℕ\n{name} = {antt(row)}\n')
-    f.write('\n-- the sorts of the parts that are taken, the last one first\nunfoldable pub need_rows : List (List ℕ)\nneed_rows = ' + ' ∷ '.join('(' + antt(PHRASES[x]) + ')' for x in PHRASES) + ' ∷ []\n')
+    f.write('\n-- the sorts of the parts that are taken, the last one first\nunfoldable pub need_rows : List (List ℕ)\n' + filled(['(' + antt(PHRASES[x]) + ')' for x in PHRASES] + ['[]'], ' ∷ ', 'need_rows = ', '    ') + '\n')
     f.write('\n-- and of the one that is given\nunfoldable pub gift_rows : List ℕ\ngift_rows = ' + antt([GIVES[x] for x in PHRASES]) + '\n')
 with open(root + '/src/tables.rt', 'w') as f:
     f.write('//! Written by tools/grammar.py. The proofs test each table against the grammar of specs/Table.\nuse crate::grammar::Item::{Make, Read, Take};\nuse crate::grammar::Terminal::{Keyword, Named, Numeral, Positive, Quoted, Symbol};\nuse crate::grammar::{Action, Item, Joint, Phrase};\nuse fz_ast::{Arrow, Binary, Ranged, Side, Unary};\nuse fz_lexer::{Sign, Word};\n\n')
@@ -351,7 +377,7 @@ with open(root + '/src/tables.rt', 'w') as f:
     starts = [0]
     for h, b, _ in rules:
         if b:
-            f.write('    ' + ', '.join(map(rust, b)) + ',\n')
+            f.write(filled([rust(i) for i in b], ', ', '    ', '        ') + ',\n')
         starts.append(starts[-1] + len(b))
     f.write('];\n\n/// Where each rule\'s body begins.\n')
     f.write(f'#[rattlefmt::skip]\npub static STARTS: [u16; {len(starts)}] = [\n')
@@ -360,7 +386,7 @@ with open(root + '/src/tables.rt', 'w') as f:
     f.write('];\n\n/// By the phrase and the class of the next token: one more than the rule, or 0.\n')
     f.write(f'#[rattlefmt::skip]\npub static CHOICES: [[u8; {CLASSES}]; {len(PHRASES)}] = [\n')
     for x in PHRASES:
-        f.write('    [' + ', '.join(map(str, choice[x])) + '],\n')
+        f.write(filled([str(c) for c in choice[x]], ', ', '    [', '        ') + '],\n')
     f.write('];\n')
 
 

@@ -227,10 +227,12 @@ infinite = record { reads = λ σ k l ps r h. rule_ 58 (omega arith) refl (take_
 
 fraction : (p q : ℕ) → (0 < p) × (p < 2 ^ 32) → (0 < q) × (q < 2 ^ 32) → gcd p q ≡ 1 → Gives Sensitivity (written_factor (Fin p q)) (factor_part (Fin p q))
 unfolding rules head body takes arity shift build
-fraction p q f g e = record { reads = λ σ k l ps r h. elim (cases_Bool (nat_eq q 1)) [
-  | inl z ↦ rw z (rule_ 55 (omega arith) refl (take_ f (rule_ 57 (omega arith) refl (make_ (subst (λ n. Goes σ k (on (factor_part (Fin p n) ∷ ps)) r) (eqb-true q 1 z) h)))))
-  | inr z ↦ rw z (rule_ 55 (omega arith) refl (take_ f (rule_ 56 (omega arith) refl (take_ refl (take_ g (make_ (subst (λ d. Goes σ k (on (factor_part d ∷ ps)) r) (sym (same_fraction p q e)) h)))))))
-] }
+fraction p q f g e = record {
+  reads = λ σ k l ps r h. elim (cases_Bool (nat_eq q 1)) [
+    | inl z ↦ rw z (rule_ 55 (omega arith) refl (take_ f (rule_ 57 (omega arith) refl (make_ (subst (λ n. Goes σ k (on (factor_part (Fin p n) ∷ ps)) r) (eqb-true q 1 z) h)))))
+    | inr z ↦ rw z (rule_ 55 (omega arith) refl (take_ f (rule_ 56 (omega arith) refl (take_ refl (take_ g (make_ (subst (λ d. Goes σ k (on (factor_part d ∷ ps)) r) (sym (same_fraction p q e)) h)))))))
+  ];
+}
 
 factor : (r : Distance) → IsBang r → Gives Sensitivity (written_factor r) (factor_part r)
 factor (Fin p q) h = fraction p q (omega (arith, h.0), omega (arith, h.1)) (omega (arith, h.2), omega (arith, h.3)) h.4

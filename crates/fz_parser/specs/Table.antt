@@ -2,31 +2,31 @@
 -- those just read.
 -- Written by tools/grammar.py; the lines above a rule have it in the usual form.
 use Rattle.std.specs.Prelude.{ℕ, List, [], ◌∷◌}
-use Rattle.fz_lexer.specs.declared.token.Word.TheVariants.{Fun, Fn, Let, In, Case, Of, Inl, Inr, If, Then, Else, Fst, Snd, True, False}
-use Rattle.fz_lexer.specs.declared.token.Word.TheVariants.{Num, Text, Unit, Bool, Bag, Inf, Size, Sum, Clip, Least, Greatest, Map, Filter, Split, Union}
+use Rattle.fz_lexer.specs.declared.token.Word.TheVariants.{Fun, Fn, Let, In, Case, Of, Inl, Inr, If, Then, Else, Fst, Snd, True, False, Num, Text}
+use Rattle.fz_lexer.specs.declared.token.Word.TheVariants.{Unit, Bool, Bag, Inf, Size, Sum, Clip, Least, Greatest, Map, Filter, Split, Union}
 use Rattle.fz_lexer.specs.declared.token.Sign.TheVariants.{LeftParenthesis, RightParenthesis, LeftAngle, RightAngle, LeftBracket, RightBracket, Comma}
-use Rattle.fz_lexer.specs.declared.token.Sign.TheVariants.{Colon, Is, Bang, Bar, Plus, Minus, Star}
-use Rattle.fz_lexer.specs.declared.token.Sign.TheVariants.{Ampersand, Slash, Yields, Arrow, Lollipop, AtMost, EqualTo}
+use Rattle.fz_lexer.specs.declared.token.Sign.TheVariants.{Colon, Is, Bang, Bar, Plus, Minus, Star, Ampersand, Slash, Yields, Arrow, Lollipop, AtMost}
+use Rattle.fz_lexer.specs.declared.token.Sign.TheVariants.{EqualTo}
 use Rattle.fz_parser.specs.declared.grammar.Item.{Item}
 use Rattle.fz_parser.specs.declared.grammar.Item.TheVariants.{Take, Read, Make}
 use Rattle.fz_parser.specs.declared.grammar.Terminal.TheVariants.{Named, Numeral, Positive, Quoted, Keyword, Symbol}
 use Rattle.fz_parser.specs.declared.grammar.Phrase.{Phrase}
-use Rattle.fz_parser.specs.declared.grammar.Phrase.TheVariants.{Expression, Binding, Comparison, ComparisonTail, Addition, AdditionTail, Multiplication}
-use Rattle.fz_parser.specs.declared.grammar.Phrase.TheVariants.{NegativeTail, NumeralTail, Application, ApplicationTail, Atom, Simple, Inside}
-use Rattle.fz_parser.specs.declared.grammar.Phrase.TheVariants.{InsideTail, Integer, Sensitivity, SensitivityTail, AnyType, AnyTypeTail, PlusType}
-use Rattle.fz_parser.specs.declared.grammar.Phrase.TheVariants.{PlusTypeTail, ProductType, ProductTypeTail, PrefixType}
-use Rattle.fz_parser.specs.declared.grammar.Action.TheVariants.{Begin, LambdaTerm, LetBangTerm, LetPairTerm, LetTerm, CaseTerm}
-use Rattle.fz_parser.specs.declared.grammar.Action.TheVariants.{IfTerm, InfixTerm, NegativeTerm, NegativeTimesTerm, TimesTerm, NumberTerm}
-use Rattle.fz_parser.specs.declared.grammar.Action.TheVariants.{UnaryTerm, RangedTerm, InjectTerm, BangTerm, PrefixTerm, NameTerm}
-use Rattle.fz_parser.specs.declared.grammar.Action.TheVariants.{TextTerm, TruthTerm, UnitTerm, GroupTerm, PlainInteger, NegativeInteger}
-use Rattle.fz_parser.specs.declared.grammar.Action.TheVariants.{WholeFactor, FractionFactor, InfFactor, JoinType, ArrowType, BangType}
-use Rattle.fz_parser.specs.declared.grammar.Action.TheVariants.{BagType, NumType, TextType, UnitType, BoolType, GroupType}
+use Rattle.fz_parser.specs.declared.grammar.Phrase.TheVariants.{Expression, Binding, Comparison, ComparisonTail, Addition, AdditionTail}
+use Rattle.fz_parser.specs.declared.grammar.Phrase.TheVariants.{Multiplication, NegativeTail, NumeralTail, Application, ApplicationTail, Atom, Simple}
+use Rattle.fz_parser.specs.declared.grammar.Phrase.TheVariants.{Inside, InsideTail, Integer, Sensitivity, SensitivityTail, AnyType, AnyTypeTail}
+use Rattle.fz_parser.specs.declared.grammar.Phrase.TheVariants.{PlusType, PlusTypeTail, ProductType, ProductTypeTail, PrefixType}
+use Rattle.fz_parser.specs.declared.grammar.Action.TheVariants.{Begin, LambdaTerm, LetBangTerm, LetPairTerm, LetTerm, CaseTerm, IfTerm, InfixTerm}
+use Rattle.fz_parser.specs.declared.grammar.Action.TheVariants.{NegativeTerm, NegativeTimesTerm, TimesTerm, NumberTerm, UnaryTerm, RangedTerm}
+use Rattle.fz_parser.specs.declared.grammar.Action.TheVariants.{InjectTerm, BangTerm, PrefixTerm, NameTerm, TextTerm, TruthTerm, UnitTerm, GroupTerm}
+use Rattle.fz_parser.specs.declared.grammar.Action.TheVariants.{PlainInteger, NegativeInteger, WholeFactor, FractionFactor, InfFactor, JoinType}
+use Rattle.fz_parser.specs.declared.grammar.Action.TheVariants.{ArrowType, BangType, BagType, NumType, TextType, UnitType, BoolType, GroupType}
 use Rattle.fz_parser.specs.declared.grammar.Joint.TheVariants.{Lollipop as LollipopJoint, Sum as SumJoint, Tensor as TensorJoint, With as WithJoint}
 use Rattle.fz_ast.specs.declared.term.Arrow.TheVariants.{Fun as FunArrow, Fn as FnArrow}
 use Rattle.fz_ast.specs.declared.term.Binary.TheVariants.{AtMost as AtMostBinary, Equal as EqualBinary, Plus as PlusBinary, Minus as MinusBinary}
 use Rattle.fz_ast.specs.declared.term.Binary.TheVariants.{App as AppBinary, Map as MapBinary, Filter as FilterBinary, Split as SplitBinary}
 use Rattle.fz_ast.specs.declared.term.Binary.TheVariants.{Union as UnionBinary, Pair as PairBinary, With as WithBinary}
-use Rattle.fz_ast.specs.declared.term.Unary.TheVariants.{Fst as FstUnary, Snd as SndUnary, Size as SizeUnary, Least as LeastUnary, Greatest as GreatestUnary}
+use Rattle.fz_ast.specs.declared.term.Unary.TheVariants.{Fst as FstUnary, Snd as SndUnary, Size as SizeUnary, Least as LeastUnary}
+use Rattle.fz_ast.specs.declared.term.Unary.TheVariants.{Greatest as GreatestUnary}
 use Rattle.fz_ast.specs.declared.term.Ranged.TheVariants.{Sum as SumRanged, Clip as ClipRanged}
 use Rattle.fz_ast.specs.declared.term.Side.TheVariants.{Inl as InlSide, Inr as InrSide}
 

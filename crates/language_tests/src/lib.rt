@@ -8,6 +8,8 @@ mod environments;
 #[cfg(test)]
 mod fractions;
 #[cfg(test)]
+mod lines;
+#[cfg(test)]
 mod plain_grammar;
 #[cfg(test)]
 mod plans;

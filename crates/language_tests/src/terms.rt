@@ -56,7 +56,7 @@ static READINGS: [(&str, &str); 70] = [
     ("let let = 1 in 2", "stuck 1"), ("do", "stuck 0"), ("1 at", "stuck 1"),
 ];
 
-fn factor(alloc: Global, factor: Sens) -> Result<String, AllocError> {
+pub(crate) fn factor(alloc: Global, factor: Sens) -> Result<String, AllocError> {
     match factor {
         Sens::Finite(f) => {
             let (p, q) = (f.p, f.q);
@@ -66,7 +66,7 @@ fn factor(alloc: Global, factor: Sens) -> Result<String, AllocError> {
     }
 }
 
-fn at(texts: &[String], i: u32) -> &str {
+pub(crate) fn at(texts: &[String], i: u32) -> &str {
     if (i as usize) < texts.len() {
         texts[i as usize].as_str()
     } else {
@@ -91,7 +91,7 @@ fn type_text(alloc: Global, form: TypeForm, texts: &[String]) -> Result<String, 
     format!(in alloc; "({} {sign} {})", at(texts, a), at(texts, b))
 }
 
-fn type_texts(alloc: Global, types: &Types) -> Result<Vec<String>, AllocError> {
+pub(crate) fn type_texts(alloc: Global, types: &Types) -> Result<Vec<String>, AllocError> {
     let mut texts = Vec::new(alloc);
     for i in 0..types.len().min(99999) as u32 {
         let text = type_text(alloc, types.form(i), &texts)?;
