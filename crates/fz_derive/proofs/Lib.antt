@@ -5,6 +5,7 @@ pub mod Behind
 pub mod Bounds
 pub mod ByNames
 pub mod Counted
+pub mod Counting
 pub mod Derivations
 pub mod Digits
 pub mod Every
@@ -34,8 +35,11 @@ pub mod ReadBack
 pub mod Says
 pub mod Scopes
 pub mod Fine
+pub mod Finite
 pub mod Walked
 pub mod Segments
 pub mod Shapes
+pub mod TableNames
 pub mod Tests
+pub mod Verdicts
 pub mod Whole
