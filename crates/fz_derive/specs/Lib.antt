@@ -30,3 +30,4 @@ pub mod Formed
 pub mod Viewed
 pub mod Walked
 pub mod Walking
+pub mod Answered

@@ -1,9 +1,10 @@
 -- What the walk over a term's nodes needs, and what it looks at.
-use Rattle.std.specs.Prelude.{ℕ, ◌≤◌, ◌<◌, List, length, Option}
+use Rattle.std.specs.Prelude.{ℕ, ◌≤◌, ◌<◌, List, length, Option, Some, cond}
 use Rattle.fz_ast.specs.TermNodes.{term_at}
 use Rattle.fz_ast.specs.Types.{Ty}
 use Rattle.term_meanings.specs.Scopes.{Context}
 use Rattle.fz_derive.specs.Faults.{fault_in}
+use Rattle.fz_derive.specs.Judged.{is_bounded}
 use Rattle.fz_derive.specs.Lines.{line_at}
 use Rattle.fz_derive.specs.Nodes.{nodes_of}
 use Rattle.fz_derive.specs.Scoped.{context_in}
@@ -33,3 +34,7 @@ fault_seen w Γ i k = fault_in (lines_seen w.view) Γ (term_at w.view.nodes.now.
 -- the type of line k
 abbrev pub type_seen : Walk → ℕ → Ty
 type_seen w k = (line_at (lines_seen w.view) k).ty
+
+-- and that of a whole program, which must be bounded
+abbrev pub program_fault : Walk → Context → ℕ → Option ℕ
+program_fault w Γ i = cond (is_bounded (line_at (lines_seen w.view) 0)) (fault_seen w Γ i 0) (Some 0)
