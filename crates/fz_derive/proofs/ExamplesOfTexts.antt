@@ -16,7 +16,6 @@ use Rattle.fz_lexer.specs.declared.token.Word.{Word}
 use Rattle.fz_lexer.specs.declared.token.Word.TheVariants.{Fun, Fn, Let, In, Case, Of, Inl, Inr, If, Then, Else, Fst, Snd, True, False, Num, Text}
 use Rattle.fz_lexer.specs.declared.token.Word.TheVariants.{Unit as UnitWord, Bool as BoolWord, Bag, Inf, Size, Sum, Clip, Least, Greatest, Map, Filter, Split, Union, Do, Release, At}
 use Rattle.fz_parser.proofs.Limits.{sensitivity_limits}
-use Rattle.fz_parser.proofs.Types.{written_sensitivities_read_back, written_types_read_back}
 use Rattle.fz_derive.proofs.ExampleLines.{line, line_two, quiet, says, x, y}
 use Rattle.fz_derive.proofs.ExamplesOfPrograms.{bag_line, one_table, orders, people, size_of_people}
 use Rattle.fz_derive.proofs.ReadBack.{read_back}
@@ -97,7 +96,7 @@ unfolding IsStrictlySortedBy
 num_readable = record { limits = tt; each = tt; order = tt }
 
 reads : (lines : List Line) → AllByRecursion IsReadable lines → AreLines (derivation_text lines) lines
-reads = read_back (written_types_read_back, written_sensitivities_read_back)
+reads = read_back
 
 abbrev num_line : Line
 num_line = line NumT people one

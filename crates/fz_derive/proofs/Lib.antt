@@ -5,6 +5,7 @@ pub mod Behind
 pub mod Bounds
 pub mod ByNames
 pub mod Counted
+pub mod Counting
 pub mod Derivations
 pub mod Digits
 pub mod Every
@@ -21,6 +22,8 @@ pub mod ExamplesOfSums
 pub mod ExamplesOfTexts
 pub mod Factors
 pub mod Faultless
+pub mod Fine
+pub mod Finite
 pub mod Fronts
 pub mod LeastDerived
 pub mod LeastNames
@@ -35,5 +38,8 @@ pub mod Says
 pub mod Scopes
 pub mod Segments
 pub mod Shapes
+pub mod TableNames
 pub mod Tests
+pub mod Verdicts
+pub mod Walked
 pub mod Whole

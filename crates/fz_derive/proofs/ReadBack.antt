@@ -9,13 +9,14 @@ use Rattle.fz_ast.specs.Terms.{Name}
 use Rattle.fz_lexer.specs.Bytes.{every_byte, is_name_byte, is_letter, is_digit}
 use Rattle.fz_lexer.specs.Tokens.{AreTokens}
 use Rattle.fz_lexer.specs.declared.token.Kind.TheVariants.{Name as NameKind}
+use Rattle.fz_parser.proofs.Types.{written_sensitivities_read_back, written_types_read_back}
 use Rattle.fz_parser.specs.Printer.{Tokens, factor_kinds, kinds_of, name_token, written_factor}
 use Rattle.fz_lexer.specs.declared.token.Token.{Token}
 use Rattle.fz_ast.specs.Types.{Ty}
 use Rattle.fz_derive.specs.Lines.{Said, Line}
 use Rattle.fz_derive.specs.Texts.{AreLines, AreSaidTexts, ArePieces, IsLineText, IsSaidText, IsTypeText, bar, lacks, line_feed}
 use Rattle.fz_derive.specs.Written.{amount_text, derivation_text, line_text, said_text, type_text}
-use Rattle.fz_derive.specs.Readable.{IsReadable, IsSayable, IsWord, Readers, WrittenReadsBack}
+use Rattle.fz_derive.specs.Readable.{IsReadable, IsSayable, IsWord, WrittenReadsBack}
 use Rattle.fz_derive.proofs.Fronts.{Front, amount, any, no_name, one, seq, space, looser, type_front, whole}
 use Rattle.fz_derive.proofs.Plain.{amount_plain, every_append, every_of, name_plain, no_bar, plain, type_plain, no_line_feed}
 
@@ -51,19 +52,19 @@ spaced : {a : List ℕ} {ks : Tokens} → Front a ks no_name → Front (a ++ (32
 unfolding is_name_byte is_letter is_digit
 spaced x = looser (seq x space (λ after w. refl)) (λ after w. refl)
 
-said_of : Readers → (s : Said) → IsSayable s → (text : List ℕ) → (ts : List Token) → AreTokens text ts → kinds_of ts ≡ NameKind s.name ∷ factor_kinds s.amount → IsSaidText text s
-said_of R s h text [] a k = absurd (cc k)
-said_of R s h text (t ∷ ts) a k = (t, ts, a, cc k, R.1 ts s.amount h.amount (cc k))
+said_of : (s : Said) → IsSayable s → (text : List ℕ) → (ts : List Token) → AreTokens text ts → kinds_of ts ≡ NameKind s.name ∷ factor_kinds s.amount → IsSaidText text s
+said_of s h text [] a k = absurd (cc k)
+said_of s h text (t ∷ ts) a k = (t, ts, a, cc k, written_sensitivities_read_back ts s.amount h.amount (cc k))
 
-said_piece : Readers → (s : Said) → IsSayable s → (text : List ℕ) → Piece (behind s) text → IsSaidText text s
-said_piece R s h _ last = let w = whole (behind_front s h) in said_of R s h (behind s) w.0 w.1 w.2
-said_piece R s h _ inner = let w = whole (spaced (behind_front s h)) in said_of R s h (behind s ++ (32 ∷ [])) w.0 w.1 w.2
+said_piece : (s : Said) → IsSayable s → (text : List ℕ) → Piece (behind s) text → IsSaidText text s
+said_piece s h _ last = let w = whole (behind_front s h) in said_of s h (behind s) w.0 w.1 w.2
+said_piece s h _ inner = let w = whole (spaced (behind_front s h)) in said_of s h (behind s ++ (32 ∷ [])) w.0 w.1 w.2
 
-pieces : Readers → (ss : List Said) → AllByRecursion IsSayable ss → (front : List ℕ) → every_byte plain front ≡ true → Pieces front ss
-pieces R [] h front n =
+pieces : (ss : List Said) → AllByRecursion IsSayable ss → (front : List ℕ) → every_byte plain front ≡ true → Pieces front ss
+pieces [] h front n =
     record { text = front; texts = []; cut = rw (append-nil front) (slice_split_none (λ b. b == bar) front (no_bar front n)); piece = last; said = tt }
-pieces R (s ∷ ss) h front n =
-    let more = pieces R ss h.1 (behind s) (behind_plain s h.0) in
+pieces (s ∷ ss) h front n =
+    let more = pieces ss h.1 (behind s) (behind_plain s h.0) in
     record {
       text = front ++ (32 ∷ []);
       texts = more.text ∷ more.texts;
@@ -73,21 +74,21 @@ pieces R (s ∷ ss) h front n =
               ∙ slice_split_at (λ b. b == bar) (front ++ (32 ∷ [])) 124 rest (no_bar (front ++ (32 ∷ [])) (every_append plain front (32 ∷ []) n refl)) refl
               ∙ ap (λ z. (front ++ (32 ∷ [])) ∷ z) more.cut;
       piece = inner;
-      said = (said_piece R s h.0 more.text more.piece, more.said);
+      said = (said_piece s h.0 more.text more.piece, more.said);
     }
 
-type_piece : Readers → (A : Ty) → TypeLimits A → (text : List ℕ) → Piece (type_text A) text → IsTypeText text A
-type_piece R A l _ last = let w = whole (type_front A l) in (w.0, w.1, R.0 w.0 A l w.2)
-type_piece R A l _ inner = let w = whole (spaced (type_front A l)) in (w.0, w.1, R.0 w.0 A l w.2)
+type_piece : (A : Ty) → TypeLimits A → (text : List ℕ) → Piece (type_text A) text → IsTypeText text A
+type_piece A l _ last = let w = whole (type_front A l) in (w.0, w.1, written_types_read_back w.0 A l w.2)
+type_piece A l _ inner = let w = whole (spaced (type_front A l)) in (w.0, w.1, written_types_read_back w.0 A l w.2)
 
 -- a line, without its LF
 abbrev body : Line → List ℕ
 body l = type_text l.ty ++ flat_map said_text l.says
 
-line_read : Readers → (l : Line) → IsReadable l → IsLineText (body l) l
-line_read R l h =
-    let p = pieces R l.says h.each (type_text l.ty) (type_plain l.ty h.limits) in
-    record { pieces = rw p.cut (type_piece R l.ty h.limits p.text p.piece, p.said); order = h.order }
+line_read : (l : Line) → IsReadable l → IsLineText (body l) l
+line_read l h =
+    let p = pieces l.says h.each (type_text l.ty) (type_plain l.ty h.limits) in
+    record { pieces = rw p.cut (type_piece l.ty h.limits p.text p.piece, p.said); order = h.order }
 
 says_lack : (ss : List Said) → AllByRecursion IsSayable ss → lacks line_feed (flat_map said_text ss) ≡ true
 says_lack [] h = refl
@@ -97,8 +98,8 @@ body_lacks : (l : Line) → IsReadable l → lacks line_feed (body l) ≡ true
 body_lacks l h = every_append (λ b. not (b == line_feed)) (type_text l.ty) (flat_map said_text l.says) (no_line_feed (type_text l.ty) (type_plain l.ty h.limits)) (says_lack l.says h.each)
 
 pub read_back : WrittenReadsBack
-read_back R [] h = refl
-read_back R (l ∷ lines) h =
+read_back [] h = refl
+read_back (l ∷ lines) h =
     let t = type_text l.ty in let s = flat_map said_text l.says in let more = derivation_text lines in
     let e : (t ++ (s ++ (line_feed ∷ []))) ++ more ≡ (t ++ s) ++ line_feed ∷ more = simp append_assoc in
-    (body l, more, e, body_lacks l h.0, line_read R l h.0, read_back R lines h.1)
+    (body l, more, e, body_lacks l h.0, line_read l h.0, read_back lines h.1)

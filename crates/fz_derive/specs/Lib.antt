@@ -29,3 +29,5 @@ pub mod Scoped
 pub mod Formed
 pub mod Viewed
 pub mod Walked
+pub mod Walking
+pub mod Answered

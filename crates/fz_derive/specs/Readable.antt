@@ -1,14 +1,10 @@
 -- What can be written so that it reads back.
-use Rattle.std.specs.Prelude.{◌≡◌, List, []}
+use Rattle.std.specs.Prelude.{List, []}
 use Rattle.std.specs.List.{AllByRecursion}
-use Rattle.fz_frac.specs.Distance.{Distance}
-use Rattle.fz_ast.specs.Types.{Ty}
 use Rattle.fz_ast.specs.Terms.{Name}
 use Rattle.fz_ast.specs.Limits.{IsBang, TypeLimits}
-use Rattle.fz_lexer.specs.declared.token.Token.{Token}
 use Rattle.fz_lexer.specs.declared.token.Kind.TheVariants.{Name as NameKind}
 use Rattle.fz_lexer.specs.Tokens.{IsNameToken}
-use Rattle.fz_parser.specs.Printer.{kinds_of, type_kinds, factor_kinds}
 use Rattle.fz_parser.specs.Grammar.{IsTypeOf, IsSensitivityOf}
 use Rattle.fz_derive.specs.Lines.{Said, Line, AreInOrder}
 use Rattle.fz_derive.specs.Texts.{AreLines}
@@ -29,10 +25,6 @@ pub record IsReadable (l : Line) : Type 0 where
   pub each : AllByRecursion IsSayable l.says
   pub order : AreInOrder l.says
 
-abbrev pub Readers : Type 0
-Readers = ((ts : List Token) (T : Ty) → TypeLimits T → kinds_of ts ≡ type_kinds T → IsTypeOf ts T)
-    × ((ts : List Token) (d : Distance) → IsBang d → kinds_of ts ≡ factor_kinds d → IsSensitivityOf ts d)
-
 -- what is written is read back
 abbrev pub WrittenReadsBack : Type 0
-WrittenReadsBack = Readers → (lines : List Line) → AllByRecursion IsReadable lines → AreLines (derivation_text lines) lines
+WrittenReadsBack = (lines : List Line) → AllByRecursion IsReadable lines → AreLines (derivation_text lines) lines

@@ -18,4 +18,5 @@ pub mod scope;
 pub mod shape;
 pub mod sizes;
 pub mod tables;
+pub mod walk;
 pub mod write;

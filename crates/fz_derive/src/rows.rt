@@ -3,11 +3,10 @@ ghost use Rattle.std.specs.Prelude.{◌≡◌, ◌<◌, length, slice_index};
 ghost use Rattle.fz_ast.specs.TermNodes.{FormLimits, IsKnown};
 ghost use Rattle.fz_ast.specs.TypeNodes.{type_at};
 ghost use Rattle.fz_derive.specs.Formed.{ArePlaced, form_row};
-ghost use Rattle.fz_derive.specs.Held.{lines_in};
 ghost use Rattle.fz_derive.specs.Lines.{line_at};
 ghost use Rattle.fz_derive.specs.Ruled.{IsRow, part_line};
 ghost use Rattle.fz_derive.specs.Scoped.{HasKnownTypes, context_in};
-ghost use Rattle.fz_derive.specs.Viewed.{IsView};
+ghost use Rattle.fz_derive.specs.Viewed.{IsView, lines_seen};
 
 use crate::line::Line;
 use crate::numbers::Numbers;
@@ -37,13 +36,23 @@ pub struct View<'a> {
 }
 
 impl View<'_> {
+    /// The type of this line.
+    pub fn line_type(&self, at: usize) -> u32
+        requires view { IsView self.now }
+        requires known { at < length self.now.lines.now }
+        ensures known { result < length self.now.arena.now }
+        ensures is { type_at self.now.arena.now result ≡ (line_at (lines_seen self.now) at).ty }
+    {
+        self.lines[at].ty
+    }
+
     // The part of this line.
     fn part(&self, at: usize) -> Part
         requires view { IsView self.now }
         requires known { at < length self.now.lines.now }
         ensures known { result.ty < length self.now.arena.now }
-        ensures is { part_line self.now.arena.now (lines_in self.now.arena.now self.now.lines.now) result
-            ≡ line_at (lines_in self.now.arena.now self.now.lines.now) at }
+        ensures is { part_line self.now.arena.now (lines_seen self.now) result
+            ≡ line_at (lines_seen self.now) at }
     {
         Part {
             at,
@@ -51,8 +60,8 @@ impl View<'_> {
         }
     }
 
-    // The number in the arena of the type written as number `t`.
-    fn written_type(&self, t: u32) -> u32
+    /// The number in the arena of the type written as number `t`.
+    pub fn written_type(&self, t: u32) -> u32
         requires view { IsView self.now }
         requires known { t < length self.now.nodes.now.types }
         ensures known { result < length self.now.arena.now }
@@ -68,7 +77,7 @@ impl View<'_> {
         requires known { IsKnown (length self.now.nodes.now.types) (length self.now.nodes.now.terms) form.now }
         requires limits { FormLimits form.now }
         requires placed { ArePlaced (length self.now.lines.now) form.now places }
-        ensures { let T = self.now.arena.now in let L = lines_in T self.now.lines.now in IsRow T L result
+        ensures { let T = self.now.arena.now in let L = lines_seen self.now in IsRow T L result
             (form_row (type_at self.now.nodes.now.types) (context_in T scope.now) form.now
             (line_at L places.first) (line_at L places.second) (line_at L places.third)) }
     {
