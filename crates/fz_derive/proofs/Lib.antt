@@ -25,6 +25,7 @@ pub mod Fine
 pub mod Fronts
 pub mod LeastDerived
 pub mod LeastNames
+pub mod Names
 pub mod Numbered
 pub mod Once
 pub mod Pending
