@@ -13,6 +13,7 @@ pub mod ExampleLines
 pub mod ExamplesOfBags
 pub mod ExamplesOfFunctions
 pub mod ExamplesOfLeast
+pub mod ExamplesOfNames
 pub mod ExamplesOfNumbers
 pub mod ExamplesOfPairs
 pub mod ExamplesOfPrograms
