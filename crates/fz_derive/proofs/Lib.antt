@@ -14,6 +14,7 @@ pub mod ExampleLines
 pub mod ExamplesOfBags
 pub mod ExamplesOfFunctions
 pub mod ExamplesOfLeast
+pub mod ExamplesOfNames
 pub mod ExamplesOfNumbers
 pub mod ExamplesOfPairs
 pub mod ExamplesOfPrograms
@@ -27,6 +28,7 @@ pub mod Finite
 pub mod Fronts
 pub mod LeastDerived
 pub mod LeastNames
+pub mod Names
 pub mod Numbered
 pub mod Once
 pub mod Pending

@@ -15,6 +15,7 @@ pub mod ByPlace
 pub mod Least
 pub mod Written
 pub mod Readable
+pub mod Names
 pub mod Counted
 pub mod Pending
 pub mod Unwritten
