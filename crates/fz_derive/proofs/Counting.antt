@@ -1,10 +1,10 @@
 -- A derivation has no more lines than bytes, and so none that isn't counted.
 use Rattle.std.proofs.Common.{◌≡◌, ◌≢◌, ℕ, suc, ◌+◌, ◌<◌, ◌≤◌, ◌⊎◌, inl, inr, refl, arith, List, [], ◌∷◌, ◌++◌, length, length-append}
 use Rattle.std.specs.Prelude.{min}
-use Rattle.fz_derive.specs.Lines.{Line}
-use Rattle.fz_derive.specs.Texts.{AreLines, BeginWith, IsFaultyLine, NoLine, line_feed}
+use Rattle.derivation_lines.specs.Lines.{Line}
+use Rattle.derivation_lines.specs.Texts.{AreLines, BeginWith, IsFaultyLine, NoLine, line_feed}
 use Rattle.fz_derive.specs.Walked.{most_counted}
-use Rattle.fz_derive.specs.Written.{longest}
+use Rattle.derivation_lines.specs.Written.{longest}
 
 no_more : (bytes : List ℕ) (L : List Line) (rest : List ℕ) → BeginWith bytes L rest → length L ≤ length bytes
 no_more bytes [] rest h = omega arith

@@ -6,15 +6,15 @@ use Rattle.fz_ast.proofs.SameTypes.{same_type_is, same_type_refl}
 use Rattle.fz_ast.specs.Terms.{Name}
 use Rattle.fz_ast.specs.Types.{Ty, same_type}
 use Rattle.term_meanings.specs.Scopes.{Context, Closed, Under}
-use Rattle.fz_derive.specs.Faults.{are_in_scope, is_fine, suffices, suffices_at}
-use Rattle.fz_derive.specs.Lines.{Line, amount_in}
-use Rattle.fz_derive.specs.Numbers.{Amounts, Numbers}
-use Rattle.fz_derive.specs.Placed.{AreOne, number_of}
-use Rattle.fz_derive.specs.Rows.{Row}
-use Rattle.fz_derive.specs.Ruled.{IsRow, IsRuled}
-use Rattle.fz_derive.specs.Shapes.{shape_type}
-use Rattle.fz_derive.specs.declared.row.Row.{Row as Ruled}
-use Rattle.fz_derive.proofs.Scopes.{is_le_alike}
+use Rattle.derivation_rows.specs.Faults.{are_in_scope, is_fine, suffices, suffices_at}
+use Rattle.derivation_lines.specs.Lines.{Line, amount_in}
+use Rattle.derivation_rows.specs.Numbers.{Amounts, Numbers}
+use Rattle.derivation_rows.specs.Placed.{AreOne, number_of}
+use Rattle.derivation_rows.specs.Rows.{Row}
+use Rattle.derivation_rows.specs.Ruled.{IsRow, IsRuled}
+use Rattle.derivation_rows.specs.Shapes.{shape_type}
+use Rattle.derivation_rows.specs.declared.row.Row.{Row as Ruled}
+use Rattle.derivation_rows.proofs.Scopes.{is_le_alike}
 
 pub same_type_turned : (A B : Ty) → same_type A B ≡ same_type B A
 same_type_turned A B = go (same_type A B) refl (same_type B A) refl

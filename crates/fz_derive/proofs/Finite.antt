@@ -4,7 +4,7 @@ use Rattle.std.specs.Prelude.{◌&&◌}
 use Rattle.fz_frac.specs.Distance.{Distance, Fin, Inf, greater, is_le}
 use Rattle.fz_ast.specs.Types.{NumT, same_type}
 use Rattle.fz_derive.specs.Judged.{are_finite, greatest_said, is_bounded, is_finite}
-use Rattle.fz_derive.specs.Lines.{Line, Said}
+use Rattle.derivation_lines.specs.Lines.{Line, Said}
 
 greater_finite : (a b : Distance) → is_finite (greater a b) ≡ is_finite a && is_finite b
 greater_finite (Fin p q) (Fin r s) = pick (is_le (Fin p q) (Fin r s))

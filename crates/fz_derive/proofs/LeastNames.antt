@@ -18,8 +18,8 @@ use Rattle.fz_frac.proofs.Lowest.{Lowest, lowest as parts_of}
 use Rattle.fz_ast.specs.Terms.{Name}
 use Rattle.fz_ast.specs.Types.{Ty}
 use Rattle.term_meanings.specs.Scopes.{Context, Closed, Under}
-use Rattle.fz_derive.specs.Lines.{AreInOrder, Said, Line, amount_in, names_said}
-use Rattle.fz_derive.specs.Numbers.{Numbers}
+use Rattle.derivation_lines.specs.Lines.{AreInOrder, Said, Line, amount_in, names_said}
+use Rattle.derivation_rows.specs.Numbers.{Numbers}
 use Rattle.fz_derive.specs.Derivable.{AreSaidNames, IsAtMost, IsNamed, inmost, outer}
 use Rattle.fz_derive.specs.Least.{put, put_before, said_first, said_of_each, sorted_names}
 

@@ -35,7 +35,7 @@ use Rattle.fz_parser.proofs.Making.{ready_at}
 use Rattle.fz_parser.proofs.Words.{level_rule, level_act, level_token}
 use Rattle.fz_parser.proofs.Machine.{sound_start, reads_of, term_goal}
 use Rattle.fz_derive.specs.Names.{EveryName, HasName}
-use Rattle.fz_derive.specs.Readable.{IsWord}
+use Rattle.derivation_lines.specs.Readable.{IsWord}
 
 -- if the token is a name, that has the property
 abbrev NamesWith : (Name → Type 0) → Token → Type 0

@@ -11,11 +11,11 @@ use Rattle.fz_ast.specs.Types.{Ty}
 use Rattle.fz_ast.specs.TypeNodes.{type_at}
 use Rattle.fz_ast.specs.Arena.{Grows}
 use Rattle.term_meanings.specs.Scopes.{Context, Closed, Under}
-use Rattle.fz_derive.specs.Interned.{IsNumberOf}
+use Rattle.derivation_lines.specs.Interned.{IsNumberOf}
 use Rattle.fz_derive.specs.Judged.{names_of}
-use Rattle.fz_derive.specs.Scoped.{context_in, AllInScope, HasKnownTypes}
-use Rattle.fz_derive.specs.declared.scope.Bound.{Bound}
-use Rattle.fz_derive.proofs.Scopes.{scope_grows, context_grows}
+use Rattle.derivation_rows.specs.Scoped.{context_in, AllInScope, HasKnownTypes}
+use Rattle.derivation_rows.specs.declared.scope.Bound.{Bound}
+use Rattle.derivation_rows.proofs.Scopes.{scope_grows, context_grows}
 
 -- the names of Δ outside those of Γ
 inside : Context → Context → Context

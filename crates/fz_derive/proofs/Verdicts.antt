@@ -14,23 +14,23 @@ use Rattle.fz_frac.specs.declared.frac.Frac.{Frac}
 use Rattle.term_meanings.specs.Scopes.{Context}
 use Rattle.fz_derive.specs.Answered.{ExplainsJudge, ExplainsPlace}
 use Rattle.fz_derive.specs.Bound.{HasBound}
-use Rattle.fz_derive.specs.Faults.{fault_in}
-use Rattle.fz_derive.specs.Held.{line_in, lines_in}
+use Rattle.derivation_rows.specs.Faults.{fault_in}
+use Rattle.derivation_lines.specs.Held.{line_in, lines_in}
 use Rattle.fz_derive.specs.Judged.{IsJudged, IsMisjudged, fault_of, greatest_said, is_bounded, names_of}
-use Rattle.fz_derive.specs.Lines.{Line, line_at}
-use Rattle.fz_derive.specs.Nodes.{nodes_of}
-use Rattle.fz_derive.specs.Pieces.{ExplainsLines}
-use Rattle.fz_derive.specs.Scoped.{HasKnownTypes, context_in}
-use Rattle.fz_derive.specs.Texts.{AreLines}
+use Rattle.derivation_lines.specs.Lines.{Line, line_at}
+use Rattle.derivation_rows.specs.Nodes.{nodes_of}
+use Rattle.derivation_lines.specs.Pieces.{ExplainsLines}
+use Rattle.derivation_rows.specs.Scoped.{HasKnownTypes, context_in}
+use Rattle.derivation_lines.specs.Texts.{AreLines}
 use Rattle.fz_derive.specs.Walked.{most_counted}
-use Rattle.fz_derive.specs.Written.{longest}
-use Rattle.fz_derive.specs.declared.line.JudgeFault.{JudgeFault}
-use Rattle.fz_derive.specs.declared.line.JudgeFault.TheVariants.{Line as AtLine, NoMemory}
-use Rattle.fz_derive.specs.declared.line.Line.{Line as Kept}
-use Rattle.fz_derive.specs.declared.scope.Bound.{Bound}
+use Rattle.derivation_lines.specs.Written.{longest}
+use Rattle.derivation_lines.specs.declared.line.JudgeFault.{JudgeFault}
+use Rattle.derivation_lines.specs.declared.line.JudgeFault.TheVariants.{Line as AtLine, NoMemory}
+use Rattle.derivation_lines.specs.declared.line.Line.{Line as Kept}
+use Rattle.derivation_rows.specs.declared.scope.Bound.{Bound}
 use Rattle.fz_derive.proofs.Counting.{all_counted, fault_counted}
 use Rattle.fz_derive.proofs.Exactly.{judged_has_bound}
-use Rattle.fz_derive.proofs.Scopes.{context_grows}
+use Rattle.derivation_rows.proofs.Scopes.{context_grows}
 
 -- the lines that are read are as many as the nodes, and all of them are counted
 pub all_lines : (bytes : List ℕ) (V : List Ty) (ls : List Kept) (n : ℕ) → length bytes ≤ longest → AreLines bytes (lines_in V ls) → length ls ≡ min n most_counted → (length ls ≡ n) × (length ls < most_counted)

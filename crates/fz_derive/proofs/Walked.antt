@@ -18,13 +18,13 @@ use Rattle.fz_ast.specs.declared.term.Ranged.TheVariants.{Sum, Clip}
 use Rattle.fz_ast.specs.declared.term.Side.TheVariants.{Inl, Inr}
 use Rattle.fz_ast.specs.declared.term.Unary.TheVariants.{Fst, Snd, Least, Greatest, Size}
 use Rattle.term_meanings.specs.Scopes.{Context, Under}
-use Rattle.fz_derive.specs.Faults.{fault_in, first_of, first_type, second_type, is_fine, node}
-use Rattle.fz_derive.specs.Formed.{ArePlaced, form_row}
-use Rattle.fz_derive.specs.Lines.{Line, line_at}
-use Rattle.fz_derive.specs.Nodes.{nodes_of}
-use Rattle.fz_derive.specs.Rows.{Row}
+use Rattle.derivation_rows.specs.Faults.{fault_in, first_of, first_type, second_type, is_fine, node}
+use Rattle.derivation_rows.specs.Formed.{ArePlaced, form_row}
+use Rattle.derivation_lines.specs.Lines.{Line, line_at}
+use Rattle.derivation_rows.specs.Nodes.{nodes_of}
+use Rattle.derivation_rows.specs.Rows.{Row}
 use Rattle.fz_derive.specs.Walked.{form_places, node_term}
-use Rattle.fz_derive.specs.declared.rows.Places.{Places}
+use Rattle.derivation_rows.specs.declared.rows.Places.{Places}
 
 -- the least fault below a node of this form, its parts' lines standing at p
 abbrev pub faults_below : List Line → Parts → Context → Places → Form → Option ℕ

@@ -5,9 +5,9 @@ use Rattle.fz_ast.specs.Terms.{Term}
 use Rattle.fz_frac.specs.Distance.{Fin}
 use Rattle.fz_frac.specs.declared.frac.Frac.{Frac}
 use Rattle.fz_derive.specs.Judged.{IsMisjudged, greatest_said, is_bounded}
-use Rattle.fz_derive.specs.Lines.{Line}
-use Rattle.fz_derive.specs.declared.line.JudgeFault.{JudgeFault}
-use Rattle.fz_derive.specs.declared.line.JudgeFault.TheVariants.{Line as AtLine, NoMemory}
+use Rattle.derivation_lines.specs.Lines.{Line}
+use Rattle.derivation_lines.specs.declared.line.JudgeFault.{JudgeFault}
+use Rattle.derivation_lines.specs.declared.line.JudgeFault.TheVariants.{Line as AtLine, NoMemory}
 
 -- the greatest of what it says, or it isn't bounded
 abbrev pub IsBoundedBy : Option Frac → Line → Type 0

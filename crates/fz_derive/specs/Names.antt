@@ -7,7 +7,7 @@ use Rattle.fz_lexer.specs.Tokens.{AreTokens}
 use Rattle.fz_lexer.specs.declared.token.Token.{Token}
 use Rattle.fz_lexer.specs.declared.token.Kind.TheVariants.{Name as NameKind}
 use Rattle.fz_parser.specs.Grammar.{IsTerm}
-use Rattle.fz_derive.specs.Readable.{IsWord}
+use Rattle.derivation_lines.specs.Readable.{IsWord}
 
 -- each variable of the term, and each name that it binds, has the property
 abbrev pub EveryName : (Name → Type 0) → Term → Type 0

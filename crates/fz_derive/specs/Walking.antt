@@ -3,14 +3,14 @@ use Rattle.std.specs.Prelude.{ℕ, ◌≤◌, ◌<◌, List, length, Option, Som
 use Rattle.fz_ast.specs.TermNodes.{term_at}
 use Rattle.fz_ast.specs.Types.{Ty}
 use Rattle.term_meanings.specs.Scopes.{Context}
-use Rattle.fz_derive.specs.Faults.{fault_in}
+use Rattle.derivation_rows.specs.Faults.{fault_in}
 use Rattle.fz_derive.specs.Judged.{is_bounded}
-use Rattle.fz_derive.specs.Lines.{line_at}
-use Rattle.fz_derive.specs.Nodes.{nodes_of}
-use Rattle.fz_derive.specs.Scoped.{context_in}
-use Rattle.fz_derive.specs.Viewed.{IsView, lines_seen}
+use Rattle.derivation_lines.specs.Lines.{line_at}
+use Rattle.derivation_rows.specs.Nodes.{nodes_of}
+use Rattle.derivation_rows.specs.Scoped.{context_in}
+use Rattle.derivation_rows.specs.Viewed.{IsView, lines_seen}
 use Rattle.fz_derive.specs.Walked.{AreSizes, most_counted}
-use Rattle.fz_derive.specs.declared.scope.Bound.{Bound}
+use Rattle.derivation_rows.specs.declared.scope.Bound.{Bound}
 use Rattle.fz_derive.specs.declared.walk.Walk.{Walk}
 
 pub record IsWalk (w : Walk) : Type 0 where

@@ -5,27 +5,27 @@ ghost use Rattle.fz_frac.specs.Distance.{Fin};
 ghost use Rattle.fz_frac.specs.Sens.{distance_of};
 ghost use Rattle.fz_derive.specs.Bound.{HasBound};
 ghost use Rattle.fz_derive.specs.Answered.{ExplainsJudge, ExplainsPlace, IsBoundedBy};
-ghost use Rattle.fz_derive.specs.Held.{line_in};
+ghost use Rattle.derivation_lines.specs.Held.{line_in};
 ghost use Rattle.fz_derive.specs.Judged.{IsJudged, greatest_said};
-ghost use Rattle.fz_derive.specs.Lines.{line_at};
-ghost use Rattle.fz_derive.specs.Nodes.{nodes_of};
-ghost use Rattle.fz_derive.specs.Said.{says_of};
-ghost use Rattle.fz_derive.specs.Scoped.{HasKnownTypes};
-ghost use Rattle.fz_derive.specs.Viewed.{lines_seen};
+ghost use Rattle.derivation_lines.specs.Lines.{line_at};
+ghost use Rattle.derivation_rows.specs.Nodes.{nodes_of};
+ghost use Rattle.derivation_lines.specs.Said.{says_of};
+ghost use Rattle.derivation_rows.specs.Scoped.{HasKnownTypes};
+ghost use Rattle.derivation_rows.specs.Viewed.{lines_seen};
 ghost use Rattle.fz_derive.specs.Walked.{AreSizes, most_counted};
 ghost use Rattle.fz_derive.specs.Walking.{IsWalk, names_seen, nodes_seen, program_fault};
-ghost use Rattle.fz_derive.specs.Written.{longest};
+ghost use Rattle.derivation_lines.specs.Written.{longest};
 
-use crate::interned::interned;
-pub use crate::line::JudgeFault;
-use crate::line::{Line, Said};
-use crate::lines::read_lines;
-use crate::rows::View;
-use crate::scope::Bound;
-use crate::shape::is_number;
 use crate::sizes::sizes;
 use crate::tables::tables_in_scope;
 use crate::walk::Walk;
+use derivation_lines::interned::interned;
+pub use derivation_lines::line::JudgeFault;
+use derivation_lines::line::{Line, Said};
+use derivation_lines::lines::read_lines;
+use derivation_rows::rows::View;
+use derivation_rows::scope::Bound;
+use derivation_rows::shape::is_number;
 use fz_ast::{Arena, NoMemory, Nodes, Sig, Term};
 use fz_frac::{Frac, Sens};
 use std::alloc::Global;
@@ -57,7 +57,7 @@ fn bounded(arena: &Arena, line: &Line) -> Option<Frac>
 
 impl From<NoMemory> for JudgeFault {
     ghost use Rattle.std.specs.Prelude.{◌≡◌};
-    ghost use Rattle.fz_derive.specs.declared.line.JudgeFault.TheVariants.{NoMemory};
+    ghost use Rattle.derivation_lines.specs.declared.line.JudgeFault.TheVariants.{NoMemory};
 
     ghost from_gives = { λ _ fault. fault ≡ NoMemory };
 

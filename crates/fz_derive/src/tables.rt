@@ -3,12 +3,12 @@ ghost use Rattle.std.specs.Prelude.{◌≡◌, IfOk};
 ghost use Rattle.fz_ast.specs.Arena.{Grows};
 ghost use Rattle.fz_ast.specs.Signature.{IsSignature};
 ghost use Rattle.fz_ast.specs.Types.{BagT};
-ghost use Rattle.fz_derive.specs.Interned.{IsNumberOf};
+ghost use Rattle.derivation_lines.specs.Interned.{IsNumberOf};
 ghost use Rattle.fz_derive.specs.Judged.{names_of};
-ghost use Rattle.fz_derive.specs.Scoped.{context_in, HasKnownTypes};
+ghost use Rattle.derivation_rows.specs.Scoped.{context_in, HasKnownTypes};
 
-use crate::interned::interned;
-use crate::scope::Bound;
+use derivation_lines::interned::interned;
+use derivation_rows::scope::Bound;
 use fz_ast::{Arena, NoMemory, Sig, Ty, TypeForm};
 use std::alloc::Global;
 

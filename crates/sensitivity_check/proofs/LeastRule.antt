@@ -13,12 +13,12 @@ use Rattle.fz_ast.specs.Types.{Ty, NumT, TextT, UnitT, TensorT, WithT, SumT, Arr
 use Rattle.fz_ast.specs.Terms.{Name, Term, at, span_of, VarE, NumE, TextE, UnitE, PairE, WithE, FstE, SndE, LetPairE, InlE, InrE, CaseE, IfE, FunE, FnE, AppE}
 use Rattle.fz_ast.specs.Terms.{BangE, LetBangE, LetE, PlusE, MinusE, TimesE, LeE, EqE, ClipE, LeastE, GreatestE, SizeE, SumE, UnionE, MapE, FilterE, SplitE}
 use Rattle.fz_derive.specs.Derivable.{IsNamed, inmost, outer}
-use Rattle.fz_derive.specs.Faults.{first_type, second_type}
+use Rattle.derivation_rows.specs.Faults.{first_type, second_type}
 use Rattle.fz_derive.specs.Least.{Derived, above, derived_with, least, lines_of, said_of_each, sorted_names, with_part}
-use Rattle.fz_derive.specs.Lines.{Line, Said, amount_in}
-use Rattle.fz_derive.specs.Numbers.{Amounts, Numbers, bound_sums, endless_both, endless_sums, greater_at, named, nothing, products, ranged, same_as, says_at, sum_of, product_of, sums, with_number, without}
-use Rattle.fz_derive.specs.Rows.{Row, row, well, type_in, var_row, is_tensor, is_sum, is_bag, fst_of, snd_of, app_of, eq_of, let_bang_of, map_of, test_of, let_pair_row, case_row, union_row, size_row}
-use Rattle.fz_derive.specs.Rows.{need as row_need, halves as row_halves}
+use Rattle.derivation_lines.specs.Lines.{Line, Said, amount_in}
+use Rattle.derivation_rows.specs.Numbers.{Amounts, Numbers, bound_sums, endless_both, endless_sums, greater_at, named, nothing, products, ranged, same_as, says_at, sum_of, product_of, sums, with_number, without}
+use Rattle.derivation_rows.specs.Rows.{Row, row, well, type_in, var_row, is_tensor, is_sum, is_bag, fst_of, snd_of, app_of, eq_of, let_bang_of, map_of, test_of, let_pair_row, case_row, union_row, size_row}
+use Rattle.derivation_rows.specs.Rows.{need as row_need, halves as row_halves}
 use Rattle.fz_derive.proofs.LeastNames.{among_sorted, said_same, said_some, sorted_named}
 use Rattle.linear_types.proofs.Alike.{above_zero_alike, endless_in_range, greater_alike, is_le_alike, is_out_alike, quotient_alike}
 use Rattle.linear_types.proofs.Sound.{sound}

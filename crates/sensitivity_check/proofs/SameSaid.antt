@@ -9,7 +9,7 @@ use Rattle.fz_frac.specs.Lowest.{is_out}
 use Rattle.fz_ast.specs.Terms.{Name}
 use Rattle.fz_ast.specs.Types.{Ty}
 use Rattle.fz_derive.specs.Derivable.{IsNamed, inmost, outer}
-use Rattle.fz_derive.specs.Numbers.{Amounts, without}
+use Rattle.derivation_rows.specs.Numbers.{Amounts, without}
 use Rattle.linear_types.proofs.Alike.{add_alike, add_none, greater_alike, greater_none, is_out_alike, mul_alike, mul_none, rest_in_range}
 use Rattle.linear_types.specs.Inferred.{any_out}
 use Rattle.linear_types.specs.Sensitivities.{Sensitivities, each, first, join, plus, rest, scale}

@@ -5,7 +5,7 @@ use Rattle.fz_ast.specs.Limits.{TermLimits}
 use Rattle.fz_ast.specs.Terms.{Term}
 use Rattle.fz_ast.specs.Types.{Ty}
 use Rattle.fz_derive.specs.Least.{Derived, least}
-use Rattle.fz_derive.specs.Numbers.{Amounts, says_at, without}
+use Rattle.derivation_rows.specs.Numbers.{Amounts, says_at, without}
 use Rattle.linear_types.specs.Inferred.{Has}
 use Rattle.linear_types.specs.Rule.{rule}
 use Rattle.linear_types.specs.Sensitivities.{Sensitivities, first, rest}

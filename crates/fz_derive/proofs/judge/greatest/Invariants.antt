@@ -1,7 +1,7 @@
 use Rattle.std.proofs.Common.{◌≡◌, drop}
 use Rattle.fz_frac.specs.Sens.{distance_of}
 use Rattle.fz_derive.specs.Judged.{greatest_said}
-use Rattle.fz_derive.specs.Said.{says_of}
+use Rattle.derivation_lines.specs.Said.{says_of}
 use Rattle.fz_derive.proofs.judge.greatest.Given as goal
 
 abbrev pub invariant-loop-i : goal.invariant-loop-i

@@ -1,10 +1,10 @@
 use Rattle.std.proofs.Common.{◌+◌, ◌≤◌, length, sym, ap, ◌∙◌, arith, IfErr}
 use Rattle.fz_ast.proofs.Arenas.{grows_trans}
 use Rattle.fz_ast.specs.TermNodes.{term_at}
-use Rattle.fz_derive.specs.Nodes.{nodes_of}
-use Rattle.fz_derive.specs.Scoped.{context_in}
-use Rattle.fz_derive.proofs.Numbered.{written_grows}
-use Rattle.fz_derive.proofs.Scopes.{scope_grows}
+use Rattle.derivation_rows.specs.Nodes.{nodes_of}
+use Rattle.derivation_rows.specs.Scoped.{context_in}
+use Rattle.derivation_lines.proofs.Numbered.{written_grows}
+use Rattle.derivation_rows.proofs.Scopes.{scope_grows}
 use Rattle.fz_derive.proofs.Verdicts.{all_lines, handed_on, has_bound, judged, misjudged, not_lines, tables_grow}
 use Rattle.fz_derive.proofs.judge.judge_in.Goals as goal
 

@@ -1,5 +1,5 @@
 use Rattle.std.proofs.Common.{refl, sym, ◌∙◌}
-use Rattle.fz_derive.proofs.Amounts.{line_of}
+use Rattle.derivation_rows.proofs.Amounts.{line_of}
 use Rattle.fz_derive.proofs.judge.verdict.Goals as goal
 
 pub returns-in-Some-2-clause-fault : goal.returns-in-Some-2-clause-fault

@@ -1,8 +1,8 @@
 use Rattle.std.proofs.Common.{length, refl}
 use Rattle.fz_ast.specs.TermNodes.{term_at}
 use Rattle.fz_ast.specs.declared.term.Form.TheVariants.{Binary as Op2, Let, LetBang, LetPair, If, Case}
-use Rattle.fz_derive.specs.Scoped.{context_in}
-use Rattle.fz_derive.specs.Viewed.{lines_seen}
+use Rattle.derivation_rows.specs.Scoped.{context_in}
+use Rattle.derivation_rows.specs.Viewed.{lines_seen}
 use Rattle.fz_derive.proofs.Walked.{failed, fit, passed, placed}
 use Rattle.fz_derive.proofs.walk.Walk.+walking.Goals as goal
 

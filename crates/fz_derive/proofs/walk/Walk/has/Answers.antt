@@ -1,8 +1,8 @@
 use Rattle.std.proofs.Common.{get_or}
-use Rattle.fz_derive.specs.Held.{line_in}
-use Rattle.fz_derive.specs.Scoped.{context_in}
-use Rattle.fz_derive.specs.Viewed.{lines_seen}
-use Rattle.fz_derive.proofs.Amounts.{line_of}
+use Rattle.derivation_lines.specs.Held.{line_in}
+use Rattle.derivation_rows.specs.Scoped.{context_in}
+use Rattle.derivation_rows.specs.Viewed.{lines_seen}
+use Rattle.derivation_rows.proofs.Amounts.{line_of}
 use Rattle.fz_derive.proofs.Fine.{named, not_named, not_typed}
 use Rattle.fz_derive.proofs.walk.Walk.has.Goals as goal
 

@@ -1,8 +1,8 @@
 use Rattle.fz_ast.specs.TypeNodes.{type_at}
-use Rattle.fz_derive.specs.Formed.{form_row}
-use Rattle.fz_derive.specs.Lines.{line_at}
-use Rattle.fz_derive.specs.Scoped.{context_in}
-use Rattle.fz_derive.specs.Viewed.{lines_seen}
+use Rattle.derivation_rows.specs.Formed.{form_row}
+use Rattle.derivation_lines.specs.Lines.{line_at}
+use Rattle.derivation_rows.specs.Scoped.{context_in}
+use Rattle.derivation_rows.specs.Viewed.{lines_seen}
 use Rattle.fz_derive.proofs.Fine.{row_has}
 use Rattle.fz_derive.proofs.walk.Walk.is_fine.Goals as goal
 
