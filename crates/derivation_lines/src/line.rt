@@ -8,7 +8,7 @@ ghost use Rattle.fz_ast.specs.Names.{name_of};
 ghost use Rattle.derivation_lines.specs.Lines.{AreInOrder, names_said};
 ghost use Rattle.derivation_lines.specs.Said.{says_of};
 
-use fz_ast::Name;
+use fz_ast::{Name, NoMemory};
 use fz_frac::Sens;
 use std::cmp::Ordering;
 
@@ -34,6 +34,17 @@ pub enum JudgeFault {
     Line { at: usize },
     /// Memory ran out.
     NoMemory,
+}
+
+impl From<NoMemory> for JudgeFault {
+    ghost use Rattle.std.specs.Prelude.{◌≡◌};
+    ghost use Rattle.derivation_lines.specs.declared.line.JudgeFault.TheVariants.{NoMemory};
+
+    ghost from_gives = { λ _ fault. fault ≡ NoMemory };
+
+    fn from(_error: NoMemory) -> JudgeFault {
+        JudgeFault::NoMemory
+    }
 }
 
 /// How two names stand in byte order.

@@ -26,7 +26,7 @@ use derivation_lines::lines::read_lines;
 use derivation_rows::rows::View;
 use derivation_rows::scope::Bound;
 use derivation_rows::shape::is_number;
-use fz_ast::{Arena, NoMemory, Nodes, Sig, Term};
+use fz_ast::{Arena, Nodes, Sig, Term};
 use fz_frac::{Frac, Sens};
 use std::alloc::Global;
 
@@ -52,17 +52,6 @@ fn bounded(arena: &Arena, line: &Line) -> Option<Frac>
     match greatest(&line.says) {
         Sens::Finite(r) => Some(r),
         Sens::Inf => None,
-    }
-}
-
-impl From<NoMemory> for JudgeFault {
-    ghost use Rattle.std.specs.Prelude.{◌≡◌};
-    ghost use Rattle.derivation_lines.specs.declared.line.JudgeFault.TheVariants.{NoMemory};
-
-    ghost from_gives = { λ _ fault. fault ≡ NoMemory };
-
-    fn from(_error: NoMemory) -> JudgeFault {
-        JudgeFault::NoMemory
     }
 }
 
