@@ -36,9 +36,9 @@ pub seq : {a b : List ℕ} {ka kb : Tokens} {f g : List ℕ → Bool} → Front 
     → Front (a ++ b) (λ m. ka (kb m)) g
 seq {a} {b} {ka} {kb} {f} {g} x y h = record {
   cuts = λ p after us r end w c.
-    let d = y.cuts (p + length a) after us r end w (subst (λ n. Cut n after us r end) (let e = length-append a b in omega (arith, e)) c) in
-    let e = x.cuts p (b ++ after) d.0 r end (h after w) d.1 in
-    (e.0, subst (λ z. Cut p z e.0 r end) (sym (append_assoc a b after)) e.1, λ m z. e.2 (kb m) (d.2 m z));
+      let d = y.cuts (p + length a) after us r end w (subst (λ n. Cut n after us r end) (let e = length-append a b in omega (arith, e)) c) in
+      let e = x.cuts p (b ++ after) d.0 r end (h after w) d.1 in
+      (e.0, subst (λ z. Cut p z e.0 r end) (sym (append_assoc a b after)) e.1, λ m z. e.2 (kb m) (d.2 m z));
 }
 
 -- blanks are no tokens

@@ -71,8 +71,8 @@ pieces (s ∷ ss) h front n =
       cut =
           let rest : List ℕ = behind s ++ flat_map said_text ss in
           ap (λ w. slice_split (λ b. b == bar) w) (sym (append_assoc front (32 ∷ []) (124 ∷ rest)))
-              ∙ slice_split_at (λ b. b == bar) (front ++ (32 ∷ [])) 124 rest (no_bar (front ++ (32 ∷ [])) (every_append plain front (32 ∷ []) n refl)) refl
-              ∙ ap (λ z. (front ++ (32 ∷ [])) ∷ z) more.cut;
+          ∙ slice_split_at (λ b. b == bar) (front ++ (32 ∷ [])) 124 rest (no_bar (front ++ (32 ∷ [])) (every_append plain front (32 ∷ []) n refl)) refl
+          ∙ ap (λ z. (front ++ (32 ∷ [])) ∷ z) more.cut;
       piece = inner;
       said = (said_piece s h.0 more.text more.piece, more.said);
     }

@@ -1,10 +1,10 @@
 -- Tables in scope, one by one.
-use Rattle.std.proofs.Common.{◌≡◌, ℕ, ◌+◌, ◌<◌, refl, ap, ◌∙◌, List, [], ◌∷◌, ◌++◌, length, take, Some}
+use Rattle.std.proofs.Common.{◌≡◌, ℕ, ◌+◌, ◌<◌, ◌≤◌, arith, refl, ap, ◌∙◌, List, [], ◌∷◌, ◌++◌, length, take, Some}
 use Rattle.std.specs.Prelude.{slice_get}
 use Rattle.std.proofs.lemmas.List.{take_more}
 use Rattle.std.proofs.lemmas.Option.{slice_get_within, get_or_from_slice_get}
 use Rattle.fz_ast.specs.Names.{name_of}
-use Rattle.fz_ast.specs.Signature.{Signature, TableType, table_type}
+use Rattle.fz_ast.specs.Signature.{IsSignature, Signature, TableType, table_type}
 use Rattle.fz_ast.specs.Tables.{table_of}
 use Rattle.fz_ast.specs.declared.sig.TableType.{TableType as Table}
 use Rattle.fz_ast.specs.Types.{Ty}
@@ -50,3 +50,8 @@ one_table_more T U scope ts i b t g e n k h =
       scoped = record { all = all_push U scope b (scope_grows T U scope g h.scoped).all k.known };
       are = rw (f, context_push U scope b, names_push (take i ts) (table_of t), s, n, k.is) refl;
     }
+
+-- what any table tells of the signature holds of an empty one too
+pub signed : (ts : Signature) (i : ℕ) → (0 < i → IsSignature ts) → length ts ≤ i → IsSignature ts
+signed [] i h l = tt
+signed (t ∷ ts) i h l = h (omega (arith, l))

@@ -5,13 +5,15 @@ use Rattle.std.proofs.lemmas.List.{length-map}
 use Rattle.std.proofs.lemmas.Result.{err_from_is_err_and}
 use Rattle.fz_ast.proofs.Arenas.{grows_trans}
 use Rattle.fz_ast.specs.Arena.{Grows}
-use Rattle.fz_ast.specs.Signature.{Signature}
+use Rattle.fz_ast.specs.Signature.{IsSignature, Signature}
+use Rattle.fz_ast.specs.Limits.{TermLimits}
 use Rattle.fz_ast.specs.Terms.{Term}
 use Rattle.fz_ast.specs.Types.{Ty}
 use Rattle.fz_frac.specs.Distance.{Fin}
 use Rattle.fz_frac.specs.declared.frac.Frac.{Frac}
 use Rattle.term_meanings.specs.Scopes.{Context}
 use Rattle.fz_derive.specs.Answered.{ExplainsJudge, ExplainsPlace}
+use Rattle.fz_derive.specs.Bound.{HasBound}
 use Rattle.fz_derive.specs.Faults.{fault_in}
 use Rattle.fz_derive.specs.Held.{line_in, lines_in}
 use Rattle.fz_derive.specs.Judged.{IsJudged, IsMisjudged, fault_of, greatest_said, is_bounded, names_of}
@@ -27,6 +29,7 @@ use Rattle.fz_derive.specs.declared.line.JudgeFault.TheVariants.{Line as AtLine,
 use Rattle.fz_derive.specs.declared.line.Line.{Line as Kept}
 use Rattle.fz_derive.specs.declared.scope.Bound.{Bound}
 use Rattle.fz_derive.proofs.Counting.{all_counted, fault_counted}
+use Rattle.fz_derive.proofs.Exactly.{judged_has_bound}
 use Rattle.fz_derive.proofs.Scopes.{context_grows}
 
 -- the lines that are read are as many as the nodes, and all of them are counted
@@ -67,3 +70,7 @@ not_lines ts e bytes (AtLine k) few h = inl (fault_counted bytes (nodes_of e) k 
 -- a fault that is handed on
 pub handed_on : (ts : Signature) (e : Term) (bytes : List ℕ) (q : Result Frac JudgeFault) (f : JudgeFault) → IsErrAnd q (λ y. y ≡ f) → ExplainsJudge ts e bytes f → IfErr q (ExplainsJudge ts e bytes)
 handed_on ts e bytes q f h k = let p = err_from_is_err_and q h in rw (p.1, p.2) k
+
+pub has_bound : (ts : Signature) (e : Term) (bytes : List ℕ) (r : Result Frac JudgeFault) → IsSignature ts → TermLimits e → IfOk r (λ x. IsJudged ts e bytes (Fin x.p x.q)) → IfOk r (λ x. HasBound ts e (Fin x.p x.q))
+has_bound ts e bytes (Ok x) s l h = judged_has_bound ts e bytes (Fin x.p x.q) s l h
+has_bound ts e bytes (Err f) s l h = tt

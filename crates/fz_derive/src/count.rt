@@ -111,11 +111,7 @@ fn lines_length(lengths: &[usize], lines: &[Line]) -> usize
 }
 
 /// How long the text of a derivation is, or the greatest `usize` where it is longer.
-pub fn derivation_length(
-    alloc: Global,
-    types: &Types,
-    lines: &[Line],
-) -> Result<usize, NoMemory>
+pub fn derivation_length(alloc: Global, types: &Types, lines: &[Line]) -> Result<usize, NoMemory>
     requires { AreHeld types.now lines.now }
     ensures { IfOk result (IsCount (derivation_text (lines_in types.now lines.now))) }
 {

@@ -1,6 +1,5 @@
 //! Judges a derivation: the greatest of what its first line says, or the least line at fault.
 ghost use Rattle.std.specs.Prelude.{◌≡◌, ◌≤◌, ◌<◌, length, min, IfOk, IfErr, None};
-ghost use Rattle.fz_ast.specs.Limits.{TermLimits};
 ghost use Rattle.fz_ast.specs.TermNodes.{term_at};
 ghost use Rattle.fz_frac.specs.Distance.{Fin};
 ghost use Rattle.fz_frac.specs.Sens.{distance_of};
@@ -18,6 +17,7 @@ ghost use Rattle.fz_derive.specs.Walking.{IsWalk, names_seen, nodes_seen, progra
 ghost use Rattle.fz_derive.specs.Written.{longest};
 
 use crate::interned::interned;
+pub use crate::line::JudgeFault;
 use crate::line::{Line, Said};
 use crate::lines::read_lines;
 use crate::rows::View;
@@ -29,8 +29,6 @@ use crate::walk::Walk;
 use fz_ast::{Arena, NoMemory, Nodes, Sig, Term};
 use fz_frac::{Frac, Sens};
 use std::alloc::Global;
-
-pub use crate::line::JudgeFault;
 
 // The greatest of what is said, and 0 where nothing is.
 fn greatest(says: &[Said]) -> Sens
@@ -108,7 +106,7 @@ fn judge_in(
 ) -> Result<Frac, JudgeFault>
     requires { length bytes.now ≤ longest }
     ensures ok { IfOk result (λ r. IsJudged sig.now term.now bytes.now (Fin r.p r.q)) }
-    ensures limits { TermLimits term.now }
+    ensures bound { IfOk result (λ r. HasBound sig.now term.now (Fin r.p r.q)) }
     ensures fault { IfErr result (ExplainsJudge sig.now term.now bytes.now) }
 {
     let (nodes, root) = term.parts();
@@ -137,12 +135,7 @@ fn judge_in(
 ///
 /// `Line` at the least line, from 0, that is missing, isn't of the form or is too many, and with none such at the least node
 /// whose rule fails over its parts' lines. `NoMemory` where memory ran out.
-pub fn judge(
-    alloc: Global,
-    sig: &Sig,
-    term: &Term,
-    bytes: &[u8],
-) -> Result<Frac, JudgeFault>
+pub fn judge(alloc: Global, sig: &Sig, term: &Term, bytes: &[u8]) -> Result<Frac, JudgeFault>
     requires { length bytes.now ≤ longest }
     ensures ok { IfOk result (λ r. IsJudged sig.now term.now bytes.now (Fin r.p r.q)) }
     ensures bound { IfOk result (λ r. HasBound sig.now term.now (Fin r.p r.q)) }

@@ -146,7 +146,11 @@ impl Numbers {
                 sum_scaled(amount_without(lines, &y, b, x), r, amount_at(lines, e, x))
             }
             Numbers::LetPair(r, e, y, z, b) => {
-                sum_scaled(amount_without_two(lines, &y, &z, b, x), r, amount_at(lines, e, x))
+                sum_scaled(
+                    amount_without_two(lines, &y, &z, b, x),
+                    r,
+                    amount_at(lines, e, x),
+                )
             }
             Numbers::Cases(r, e, y, a, z, b) => {
                 let left = amount_without(lines, &y, a, x);

@@ -82,14 +82,7 @@ pub fn let_bang(arena: &Arena, lines: &[Line], x: &Name, e: Part, b: Part) -> Op
 }
 
 /// `let (x, y) = e in b`
-pub fn let_pair(
-    arena: &Arena,
-    lines: &[Line],
-    x: &Name,
-    y: &Name,
-    e: Part,
-    b: Part,
-) -> Option<Row>
+pub fn let_pair(arena: &Arena, lines: &[Line], x: &Name, y: &Name, e: Part, b: Part) -> Option<Row>
     requires e_known { e.ty < length arena.now }
     requires b_known { b.ty < length arena.now }
     ensures { (T : List Ty) → let L = lines_in T lines.now in
@@ -160,14 +153,7 @@ fn endless(arena: &Arena, x: &Name, w: u32, e: Part) -> Option<Row>
 }
 
 /// A function of x, whose type is written as `w`.
-pub fn lambda(
-    arena: &Arena,
-    lines: &[Line],
-    form: Arrow,
-    x: &Name,
-    w: u32,
-    e: Part,
-) -> Option<Row>
+pub fn lambda(arena: &Arena, lines: &[Line], form: Arrow, x: &Name, w: u32, e: Part) -> Option<Row>
     requires known { e.ty < length arena.now }
     requires written { w < length arena.now }
     ensures { (T : List Ty) → let L = lines_in T lines.now in

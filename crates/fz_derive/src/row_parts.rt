@@ -8,7 +8,9 @@ ghost use Rattle.fz_derive.specs.Ruled.{IsRow, part_line};
 
 use crate::numbers::Numbers;
 use crate::row::{Part, Row, formed, known, truth};
-use crate::shape::{is_bag, is_bag_of, is_number, is_number_pair, is_text, is_truth, unlimited_parts};
+use crate::shape::{
+    is_bag, is_bag_of, is_number, is_number_pair, is_text, is_truth, unlimited_parts,
+};
 use fz_ast::{Arena, Binary, TypeForm, Unary};
 
 fn fst(arena: &Arena, e: Part) -> Option<Row>

@@ -87,25 +87,76 @@ impl View<'_> {
             Form::Text(_) => formed(TypeForm::Text, Numbers::Zero),
             Form::Unit => formed(TypeForm::Unit, Numbers::Zero),
             Form::Unary(form, _) => unary(self.arena, *form, self.part(places.first)),
-            Form::Binary(form, _, _) => binary(self.arena, *form, self.part(places.first), self.part(places.second)),
+            Form::Binary(form, _, _) => binary(
+                self.arena,
+                *form,
+                self.part(places.first),
+                self.part(places.second),
+            ),
             Form::Times(k, _) => times(self.arena, *k, self.part(places.first)),
-            Form::Ranged(form, lo, hi, _) => ranged(self.arena, *form, *lo, *hi, self.part(places.first)),
-            Form::Inject(side, _, t, _) => inject(self.arena, *side, self.written_type(*t), self.part(places.first)),
+            Form::Ranged(form, lo, hi, _) => ranged(
+                self.arena,
+                *form,
+                *lo,
+                *hi,
+                self.part(places.first),
+            ),
+            Form::Inject(side, _, t, _) => inject(
+                self.arena,
+                *side,
+                self.written_type(*t),
+                self.part(places.first),
+            ),
             Form::Bang(r, _) => bang(self.arena, *r, self.part(places.first)),
-            Form::Let(x, _, _) => let_name(self.arena, self.lines, x, self.part(places.first), self.part(places.second)),
-            Form::LetBang(x, _, _) => let_bang(self.arena, self.lines, x, self.part(places.first), self.part(places.second)),
+            Form::Let(x, _, _) => let_name(
+                self.arena,
+                self.lines,
+                x,
+                self.part(places.first),
+                self.part(places.second),
+            ),
+            Form::LetBang(x, _, _) => let_bang(
+                self.arena,
+                self.lines,
+                x,
+                self.part(places.first),
+                self.part(places.second),
+            ),
             Form::LetPair(x, y, _, _) => {
-                let_pair(self.arena, self.lines, x, y, self.part(places.first), self.part(places.second))
+                let_pair(
+                    self.arena,
+                    self.lines,
+                    x,
+                    y,
+                    self.part(places.first),
+                    self.part(places.second),
+                )
             }
             Form::If(_, _, _) => {
-                choice(self.arena, self.part(places.first), self.part(places.second), self.part(places.third))
+                choice(
+                    self.arena,
+                    self.part(places.first),
+                    self.part(places.second),
+                    self.part(places.third),
+                )
             }
             Form::Case(_, x, _, y, _) => {
-                let (e, a, b) = (self.part(places.first), self.part(places.second), self.part(places.third));
+                let (e, a, b) = (
+                    self.part(places.first),
+                    self.part(places.second),
+                    self.part(places.third),
+                );
                 cases(self.arena, self.lines, e, x, a, y, b)
             }
             Form::Lambda(form, x, _, t, _) => {
-                lambda(self.arena, self.lines, *form, x, self.written_type(*t), self.part(places.first))
+                lambda(
+                    self.arena,
+                    self.lines,
+                    *form,
+                    x,
+                    self.written_type(*t),
+                    self.part(places.first),
+                )
             }
         }
     }

@@ -27,6 +27,7 @@ pub fn tables_in_scope(alloc: Global, arena: &mut Arena, sig: &Sig) -> Result<Ve
     ensures grows { Grows arena.old arena.new }
     ensures scope { IfOk result (λ scope. HasKnownTypes arena.new scope.items) }
     ensures are { IfOk result (λ scope. context_in arena.new scope.items ≡ names_of sig.now) }
+    ensures signature { IfOk result (λ _. IsSignature sig.now) }
 {
     let mut scope = Vec::new(alloc);
     for i in 0..sig.len() {

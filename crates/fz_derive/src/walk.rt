@@ -270,7 +270,8 @@ impl Walk<'_> {
             IfOk result (λ r. r ≡ first_of (fault_seen self.now Γ e places.first)
             (fault_seen self.now (Under (name_of y) (second_type A) (Under (name_of x) (first_type A) Γ)) b places.second)) }
     {
-        let Some((first, second)) = tensor_parts(self.view.arena, self.view.line_type(places.first)) else {
+        let Some((first, second)) = tensor_parts(self.view.arena, self.view.line_type(places.first))
+        else {
             return Ok(None);
         };
         match self.fault_at(scope, e, places.first)? {
@@ -371,17 +372,15 @@ impl Walk<'_> {
             (first_of (fault_seen self.now (Under (name_of x) (first_type A) Γ) a places.second)
             (fault_seen self.now (Under (name_of y) (second_type A) Γ) b places.third))) }
     {
-        let Some((left, right)) = sum_parts(self.view.arena, self.view.line_type(places.first)) else {
+        let Some((left, right)) = sum_parts(self.view.arena, self.view.line_type(places.first))
+        else {
             return Ok(None);
         };
         match self.fault_at(scope, e, places.first)? {
             Some(at) => Ok(Some(at)),
             None => {
                 let x = Bound { name: x, ty: left };
-                let y = Bound {
-                    name: y,
-                    ty: right,
-                };
+                let y = Bound { name: y, ty: right };
                 self.branches(scope, x, a, places.second, y, b, places.third)
             }
         }
@@ -389,7 +388,14 @@ impl Walk<'_> {
 
     // The body of a function of x, whose type is written as number `t`.
     #[cycle(walking)]
-    fn body(&self, scope: &[Bound], x: Name, t: u32, e: u32, k: usize) -> Result<Option<usize>, NoMemory>
+    fn body(
+        &self,
+        scope: &[Bound],
+        x: Name,
+        t: u32,
+        e: u32,
+        k: usize,
+    ) -> Result<Option<usize>, NoMemory>
         requires walk { IsWalk self.now }
         requires scope { HasKnownTypes self.now.view.arena.now scope.now }
         requires written { t < length self.now.view.nodes.now.types }

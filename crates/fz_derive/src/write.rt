@@ -93,7 +93,7 @@ fn put_infix(
 ) -> Result<(), AllocError>
     ensures { (T : List Ty) (s : List ℕ) → piece_text T sign ≡ 32 ∷ (s ++ 32 ∷ []) → IsHeldPiece T sign → (a < length T) × (b < length T)
         → AreHeldPieces T left.old.items → IfOk result (λ _. Writes T out.old.items (infix_text s (type_text (type_at T a)) (type_text (type_at T b)))
-            left.old.items out.new.items left.new.items) }
+        left.old.items out.new.items left.new.items) }
 {
     left.push(Piece::Close)?;
     left.push(Piece::Part(b))?;
@@ -152,12 +152,7 @@ fn put_piece(
 }
 
 // A type. What is still to come stands in a list, so nothing recurses, however deep the type is.
-fn put_type(
-    alloc: Global,
-    types: &Types,
-    ty: u32,
-    out: &mut Vec<u8>,
-) -> Result<(), AllocError>
+fn put_type(alloc: Global, types: &Types, ty: u32, out: &mut Vec<u8>) -> Result<(), AllocError>
     requires { ty < length types.now }
     ensures { IfOk result (λ _. out.new.items ≡ out.old.items ++ type_text (type_at types.now ty)) }
 {
@@ -178,12 +173,7 @@ fn put_said(out: &mut Vec<u8>, said: &Said) -> Result<(), AllocError>
     put_amount(out, said.amount)
 }
 
-fn put_line(
-    alloc: Global,
-    types: &Types,
-    line: &Line,
-    out: &mut Vec<u8>,
-) -> Result<(), AllocError>
+fn put_line(alloc: Global, types: &Types, line: &Line, out: &mut Vec<u8>) -> Result<(), AllocError>
     requires { line.now.ty < length types.now }
     ensures { IfOk result (λ _. out.new.items ≡ out.old.items ++ line_text (line_in types.now line.now)) }
 {

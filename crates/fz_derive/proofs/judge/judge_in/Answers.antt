@@ -5,7 +5,7 @@ use Rattle.fz_derive.specs.Nodes.{nodes_of}
 use Rattle.fz_derive.specs.Scoped.{context_in}
 use Rattle.fz_derive.proofs.Numbered.{written_grows}
 use Rattle.fz_derive.proofs.Scopes.{scope_grows}
-use Rattle.fz_derive.proofs.Verdicts.{all_lines, handed_on, judged, misjudged, not_lines, tables_grow}
+use Rattle.fz_derive.proofs.Verdicts.{all_lines, handed_on, has_bound, judged, misjudged, not_lines, tables_grow}
 use Rattle.fz_derive.proofs.judge.judge_in.Goals as goal
 
 pub returns-in_err-lines-clause-fault : goal.returns-in_err-lines-clause-fault
@@ -55,6 +55,11 @@ returns-clause-ok c =
     judged c.args.sig.now c.args.term.now t c.args.bytes.now V (context_in V c.deref-5.result.now) ls c.parts-root.ensures.is
     (tables_grow c.args.sig.now c.tables_in_scope.new.arena c.interned.new.arena V c.in_ok-scope.scope.items c.deref-5.result.now c.in_ok-written.ensures.grows c.in_ok-lines.ensures.grows c.in_ok-scope.ensures.scope c.in_ok-scope.ensures.are c.deref-5.ensures.value)
     (rw c.deref-3.ensures.value c.in_ok-lines.ensures.lines) (rw c.deref-3.ensures.value (counted.0 ∙ ap nodes_of c.parts-root.ensures.is)) c.verdict.result c.verdict.ensures.ok
+
+pub returns-clause-bound : goal.returns-clause-bound
+returns-clause-bound c =
+    let e = c.args.term.now in
+    has_bound c.args.sig.now e c.args.bytes.now c.verdict.result c.in_ok-scope.ensures.signature c.parts-root.ensures.limits (returns-clause-ok c)
 
 pub returns-clause-fault : goal.returns-clause-fault
 returns-clause-fault c =

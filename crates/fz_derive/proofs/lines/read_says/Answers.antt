@@ -20,7 +20,7 @@ pub loop-behind-preserved : goal.loop-behind-preserved
 loop-behind-preserved c =
     let said = c.in_ok-said.said in
     let up : AreInOrder (says_of c.loop-behind.says.items ++ said_of said ∷ []) =
-        subst (λ xs. AreInOrder (says_of xs ++ said_of said ∷ [])) c.deref.ensures.value (c.may_follow.ensures.0 c.if-not-may_follow.false) in
+    subst (λ xs. AreInOrder (says_of xs ++ said_of said ∷ [])) c.deref.ensures.value (c.may_follow.ensures.0 c.if-not-may_follow.false) in
     let more = more_read (pieces_behind c.args.behind) _ _ _ _ (said_of said) c.loop-behind.invariant.read (left (goal.at.loop-behind-preserved c).After-split_piece) c.in_ok-said.ensures.is up in
     let short : length c.in-Some.text.now < 2 ^ 32 = subst (λ o. IfSome o (λ rest. length rest.now < 2 ^ 32)) c.in-Some.is c.loop-behind.invariant.short in
     record {
@@ -37,8 +37,8 @@ pub returns-then-not-may_follow-clause-fault : goal.returns-then-not-may_follow-
 returns-then-not-may_follow-clause-fault c =
     not_in_order _ _ _ _ _ _ c.loop-behind.invariant.read (left (goal.at.returns-then-not-may_follow-clause-fault c).After-split_piece) c.in_ok-said.ensures.is
     (λ up.
-        let yes = c.may_follow.ensures.1 (subst (λ xs. AreInOrder (says_of xs ++ said_of c.in_ok-said.said ∷ [])) (sym c.deref.ensures.value) up) in
-        true≢false (sym yes ∙ c.if-not-may_follow.true))
+    let yes = c.may_follow.ensures.1 (subst (λ xs. AreInOrder (says_of xs ++ said_of c.in_ok-said.said ∷ [])) (sym c.deref.ensures.value) up) in
+    true≢false (sym yes ∙ c.if-not-may_follow.true))
 
 pub returns : goal.returns
 returns c =

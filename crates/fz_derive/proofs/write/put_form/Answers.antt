@@ -24,8 +24,8 @@ returns-in_ok-push-in-Bang c = λ T k h.
     let r : List ℕ = amount_text (distance_of c.in-Bang.r) in let A : List ℕ = type_text (type_at T c.in-Bang.a) in
     let e : codes "![" ++ (r ++ (codes "] " ++ A)) ≡ (codes "![" ++ (r ++ codes "] ")) ++ A = ap (λ w. codes "![" ++ w) (sym (append_assoc r (codes "] ") A)) in
     rw c.in-Bang.is (writes_front T _ (codes "![" ++ (r ++ codes "] ")) _ _ _ _ c.in-Bang.a (omega arith)
-        (rw (c.in_ok-extend_from_slice-in-Bang-2.ensures.items, c.in_ok-put_amount-in-Bang.ensures, c.in_ok-extend_from_slice-in-Bang.ensures.items) (simp append_assoc))
-        c.in_ok-push-in-Bang.ensures.items e k' h)
+    (rw (c.in_ok-extend_from_slice-in-Bang-2.ensures.items, c.in_ok-put_amount-in-Bang.ensures, c.in_ok-extend_from_slice-in-Bang.ensures.items) (simp append_assoc))
+    c.in_ok-push-in-Bang.ensures.items e k' h)
 
 pub returns-in_ok-push-in-Bag : goal.returns-in_ok-push-in-Bag
 returns-in_ok-push-in-Bag c = λ T k h.

@@ -12,5 +12,5 @@ pub returns : goal.returns
 returns c =
     let facts = c.binary_search_by.ensures in
     let by_name = facts.position (λ (s : Said). slice_cmp nat_cmp (name_of s.name) (name_of c.args.name.now))
-        (always_returns_same _ _ _ (λ a r g called. search rules)) in
+    (always_returns_same _ _ _ (λ a r g called. search rules)) in
     rw (← c.deref.ensures.value) (halved _ _ _ (rw c.deref.ensures.value c.args.self.now.order) facts.bound by_name)
