@@ -4,7 +4,7 @@
 #[cfg(test)]
 mod checks;
 #[cfg(test)]
-mod derivation_lines;
+mod derivations;
 #[cfg(test)]
 mod environments;
 #[cfg(test)]
