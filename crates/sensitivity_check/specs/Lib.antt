@@ -2,3 +2,4 @@ pub mod Answered
 pub mod Written
 pub mod Scope
 pub mod Judging
+pub mod Derived

@@ -3,6 +3,7 @@
 
 pub mod amounts;
 pub mod checker;
+pub mod derive;
 pub mod fault;
 pub mod groups;
 pub mod judge;
