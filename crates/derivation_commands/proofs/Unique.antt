@@ -1,5 +1,5 @@
 -- what comes of a task is one
-use Rattle.std.proofs.Common.{◌≡◌, ◌∙◌, ℕ, List, Some, ap, refl, subst, sym}
+use Rattle.std.proofs.Common.{◌≡◌, ◌∙◌, ℕ, List, ap, subst, sym}
 use mathlib.Core.Logic.{inl, inr}
 use Rattle.fz_ast.specs.Signature.{Signature}
 use Rattle.answer_path.specs.Reading.{Reading, nested, read, stuck, unlexed}

@@ -6,7 +6,7 @@ use Rattle.catalog_loading.specs.Files.{Contents, ReadsToCome}
 use Rattle.catalog_loading.specs.Steps.{FileStep, ◌>>=◌, continued, done}
 use Rattle.catalog_loading.specs.Given.{IsStopAt}
 use Rattle.catalog_loading.specs.declared.stops.Stop.{Stop}
-use Rattle.catalog_loading.specs.declared.stops.Stop.TheVariants.{Usage, Refused, Journal, Disk, Fault, NoMemory}
+use Rattle.catalog_loading.specs.declared.stops.Stop.TheVariants.{Refused, Fault, NoMemory}
 use Rattle.derivation_commands.specs.Task.{Task}
 use Rattle.derivation_commands.specs.Outcome.{IsOutcomeOf}
 use Rattle.derivation_commands.specs.Held.{outcome_of}

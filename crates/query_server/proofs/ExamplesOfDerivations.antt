@@ -1,5 +1,5 @@
 -- worked examples of `derive` and `judge`: what they take, how they end, and which files their words name
-use Rattle.std.proofs.Common.{◌≡◌, ℕ, List, [], ◌∷◌, ◌++◌, Some, None, refl, arith}
+use Rattle.std.proofs.Common.{◌≡◌, ℕ, List, [], ◌∷◌, Some, None, refl, arith}
 use Rattle.std.specs.Prelude.{codes}
 use mathlib.Core.Logic.{inl, inr}
 use Rattle.command_words.specs.Command.{derive, judge}
