@@ -1,8 +1,8 @@
 //! The lines of derivations.
 
-use fz_ast::Arena;
 use derivation_lines::line::JudgeFault;
 use derivation_lines::lines::read_lines;
+use fz_ast::Arena;
 use std::alloc::{AllocError, Global};
 use std::test::Fail;
 

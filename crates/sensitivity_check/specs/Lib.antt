@@ -2,4 +2,3 @@ pub mod Answered
 pub mod Written
 pub mod Scope
 pub mod Judging
-pub mod Derived

@@ -3,7 +3,6 @@
 
 pub mod amounts;
 pub mod checker;
-pub mod derive;
 pub mod fault;
 pub mod groups;
 pub mod judge;
