@@ -1,4 +1,5 @@
 pub mod Done
 pub mod Unique
 pub mod Bounded
+pub mod Verdicts
 mod Examples
