@@ -13,7 +13,7 @@ use Rattle.catalog_loading.specs.declared.stops.Stop.{Stop}
 use Rattle.catalog_loading.proofs.Fits.{opened_lawful}
 use Rattle.catalog_loading.proofs.Loaded.{names_of}
 use Rattle.catalog_loading.proofs.Reached.{IsDone, IsStopped, any_reads}
-use Rattle.fz_derive.specs.Written.{longest}
+use Rattle.derivation_lines.specs.Written.{longest}
 use Rattle.derivation_commands.specs.Task.{Subject, Task}
 use Rattle.derivation_commands.specs.Outcome.{IsOutcomeOf}
 use Rattle.derivation_commands.specs.Held.{outcome_of}

@@ -16,7 +16,7 @@ use Rattle.answer_path.specs.Reading.{nested, stuck, unlexed}
 use Rattle.answer_path.specs.Admission.{refused_for, walks_too_much}
 use Rattle.derivation_commands.specs.Task.{derive_steps, judge_steps, to_derive, to_judge}
 use Rattle.derivation_commands.specs.Outcome.{IsDerivedBy, IsJudgedBy, Outcome, if_short, no_text, refusal_text, refused, too_long, written, yes_text}
-use Rattle.fz_derive.specs.Written.{longest}
+use Rattle.derivation_lines.specs.Written.{longest}
 
 -- ---- the order of work: each step is refused where all before it are done
 

@@ -1,5 +1,6 @@
 pub mod Done
 pub mod Unique
 pub mod Bounded
+pub mod Verdicts
 pub mod Yes
 mod Examples

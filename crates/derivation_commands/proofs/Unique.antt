@@ -6,8 +6,8 @@ use Rattle.answer_path.specs.Reading.{Reading, nested, read, stuck, unlexed}
 use Rattle.answer_path.specs.Admission.{Admission, accepted, admission_of, refused_for, walks_too_much}
 use Rattle.answer_path.proofs.Readings.{one_reading}
 use Rattle.fz_derive.specs.Least.{Derived, lines_of}
-use Rattle.fz_derive.specs.Written.{derivation_text}
-use Rattle.fz_derive.proofs.Once.{number_or_line, one_line, one_number}
+use Rattle.derivation_lines.specs.Written.{derivation_text}
+use Rattle.fz_derive.proofs.OneAnswer.{number_or_line, one_line, one_number}
 use Rattle.derivation_commands.specs.Task.{Subject, Task, to_derive, to_judge}
 use Rattle.derivation_commands.specs.Outcome.{IsDeriveOutcome, IsDerivedBy, IsJudgeOutcome, IsJudgedBy, IsOutcomeOf, Outcome, if_short, no_text, refused, too_long, written, yes_text}
 

@@ -8,7 +8,7 @@ use Rattle.answer_path.specs.Reading.{IsReading, Reading, nested, read, stuck, u
 use Rattle.answer_path.specs.Admission.{Admission, accepted, admission_of, refused_for, walks_too_much}
 use Rattle.fz_derive.specs.Judged.{IsJudged, IsMisjudged, names_of}
 use Rattle.fz_derive.specs.Least.{Derived, least, lines_of}
-use Rattle.fz_derive.specs.Written.{derivation_text, longest}
+use Rattle.derivation_lines.specs.Written.{derivation_text, longest}
 use Rattle.derivation_commands.specs.Task.{Task, to_derive, to_judge}
 
 pub data Outcome : Type 0 where

@@ -3,7 +3,7 @@
 ghost use Rattle.std.specs.Prelude.{◌≡◌, ◌≤◌, IfOk, IsErrOf, OnOk, length};
 ghost use Rattle.fz_outside.specs.Faults.{HasCause, HasRisen};
 ghost use Rattle.catalog_loading.specs.Given.{IsStep};
-ghost use Rattle.fz_derive.specs.Written.{longest};
+ghost use Rattle.derivation_lines.specs.Written.{longest};
 ghost use Rattle.derivation_commands.specs.Task.{judge_steps};
 ghost use Rattle.derivation_commands.specs.Outcome.{IsJudgeOutcome};
 ghost use Rattle.derivation_commands.specs.Ends.{EndsSo};
@@ -14,8 +14,7 @@ use crate::lines::{fault_line, refusal_line, sensitivity_line};
 use crate::reading::{Subject, read_subject};
 use answer_path::read_program;
 use catalog_loading::{Stop, read_file};
-use fz_derive::judge::judge;
-use fz_derive::line::JudgeFault;
+use fz_derive::judge::{JudgeFault, judge};
 use fz_frac::Sens;
 use fz_outside::files::Files;
 use std::alloc::{AllocError, Global};

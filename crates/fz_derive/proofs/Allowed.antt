@@ -10,10 +10,10 @@ use Rattle.fz_ast.specs.Terms.{Name}
 use Rattle.fz_ast.specs.Types.{Formed, ArrowT, BagT, BangT, BoolT, NumT, SumT, TensorT, TextT, Ty, UnflatBag, UngroundSum, UnlimitedT, WellFormed, WithT, formed, is_flat, is_ground, same_type}
 use Rattle.term_meanings.specs.Scopes.{Closed, Context, Under}
 use Rattle.fz_derive.specs.Derivable.{Allows, AreSaidNames, IsAtMost, IsNamed, inmost, outer}
-use Rattle.fz_derive.specs.Faults.{are_in_scope, is_fine, is_in_scope, suffices, suffices_at}
-use Rattle.fz_derive.specs.Lines.{Line, Said, amount_in}
-use Rattle.fz_derive.specs.Numbers.{Amounts, Numbers, bound_sums, endless_both, endless_sums, same_as, says_at, sums, without}
-use Rattle.fz_derive.specs.Rows.{Row, app_of, eq_of, fst_of, is_bag, is_sum, is_tensor, let_bang_of, map_of, need, row, snd_of, test_of, type_in, well}
+use Rattle.derivation_rows.specs.Faults.{are_in_scope, is_fine, is_in_scope, suffices, suffices_at}
+use Rattle.derivation_lines.specs.Lines.{Line, Said, amount_in}
+use Rattle.derivation_rows.specs.Numbers.{Amounts, Numbers, bound_sums, endless_both, endless_sums, same_as, says_at, sums, without}
+use Rattle.derivation_rows.specs.Rows.{Row, app_of, eq_of, fst_of, is_bag, is_sum, is_tensor, let_bang_of, map_of, need, row, snd_of, test_of, type_in, well}
 
 pub not_true : (b : Bool) → not b ≡ true → b ≡ false
 not_true true h = cc

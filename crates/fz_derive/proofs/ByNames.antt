@@ -13,8 +13,8 @@ use Rattle.term_meanings.specs.Sensitivities.{Sensitivities, above_zero, join, p
 use Rattle.fz_derive.specs.ByPlace.{Covers, Derivable, Within, by_place}
 use Rattle.fz_derive.specs.ByPlace as place
 use Rattle.fz_derive.specs.Derivable.{Allows, Derives, IsAtMost, IsNamed, inmost, outer, is_app, is_at_most, is_bang, is_case, is_clip, is_eq_num, is_eq_text, is_filter, is_fn, is_fst, is_fun, is_greatest, is_if, is_inl, is_inr, is_least, is_let, is_let_bang, is_let_pair, is_map, is_minus, is_num, is_pair, is_plus, is_size, is_snd, is_split, is_sum, is_text, is_times, is_union, is_unit, is_var, is_with}
-use Rattle.fz_derive.specs.Lines.{Line, amount_in}
-use Rattle.fz_derive.specs.Numbers.{Amounts, Numbers, ranged, says_at, with_number, without}
+use Rattle.derivation_lines.specs.Lines.{Line, amount_in}
+use Rattle.derivation_rows.specs.Numbers.{Amounts, Numbers, ranged, says_at, with_number, without}
 
 same_name : (x y : Name) → bytes_eq x y ≡ true → x ≡ y
 same_name x y h = (bytes_eq-Decides x y).0 h

@@ -21,11 +21,11 @@ use Rattle.fz_lexer.specs.declared.token.Token.{Token}
 use Rattle.fz_parser.proofs.Parsing.{sensitivity_or_stuck, type_or_stuck}
 use Rattle.fz_parser.specs.Grammar.{IsSensitivityOf, IsTypeOf}
 use Rattle.fz_parser.specs.Reading.{IsSensitivityOrStuck, IsTypeOrStuck}
-use Rattle.fz_derive.proofs.Once.{first_once, is_not, pieces_once}
+use Rattle.derivation_lines.proofs.Once.{first_once, is_not, pieces_once}
 use Rattle.fz_derive.specs.Judged.{IsJudged, IsMisjudged, fault_of, greatest_said}
-use Rattle.fz_derive.specs.Lines.{AreInOrder, Line, Said, line_at, names_said}
-use Rattle.fz_derive.specs.Nodes.{nodes_of}
-use Rattle.fz_derive.specs.Texts.{ArePieces, AreLines, AreSaidTexts, BeginWith, IsFaultyLine, IsLineText, IsSaidText, IsTypeText, NoLine, bar, lacks, line_feed}
+use Rattle.derivation_lines.specs.Lines.{AreInOrder, Line, Said, line_at, names_said}
+use Rattle.derivation_rows.specs.Nodes.{nodes_of}
+use Rattle.derivation_lines.specs.Texts.{ArePieces, AreLines, AreSaidTexts, BeginWith, IsFaultyLine, IsLineText, IsSaidText, IsTypeText, NoLine, bar, lacks, line_feed}
 
 -- there is one, or there is none
 abbrev Either : {A : Type 0} → (A → Type 0) → Type 0

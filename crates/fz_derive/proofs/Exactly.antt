@@ -12,10 +12,10 @@ use Rattle.fz_derive.proofs.Segments.{Holds}
 use Rattle.fz_derive.proofs.Whole.{derivable_bounded, derivable_value, first_line}
 use Rattle.fz_derive.specs.Bound.{HasBound}
 use Rattle.fz_derive.specs.Derivable.{Derives, IsDerivable}
-use Rattle.fz_derive.specs.Faults.{fault_in}
+use Rattle.derivation_rows.specs.Faults.{fault_in}
 use Rattle.fz_derive.specs.Judged.{IsJudged, fault_of, greatest_said, is_bounded, names_of}
-use Rattle.fz_derive.specs.Lines.{Line, line_at}
-use Rattle.fz_derive.specs.Nodes.{nodes_of}
+use Rattle.derivation_lines.specs.Lines.{Line, line_at}
+use Rattle.derivation_rows.specs.Nodes.{nodes_of}
 
 bounded_first : (b : Bool) (o : Option ℕ) → cond b o (Some 0) ≡ None → (b ≡ true) × (o ≡ None)
 bounded_first true o h = (refl, h)

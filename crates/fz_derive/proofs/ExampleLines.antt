@@ -5,8 +5,8 @@ use Rattle.fz_ast.specs.Types.{NumT, Ty}
 use Rattle.fz_ast.specs.Bare.{nowhere}
 use Rattle.fz_frac.specs.Distance.{Distance, Fin}
 use Rattle.term_meanings.specs.Scopes.{Closed, Context, Under}
-use Rattle.fz_derive.specs.Faults.{fault_in}
-use Rattle.fz_derive.specs.Lines.{Line, Said}
+use Rattle.derivation_rows.specs.Faults.{fault_in}
+use Rattle.derivation_lines.specs.Lines.{Line, Said}
 
 abbrev pub n : Name
 n = codes "n"

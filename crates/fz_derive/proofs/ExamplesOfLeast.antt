@@ -10,9 +10,9 @@ use Rattle.fz_ast.specs.Types.{ArrowT, BagT, BangT, BoolT, NumT, SumT, TensorT, 
 use Rattle.term_meanings.specs.Scopes.{Closed, Context, Under}
 use Rattle.fz_derive.proofs.ExampleLines.{given, given_two, line, line_two, n, number, quiet, says, term, var, x, y}
 use Rattle.fz_derive.specs.Least.{least, lines_of, put, said_of_each, sorted_names}
-use Rattle.fz_derive.specs.Lines.{Line, Said}
-use Rattle.fz_derive.specs.Numbers.{nothing, named}
-use Rattle.fz_derive.specs.Written.{derivation_text, type_text}
+use Rattle.derivation_lines.specs.Lines.{Line, Said}
+use Rattle.derivation_rows.specs.Numbers.{nothing, named}
+use Rattle.derivation_lines.specs.Written.{derivation_text, type_text}
 
 -- its lines, or none
 abbrev lines : Context → TermForm → Option (List Line)

@@ -11,8 +11,8 @@ use Rattle.fz_ast.specs.Types.{BagT, NumT, SumT, TensorT, TextT, Ty, UnitT}
 use Rattle.fz_derive.proofs.ExampleLines.{line, line_two, number, quiet, says, term, var, x, y}
 use Rattle.fz_derive.specs.Judged.{fault_of, greatest_said, names_of}
 use Rattle.fz_derive.specs.Least.{least, lines_of}
-use Rattle.fz_derive.specs.Lines.{Line, line_at}
-use Rattle.fz_derive.specs.Written.{derivation_text}
+use Rattle.derivation_lines.specs.Lines.{Line, line_at}
+use Rattle.derivation_lines.specs.Written.{derivation_text}
 
 abbrev pub people : Name
 people = codes "people"

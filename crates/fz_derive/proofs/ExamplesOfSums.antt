@@ -6,7 +6,7 @@ use Rattle.fz_frac.specs.Lowest.{gcd, gcd_in, is_out}
 use Rattle.fz_ast.specs.Terms.{CaseE, IfE, InlE, InrE, VarE}
 use Rattle.fz_ast.specs.Types.{ArrowT, BagT, BangT, BoolT, NumT, SumT, TensorT, TextT, UnitT, UnlimitedT, WithT}
 use Rattle.fz_ast.specs.Bare.{nowhere}
-use Rattle.fz_derive.specs.Lines.{line_at}
+use Rattle.derivation_lines.specs.Lines.{line_at}
 use Rattle.term_meanings.specs.Scopes.{Closed, Under}
 use Rattle.fz_derive.proofs.ExampleLines.{below, fault, given, given_two, line, line_two, n, number, quiet, says, term, var, x, y}
 

@@ -16,15 +16,14 @@ use Rattle.fz_lexer.specs.declared.token.Word.{Word}
 use Rattle.fz_lexer.specs.declared.token.Word.TheVariants.{Fun, Fn, Let, In, Case, Of, Inl, Inr, If, Then, Else, Fst, Snd, True, False, Num, Text}
 use Rattle.fz_lexer.specs.declared.token.Word.TheVariants.{Unit as UnitWord, Bool as BoolWord, Bag, Inf, Size, Sum, Clip, Least, Greatest, Map, Filter, Split, Union, Do, Release, At}
 use Rattle.fz_parser.proofs.Limits.{sensitivity_limits}
-use Rattle.fz_parser.proofs.Types.{written_sensitivities_read_back, written_types_read_back}
 use Rattle.fz_derive.proofs.ExampleLines.{line, line_two, quiet, says, x, y}
 use Rattle.fz_derive.proofs.ExamplesOfPrograms.{bag_line, one_table, orders, people, size_of_people}
-use Rattle.fz_derive.proofs.ReadBack.{read_back}
+use Rattle.derivation_lines.proofs.ReadBack.{read_back}
 use Rattle.fz_derive.specs.Judged.{IsJudged, IsMisjudged, IsWrongAt, fault_of}
-use Rattle.fz_derive.specs.Lines.{Line, line_at}
-use Rattle.fz_derive.specs.Readable.{IsReadable, IsSayable, IsWord}
-use Rattle.fz_derive.specs.Texts.{AreLines, BeginWith, IsFaultyLine, IsLineText, IsSaidText, NoLine, bar, line_feed}
-use Rattle.fz_derive.specs.Written.{derivation_text}
+use Rattle.derivation_lines.specs.Lines.{Line, line_at}
+use Rattle.derivation_lines.specs.Readable.{IsReadable, IsSayable, IsWord}
+use Rattle.derivation_lines.specs.Texts.{AreLines, BeginWith, IsFaultyLine, IsLineText, IsSaidText, NoLine, bar, line_feed}
+use Rattle.derivation_lines.specs.Written.{derivation_text}
 
 -- the name of a table is a word of its own
 
@@ -97,7 +96,7 @@ unfolding IsStrictlySortedBy
 num_readable = record { limits = tt; each = tt; order = tt }
 
 reads : (lines : List Line) → AllByRecursion IsReadable lines → AreLines (derivation_text lines) lines
-reads = read_back (written_types_read_back, written_sensitivities_read_back)
+reads = read_back
 
 abbrev num_line : Line
 num_line = line NumT people one

@@ -13,12 +13,12 @@ use Rattle.term_meanings.specs.Scopes.{Closed, Context, Under, size_of, widest_o
 use Rattle.fz_derive.proofs.Allowed.{Fine, allowed, allows, bag_of, holding, holding_type, in_named, is_well, named_in, needed, needed_app, needed_eq, needed_fst, needed_map, needed_snd, needed_test, needed_type, needed_unbang, not_true, sum_of, tensor_of, well_is}
 use Rattle.fz_derive.proofs.Segments.{Holds, holds_back, holds_first, holds_front, holds_rest, part, part_append, part_cons}
 use Rattle.fz_derive.specs.Derivable.{Allows, Derives, IsDerivable, IsNamed, is_app, is_at_most, is_bang, is_case, is_clip, is_eq_num, is_eq_text, is_filter, is_fn, is_fst, is_fun, is_greatest, is_if, is_inl, is_inr, is_least, is_let, is_let_bang, is_let_pair, is_map, is_minus, is_num, is_pair, is_plus, is_size, is_snd, is_split, is_sum, is_text, is_times, is_union, is_unit, is_var, is_with}
-use Rattle.fz_derive.specs.Faults.{fault_in, first_of, first_type, is_fine, node, second_at, second_type, third_at}
+use Rattle.derivation_rows.specs.Faults.{fault_in, first_of, first_type, is_fine, node, second_at, second_type, third_at}
 use Rattle.fz_derive.specs.Judged.{fault_of, is_bounded, names_of}
-use Rattle.fz_derive.specs.Lines.{Line, line_at}
-use Rattle.fz_derive.specs.Nodes.{nodes_of}
-use Rattle.fz_derive.specs.Numbers.{Numbers, endless_both, named, says_at, sums}
-use Rattle.fz_derive.specs.Rows.{Row, app_of, app_row, bang_row, case_row, filter_row, inl_row, inr_row, let_row, pair_row, split_row, with_row, clip_row, eq_of, eq_row, fn_row, fst_of, fst_row, fun_row, halves, if_row, is_bag, is_sum as is_sum_type, is_tensor, leaf_row, le_row, least_row, let_bang_of, let_bang_row, let_pair_row, map_of, map_row, plus_row, row, size_row, snd_of, snd_row, sum_row, test_of, times_row, type_in, union_row, var_row, well}
+use Rattle.derivation_lines.specs.Lines.{Line, line_at}
+use Rattle.derivation_rows.specs.Nodes.{nodes_of}
+use Rattle.derivation_rows.specs.Numbers.{Numbers, endless_both, named, says_at, sums}
+use Rattle.derivation_rows.specs.Rows.{Row, app_of, app_row, bang_row, case_row, filter_row, inl_row, inr_row, let_row, pair_row, split_row, with_row, clip_row, eq_of, eq_row, fn_row, fst_of, fst_row, fun_row, halves, if_row, is_bag, is_sum as is_sum_type, is_tensor, leaf_row, le_row, least_row, let_bang_of, let_bang_row, let_pair_row, map_of, map_row, plus_row, row, size_row, snd_of, snd_row, sum_row, test_of, times_row, type_in, union_row, var_row, well}
 
 -- the lines of a term from k on are derived
 pub record Stands (L : List Line) (Γ : Context) (e : Term) (k : ℕ) : Type 0 where

@@ -12,10 +12,10 @@ use Rattle.fz_ast.specs.Terms.{Name, Term, at, VarE, NumE, TextE, UnitE, PairE, 
 use Rattle.fz_ast.specs.Terms.{BangE, LetBangE, LetE, PlusE, MinusE, TimesE, LeE, EqE, ClipE, LeastE, GreatestE, SizeE, SumE, UnionE, MapE, FilterE, SplitE}
 use Rattle.term_meanings.specs.Scopes.{Context, Closed, Under, size_of, widest_of}
 use Rattle.term_meanings.specs.Sensitivities.{above_zero}
-use Rattle.fz_derive.specs.Lines.{Said, Line, amount_in}
-use Rattle.fz_derive.specs.Numbers.{Numbers, says_at, without, greater_at, nothing, named, same_as, sums, products, bound_sums, endless_sums, endless_both}
-use Rattle.fz_derive.specs.Rows.{Row, row, need, well, type_in, var_row, is_tensor, is_sum as is_sum_type, is_bag, fst_of, snd_of, app_of, eq_of, let_bang_of, map_of, test_of, halves}
-use Rattle.fz_derive.specs.Faults.{first_type, second_type}
+use Rattle.derivation_lines.specs.Lines.{Said, Line, amount_in}
+use Rattle.derivation_rows.specs.Numbers.{Numbers, says_at, without, greater_at, nothing, named, same_as, sums, products, bound_sums, endless_sums, endless_both}
+use Rattle.derivation_rows.specs.Rows.{Row, row, need, well, type_in, var_row, is_tensor, is_sum as is_sum_type, is_bag, fst_of, snd_of, app_of, eq_of, let_bang_of, map_of, test_of, halves}
+use Rattle.derivation_rows.specs.Faults.{first_type, second_type}
 use Rattle.fz_derive.specs.Derivable.{Allows, Derives, IsNamed, inmost, outer}
 use Rattle.fz_derive.specs.Derivable.{is_var, is_num, is_text, is_unit, is_pair, is_with, is_fst, is_snd, is_let_pair, is_inl, is_inr, is_case, is_if, is_fun, is_fn, is_app, is_bang, is_let_bang, is_let, is_plus, is_minus, is_times, is_at_most, is_eq_num, is_eq_text, is_clip, is_least, is_greatest, is_size, is_sum, is_union, is_map, is_filter, is_split}
 use Rattle.fz_derive.specs.Least.{Derived, above, derived_with, least, lines_of, said_of_each, sorted_names, with_part}

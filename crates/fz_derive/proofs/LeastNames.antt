@@ -11,15 +11,15 @@ use Rattle.std.proofs.lemmas.Cmp.{nat_list_cmp_total}
 use Rattle.std.proofs.lemmas.Map.Lookups.{exact_bytes}
 use Rattle.std.proofs.lemmas.Slice.Eq.{bytes_eq-Decides}
 use Rattle.std.proofs.lemmas.Bool.{cases_Bool}
-use Rattle.fz_frac.specs.Distance.{Distance, Fin, Inf, den, is_le, none, ◌⊑◌}
+use Rattle.fz_frac.specs.Distance.{Distance, Fin, Inf, den, is_le, none, ◌⊑◌, ◌≈◌}
 use Rattle.fz_frac.specs.Lowest.{lowest, gcd}
-use Rattle.fz_frac.proofs.Laws.{den_of, den_pos, is_le-yes, none-least, ⊑-refl, ⊑-trans}
+use Rattle.fz_frac.proofs.Laws.{den_of, den_pos, is_le-yes, none-least, ≈-refl}
 use Rattle.fz_frac.proofs.Lowest.{Lowest, lowest as parts_of}
 use Rattle.fz_ast.specs.Terms.{Name}
 use Rattle.fz_ast.specs.Types.{Ty}
 use Rattle.term_meanings.specs.Scopes.{Context, Closed, Under}
-use Rattle.fz_derive.specs.Lines.{AreInOrder, Said, Line, amount_in, names_said}
-use Rattle.fz_derive.specs.Numbers.{Numbers}
+use Rattle.derivation_lines.specs.Lines.{AreInOrder, Said, Line, amount_in, names_said}
+use Rattle.derivation_rows.specs.Numbers.{Numbers}
 use Rattle.fz_derive.specs.Derivable.{AreSaidNames, IsAtMost, IsNamed, inmost, outer}
 use Rattle.fz_derive.specs.Least.{put, put_before, said_first, said_of_each, sorted_names}
 
@@ -153,32 +153,67 @@ said_order (x ∷ xs) n ss h q =
 
 -- and enough of each name
 
-cross : (p q n d g : ℕ) → p ≡ g * n → q ≡ g * d → p * d ≤ n * q
+cross : (p q n d g : ℕ) → p ≡ g * n → q ≡ g * d → p * d ≡ n * q
 cross p q n d g a b = rw (a, b) (omega arith)
 
-den_le : (q m : ℕ) → den (den q) ≡ den q
-den_le q m = den_of (den q) (den_pos q)
-
-pub below_lowest : (d : Distance) → d ⊑ lowest d
-below_lowest Inf = ⊑-refl Inf
-below_lowest (Fin p q) =
+pub lowest_same : (d : Distance) → lowest d ≈ d
+lowest_same Inf = ≈-refl Inf
+lowest_same (Fin p q) =
     let l = parts_of p (den q) (den_pos q) in let g = gcd p (den q) in
     let e : den (den q / g) ≡ den q / g = den_of (den q / g) l.pos_d in
-    record { le = rw e (cross p (den q) (p / g) (den q / g) g l.top l.low) }
+    let f : p * (den q / g) ≡ (p / g) * den q = cross p (den q) (p / g) (den q / g) g l.top l.low in
+    record { le = record { le = rw e (omega arith) }; ge = record { le = rw e (omega arith) } }
 
-pub said_enough : (x : Name) (xs : List Name) (n : Numbers) (ss : List Said) → said_of_each xs n ≡ Some ss → IsAmong x xs → IsAtMost (n x) (amount_in ss x)
-said_enough x [] n ss h m = absurd m
-said_enough x (y ∷ xs) n ss h m =
+-- what is said of a name that is at 0
+said_none : (x : Name) (xs : List Name) (n : Numbers) (ss : List Said) (v : Distance) → said_of_each xs n ≡ Some ss → n x ≡ Some v → is_le v none ≡ true → amount_in ss x ≡ none
+said_none x [] n ss v h o z = let e : [] ≡ ss = cc h in subst (λ z. amount_in z x ≡ none) e refl
+said_none x (y ∷ xs) n ss v h o z =
     let s = says y (n y) (said_of_each xs n) ss h in
-    subst (λ z. IsAtMost (n x) (amount_in z x)) (sym s.all) (one s.number s.later s.is (is_le s.number none) refl m (λ k. said_enough x xs n s.later s.rest k) (bytes_eq y x) refl)
+    subst (λ w. amount_in w x ≡ none) (sym s.all) (one s.number s.later s.is (is_le s.number none) refl (bytes_eq y x) refl (said_none x xs n s.later v s.rest o z))
   where
-    at_one : (d : Distance) → n y ≡ Some d → y ≡ x → (a : Distance) → d ⊑ a → IsAtMost (n x) a
-    at_one d o e a l = subst (λ (o : Option Distance). IsAtMost o a) (sym o ∙ ap n e) l
+    one : (d : Distance) (later : List Said) → n y ≡ Some d → (b : Bool) → is_le d none ≡ b → (c : Bool) → bytes_eq y x ≡ c → amount_in later x ≡ none
+        → amount_in (cond b later ((record { name = y; amount = lowest d }) ∷ later)) x ≡ none
+    one d later i true e c j f = f
+    one d later i false e false j f = rw j f
+    one d later i false e true j f = let k : y ≡ x = (bytes_eq-Decides y x).0 j in let m : Some d ≡ Some v = sym i ∙ ap n k ∙ o in let q : d ≡ v = cc m in absurd (cc (e, z, ap (λ w. is_le w none) q))
 
-    one : (d : Distance) (later : List Said) → n y ≡ Some d → (b : Bool) → is_le d none ≡ b → (y ≡ x) ⊎ IsAmong x xs → (IsAmong x xs → IsAtMost (n x) (amount_in later x))
-        → (c : Bool) → bytes_eq y x ≡ c → IsAtMost (n x) (amount_in (cond b later ((record { name = y; amount = lowest d }) ∷ later)) x)
-    one d later o true e (inl i) f c j = at_one d o i _ (⊑-trans d none (amount_in later x) (is_le-yes d none e) (none-least _))
-    one d later o true e (inr m) f c j = f m
-    one d later o false e m f true j = rw j (at_one d o ((bytes_eq-Decides y x).0 j) _ (below_lowest d))
-    one d later o false e (inl i) f false j = absurd (cc (j, (bytes_eq-Decides y x).1 i))
-    one d later o false e (inr m) f false j = rw j (f m)
+-- what is said of a name is the rule's number
+pub said_same : (x : Name) (xs : List Name) (n : Numbers) (ss : List Said) (v : Distance) → said_of_each xs n ≡ Some ss → IsAmong x xs → n x ≡ Some v → amount_in ss x ≈ v
+said_same x [] n ss v h m o = absurd m
+said_same x (y ∷ xs) n ss v h m o =
+    let s = says y (n y) (said_of_each xs n) ss h in
+    subst (λ z. amount_in z x ≈ v) (sym s.all)
+    (one s.number s.later s.is (is_le s.number none) refl m (λ k. said_same x xs n s.later v s.rest k o) (λ z. said_none x xs n s.later v s.rest o z) (bytes_eq y x) refl)
+  where
+    at_one : (d : Distance) → n y ≡ Some d → y ≡ x → d ≡ v
+    at_one d i e = let m : Some d ≡ Some v = sym i ∙ ap n e ∙ o in cc m
+
+    zero : (d : Distance) → d ≡ v → is_le d none ≡ true → (a : Distance) → a ≡ none → a ≈ v
+    zero d e l a i = rw i (record { le = none-least v; ge = is_le-yes v none (subst (λ z. is_le z none ≡ true) e l) })
+
+    one : (d : Distance) (later : List Said) → n y ≡ Some d → (b : Bool) → is_le d none ≡ b → (y ≡ x) ⊎ IsAmong x xs → (IsAmong x xs → amount_in later x ≈ v)
+        → (is_le v none ≡ true → amount_in later x ≡ none) → (c : Bool) → bytes_eq y x ≡ c → amount_in (cond b later ((record { name = y; amount = lowest d }) ∷ later)) x ≈ v
+    one d later i true e (inl k) f g c j = let q = at_one d i k in zero d q e (amount_in later x) (g (subst (λ z. is_le z none ≡ true) q e))
+    one d later i true e (inr k) f g c j = f k
+    one d later i false e k f g true j = let q = at_one d i ((bytes_eq-Decides y x).0 j) in rw j (subst (λ z. lowest d ≈ z) q (lowest_same d))
+    one d later i false e (inl k) f g false j = absurd (cc (j, (bytes_eq-Decides y x).1 k))
+    one d later i false e (inr k) f g false j = rw j (f k)
+
+-- where something is said of each, each has a number
+some_number : (x : Name) (xs : List Name) (n : Numbers) (ss : List Said) → said_of_each xs n ≡ Some ss → IsAmong x xs → n x ≡ None → ⊥
+some_number x [] n ss h m e = m
+some_number x (y ∷ xs) n ss h (inl k) e = let s = says y (n y) (said_of_each xs n) ss h in let f : Some s.number ≡ None = sym s.is ∙ ap n k ∙ e in cc f
+some_number x (y ∷ xs) n ss h (inr k) e = let s = says y (n y) (said_of_each xs n) ss h in some_number x xs n s.later s.rest k e
+
+-- and where each has one, something is said
+pub said_some : (xs : List Name) (n : Numbers) → AllByRecursion (λ x. (v : Distance) × (n x ≡ Some v)) xs → (ss : List Said) × (said_of_each xs n ≡ Some ss)
+said_some [] n h = ([], refl)
+said_some (x ∷ xs) n h = let i = said_some xs n h.1 in let v = h.0.0 in (cond (is_le v none) i.0 ((record { name = x; amount = lowest v }) ∷ i.0), rw (h.0.1, i.1) refl)
+
+-- so it is enough
+pub said_enough : (x : Name) (xs : List Name) (n : Numbers) (ss : List Said) → said_of_each xs n ≡ Some ss → IsAmong x xs → IsAtMost (n x) (amount_in ss x)
+said_enough x xs n ss h m = go (n x) refl
+  where
+    go : (o : Option Distance) → n x ≡ o → IsAtMost o (amount_in ss x)
+    go None e = absurd (some_number x xs n ss h m e)
+    go (Some v) e = (said_same x xs n ss v h m e).ge

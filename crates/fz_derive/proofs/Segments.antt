@@ -2,7 +2,7 @@
 use Rattle.std.proofs.Common.{◌≡◌, ℕ, suc, ◌+◌, ◌≤◌, ◌<◌, List, [], ◌∷◌, ◌++◌, take, drop, length, get_or, refl, ap, sym, arith, subst, ◌∙◌}
 use Rattle.std.proofs.lemmas.List.{append_assoc, drop-drop, drop-take, drop_more, get_or_at, length-append, take-append-drop, take-take}
 use Rattle.fz_ast.specs.Types.{UnitT}
-use Rattle.fz_derive.specs.Lines.{Line, line_at}
+use Rattle.derivation_lines.specs.Lines.{Line, line_at}
 
 -- n lines from k on
 abbrev pub part : List Line → ℕ → ℕ → List Line

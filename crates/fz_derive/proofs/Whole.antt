@@ -18,8 +18,8 @@ use Rattle.fz_derive.proofs.Programs.{bounded, greatest_in, has_value}
 use Rattle.fz_derive.specs.ByPlace.{Derivable, by_place}
 use Rattle.fz_derive.specs.Derivable.{Derives, IsDerivable}
 use Rattle.fz_derive.specs.Judged.{are_finite, greatest_said, is_bounded, names_of}
-use Rattle.fz_derive.specs.Lines.{Line, Said, amount_in, line_at}
-use Rattle.fz_derive.specs.Numbers.{Amounts, says_at, without}
+use Rattle.derivation_lines.specs.Lines.{Line, Said, amount_in, line_at}
+use Rattle.derivation_rows.specs.Numbers.{Amounts, says_at, without}
 
 pub said_at_most : (ss : List Said) (x : Name) → amount_in ss x ⊑ greatest_said ss
 said_at_most [] x = ⊑-refl none

@@ -8,7 +8,7 @@ use Rattle.fz_ast.specs.Terms.{InlE, InrE, CaseE, IfE, FunE, FnE, AppE, BangE, L
 use Rattle.fz_ast.specs.Terms.{TimesE, LeE, EqE, ClipE, LeastE, GreatestE, SizeE, SumE, UnionE, MapE, FilterE, SplitE}
 use Rattle.fz_ast.specs.Limits.{IsNumber, IsText, IsBang, TypeLimits}
 use Rattle.term_meanings.specs.Sensitivities.{Sensitivities, first, rest, plus, join, scale, above_zero}
-use Rattle.fz_derive.specs.Numbers.{Amounts, without}
+use Rattle.derivation_rows.specs.Numbers.{Amounts, without}
 use Rattle.term_meanings.specs.Scopes.{Closed, Context, IsBound, IsType, Under, size_of, widest_of}
 
 -- the numbers of the names in scope by their places: a hidden name is at 0

@@ -12,8 +12,8 @@ use Rattle.fz_ast.specs.Terms.{TimesE, LeE, EqE, ClipE, LeastE, GreatestE, SizeE
 use Rattle.term_meanings.specs.Scopes.{Context, Closed, Under, size_of, widest_of}
 use Rattle.term_meanings.specs.Sensitivities.{above_zero}
 use Rattle.fz_derive.specs.Judged.{names_of, is_bounded}
-use Rattle.fz_derive.specs.Lines.{Said, Line, amount_in}
-use Rattle.fz_derive.specs.Numbers.{Amounts, Numbers, says_at, without, greater_at, nothing, named, same_as, sums, products, bound_sums, endless_sums, endless_both}
+use Rattle.derivation_lines.specs.Lines.{Said, Line, amount_in}
+use Rattle.derivation_rows.specs.Numbers.{Amounts, Numbers, says_at, without, greater_at, nothing, named, same_as, sums, products, bound_sums, endless_sums, endless_both}
 
 -- x is in scope, and its innermost place has type A
 pub data IsNamed : Context → Name → Ty → Type 0 where

@@ -5,10 +5,10 @@ use Rattle.fz_ast.specs.Signature.{Signature, table_type}
 use Rattle.fz_ast.specs.Terms.{Term}
 use Rattle.fz_ast.specs.Types.{NumT, same_type}
 use Rattle.term_meanings.specs.Scopes.{Context, Closed, Under}
-use Rattle.fz_derive.specs.Lines.{Said, Line, line_at}
-use Rattle.fz_derive.specs.Nodes.{nodes_of}
-use Rattle.fz_derive.specs.Faults.{fault_in}
-use Rattle.fz_derive.specs.Texts.{AreLines, IsFaultyLine}
+use Rattle.derivation_lines.specs.Lines.{Said, Line, line_at}
+use Rattle.derivation_rows.specs.Nodes.{nodes_of}
+use Rattle.derivation_rows.specs.Faults.{fault_in}
+use Rattle.derivation_lines.specs.Texts.{AreLines, IsFaultyLine}
 
 -- the tables are the names in scope
 abbrev pub names_of : Signature → Context

@@ -16,8 +16,8 @@ use Rattle.fz_derive.specs.ByPlace.{Derivable, by_place}
 use Rattle.fz_derive.specs.Derivable.{Derives, IsDerivable}
 use Rattle.fz_derive.specs.Judged.{fault_of, greatest_said, names_of, IsJudged, IsMisjudged}
 use Rattle.fz_derive.specs.Least.{Derived, least, lines_of}
-use Rattle.fz_derive.specs.Lines.{Line, line_at, amount_in}
-use Rattle.fz_derive.specs.Nodes.{nodes_of}
+use Rattle.derivation_lines.specs.Lines.{Line, line_at, amount_in}
+use Rattle.derivation_rows.specs.Nodes.{nodes_of}
 
 -- what is derived by names is derived by places
 abbrev pub DerivedByPlace : Type 0

@@ -11,12 +11,12 @@ use Rattle.fz_ast.specs.Types.{Ty, NumT, TextT, UnitT}
 use Rattle.fz_ast.specs.Terms.{Name, Term, at, VarE, NumE, TextE, UnitE, PairE, WithE, FstE, SndE, LetPairE, InlE, InrE, CaseE, IfE, FunE, FnE, AppE}
 use Rattle.fz_ast.specs.Terms.{BangE, LetBangE, LetE, PlusE, MinusE, TimesE, LeE, EqE, ClipE, LeastE, GreatestE, SizeE, SumE, UnionE, MapE, FilterE, SplitE}
 use Rattle.term_meanings.specs.Scopes.{Context, Closed, Under}
-use Rattle.fz_derive.specs.Lines.{Said, Line}
-use Rattle.fz_derive.specs.Numbers.{Numbers}
-use Rattle.fz_derive.specs.Faults.{first_type, second_type}
-use Rattle.fz_derive.specs.Rows.{Row, var_row, type_in, leaf_row, pair_row, with_row, fst_row, snd_row, let_pair_row, inl_row, inr_row, case_row, if_row}
-use Rattle.fz_derive.specs.Rows.{fun_row, fn_row, app_row, bang_row, let_bang_row, let_row, plus_row, times_row, le_row, eq_row, clip_row, least_row}
-use Rattle.fz_derive.specs.Rows.{size_row, sum_row, union_row, map_row, filter_row, split_row}
+use Rattle.derivation_lines.specs.Lines.{Said, Line}
+use Rattle.derivation_rows.specs.Numbers.{Numbers}
+use Rattle.derivation_rows.specs.Faults.{first_type, second_type}
+use Rattle.derivation_rows.specs.Rows.{Row, var_row, type_in, leaf_row, pair_row, with_row, fst_row, snd_row, let_pair_row, inl_row, inr_row, case_row, if_row}
+use Rattle.derivation_rows.specs.Rows.{fun_row, fn_row, app_row, bang_row, let_bang_row, let_row, plus_row, times_row, le_row, eq_row, clip_row, least_row}
+use Rattle.derivation_rows.specs.Rows.{size_row, sum_row, union_row, map_row, filter_row, split_row}
 
 -- x in its place among names in byte order, once
 abbrev pub put_before : Ordering → Name → Name → List Name → List Name → List Name

@@ -8,9 +8,9 @@ use Rattle.fz_ast.specs.declared.span.Span.{Span}
 use Rattle.fz_ast.specs.declared.term.Form.{Form}
 use Rattle.fz_ast.specs.declared.term.Form.TheVariants.{Var, Num, Text, Unit as One, Unary as Op, Binary as Op2, Times, Ranged as Bounded}
 use Rattle.fz_ast.specs.declared.term.Form.TheVariants.{Inject, Bang, Let, LetBang, LetPair, If, Case, Lambda}
-use Rattle.fz_derive.specs.Faults.{second_at, third_at}
-use Rattle.fz_derive.specs.Nodes.{nodes_of}
-use Rattle.fz_derive.specs.declared.rows.Places.{Places}
+use Rattle.derivation_rows.specs.Faults.{second_at, third_at}
+use Rattle.derivation_rows.specs.Nodes.{nodes_of}
+use Rattle.derivation_rows.specs.declared.rows.Places.{Places}
 
 -- the term that a node of this form, at s, stands for
 abbrev pub node_term : Parts → Span → Form → Term

@@ -1,5 +1,6 @@
 //! What is proved of derivations.
 ghost use Rattle.fz_derive.specs.Law.{DerivableExactly, DerivableIsBounded, DerivedByPlace, DerivedHasValue, DerivedIsBounded, EitherForAllBytes, JudgedIsBounded, LinesAreNodes, NumberOrLine, OneLine, OneNumber};
+ghost use Rattle.fz_derive.specs.Names.{NamesAreOfTokens, WordsAreRead};
 
 /// What is derived by names is derived by the places of names, and what is derived so bounds how far a term's value moves, by meanings
 /// alone; and the term has a value.
@@ -28,4 +29,11 @@ pub fn one_judgement()
     ensures number { OneNumber }
     ensures either { NumberOrLine }
     ensures line { OneLine }
+{}
+
+/// The names of a term, those of variables and those that are bound, are among its tokens. So the names of a term that is read from
+/// bytes are names of the language, which a line can say.
+pub fn names_are_of_tokens()
+    ensures tokens { NamesAreOfTokens }
+    ensures words { WordsAreRead }
 {}

@@ -3,7 +3,7 @@ ghost use Rattle.std.specs.Prelude.{◌≡◌, ◌+◌, ◌<◌, ℕ, suc, lengt
 ghost use Rattle.fz_ast.specs.Parts.{Parts};
 ghost use Rattle.fz_ast.specs.TermNodes.{IsKnown, term_at};
 ghost use Rattle.fz_ast.specs.declared.span.Span.{Span};
-ghost use Rattle.fz_derive.specs.Nodes.{nodes_of};
+ghost use Rattle.derivation_rows.specs.Nodes.{nodes_of};
 ghost use Rattle.fz_derive.specs.Walked.{AreSizes, most_counted, node_term};
 
 use fz_ast::{Form, NoMemory, Nodes};

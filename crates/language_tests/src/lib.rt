@@ -4,6 +4,8 @@
 #[cfg(test)]
 mod checks;
 #[cfg(test)]
+mod derivations;
+#[cfg(test)]
 mod environments;
 #[cfg(test)]
 mod fractions;

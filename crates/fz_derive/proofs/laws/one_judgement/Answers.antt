@@ -1,5 +1,5 @@
 use Rattle.fz_derive.proofs.Every.{all_bytes}
-use Rattle.fz_derive.proofs.Once.{number_or_line, one_line, one_number}
+use Rattle.fz_derive.proofs.OneAnswer.{number_or_line, one_line, one_number}
 use Rattle.fz_derive.proofs.laws.one_judgement.Goals as goal
 
 pub returns-clause-number : goal.returns-clause-number

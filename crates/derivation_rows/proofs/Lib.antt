@@ -1,0 +1,6 @@
+-- The proofs of this crate.
+pub mod Amounts
+pub mod Factors
+pub mod Scopes
+pub mod Shapes
+pub mod Tests

@@ -1,7 +1,0 @@
-use Rattle.std.proofs.Common.{◌∙◌}
-use Rattle.fz_frac.specs.Sens.{distance_of}
-use Rattle.fz_derive.proofs.Scopes.{suffices_by}
-use Rattle.fz_derive.proofs.scope.suffices.Goals as goal
-
-pub returns-in-Ok : goal.returns-in-Ok
-returns-in-Ok c = λ o h. c.le.ensures ∙ suffices_by c.args.number c.in-Ok.number (distance_of c.args.said) o c.in-Ok.is h
