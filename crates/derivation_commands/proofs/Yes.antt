@@ -21,11 +21,11 @@ use Rattle.catalog_loading.proofs.Pairs.{inverted}
 use Rattle.fz_derive.specs.Judged.{IsJudged, names_of}
 use Rattle.fz_derive.specs.Least.{Derived, least, lines_of}
 use Rattle.fz_derive.specs.Names.{EveryName}
-use Rattle.fz_derive.specs.Readable.{IsWord}
-use Rattle.fz_derive.specs.Written.{derivation_text, longest}
+use Rattle.derivation_lines.specs.Readable.{IsWord}
+use Rattle.derivation_lines.specs.Written.{derivation_text, longest}
 use Rattle.fz_derive.proofs.Names.{words_are_read}
 use Rattle.least_derivation.specs.Law.{AreWords}
-use Rattle.least_derivation.proofs.Judged.{derived_is_judged}
+use Rattle.least_derivation.proofs.Judged.{judged as derived_is_judged}
 use Rattle.derivation_commands.specs.Promise.{WhatIsDerivedIsJudgedYes}
 use Rattle.derivation_commands.specs.Task.{Subject, derive_steps, subject_read, to_derive, to_judge}
 use Rattle.derivation_commands.specs.Outcome.{IsDerivedBy, IsJudgeOutcome, if_short, too_long, written, yes_text}
