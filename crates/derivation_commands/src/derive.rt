@@ -13,8 +13,8 @@ use crate::lines::refusal_line;
 use crate::reading::{Subject, read_subject};
 use answer_path::check_program;
 use catalog_loading::Stop;
-use fz_derive::least::{DeriveFault, derive};
 use fz_outside::files::Files;
+use least_derivation::{DeriveFault, derive};
 use std::alloc::{AllocError, Global};
 
 /// The derivation of a program that is accepted.
