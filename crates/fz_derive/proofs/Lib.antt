@@ -30,3 +30,6 @@ pub mod TableNames
 pub mod Verdicts
 pub mod Walked
 pub mod Whole
+pub mod Making
+pub mod Putting
+pub mod LeastLines

@@ -9,3 +9,5 @@ pub mod Law
 pub mod Walked
 pub mod Walking
 pub mod Answered
+pub mod Making
+pub mod Putting

@@ -4,6 +4,8 @@
 pub mod judge;
 pub mod laws;
 pub mod least;
+pub mod least_line;
 pub mod sizes;
+pub mod sorted;
 pub mod tables;
 pub mod walk;

@@ -1,0 +1,7 @@
+-- The proofs of this crate.
+pub mod SameSaid
+pub mod LeastRule
+pub mod Limited
+pub mod Low
+pub mod Readable
+pub mod Judged
