@@ -10,7 +10,7 @@ use Rattle.std.proofs.lemmas.Slice.Eq.{bytes_eq-Decides}
 use Rattle.clap.specs.Lexer.{without_minus}
 use Rattle.clap.specs.Values.{reading_of}
 use Rattle.clap.specs.ValueTests.{accepts}
-use Rattle.clap.specs.Walk.{Row, Rule, Text, answers_to, at_row, first_of, has_row, more_values, nothing_held, one_of, rows_after, walk, walk_from, with_default, without, finished, settled}
+use Rattle.clap.specs.Walk.{Row, Rule, Text, answers_to, at_row, default_rows, first_of, has_row, more_values, nothing_held, one_of, reading_by, rows_after, walk, walk_from, with_default, without, finished, settled}
 use Rattle.clap.specs.Simple.{Shape, built, entered, filled, inherited, built_leaf, names_of, rows_at, with_index}
 use Rattle.clap.specs.Takes.{is_given}
 use Rattle.clap.specs.Faults.{check_fault, defaults_fault, entered_fault, fault_of, level_fault, repeat_fault, settle_fault, walk_fault}

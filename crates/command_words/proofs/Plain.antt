@@ -15,7 +15,7 @@ use Rattle.clap.specs.declared.error.kind.ErrorKind.TheVariants as kind
 use Rattle.clap.proofs.WalkLemmas.{walk_stopped}
 use Rattle.command_words.specs.Program.{from_to, greatest_amount, greatest_asks, greatest_seed, greatest_workers, program_app}
 use Rattle.command_words.specs.Command.{Command, command_met, command_named, command_of, gen_of, grant_of, number_of_bits, unless_fault}
-use Rattle.command_words.specs.Table.{plain_command, said_within}
+use Rattle.command_words.specs.Table.{begins_with_hyphen, plain_command, said_within}
 use Rattle.command_words.proofs.Kept.{both_empty, holds_of_found}
 use Rattle.command_words.proofs.Parses.{command_refused}
 use Rattle.command_words.proofs.Accepted.{amount_parser, asks_parser, audit_shape, check_shape, derive_shape, gap_shape, gen_shape, grant_shape, init_shape, judge_shape, run_shape, seed_parser, serve_shape, workers_parser}

@@ -1,5 +1,5 @@
 -- A number's text is accepted exactly where it is a number in range.
-use Rattle.std.proofs.Common.{◌≡◌, ◌<◌, ℕ, Bool, cond, true, false, refl, sym, ap, subst, [], ◌∷◌, ◌∙◌, Option, Some, None, arith}
+use Rattle.std.proofs.Common.{◌≡◌, ◌≤◌, ◌<◌, ℕ, Bool, cond, true, false, refl, sym, ap, subst, [], ◌∷◌, ◌∙◌, Option, Some, None, arith}
 use Rattle.std.specs.Prelude.{◌^◌, ◌&&◌, ⊤, nat_le, option_and_then}
 use Rattle.std.specs.Str.Parse.{ParsesUnsigned, digits_value, starts_with_minus, without_leading_plus}
 use Rattle.std.proofs.lemmas.Bool.{le-leb, leb-true}

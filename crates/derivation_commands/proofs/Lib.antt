@@ -4,3 +4,4 @@ pub mod Bounded
 pub mod Verdicts
 pub mod Yes
 mod Examples
+pub mod TableNames

@@ -11,7 +11,7 @@ use Rattle.fz_frac.specs.Lowest.{lowest}
 use Rattle.owner_catalog.specs.Catalog.{owner_signature, OwnerEntry}
 use Rattle.owner_catalog.specs.Entries.{TableEntry, table_type_of}
 use Rattle.owner_catalog.specs.Lawful.{IsOwner, IsTableEntry}
-use Rattle.owner_catalog.proofs.ExamplesOfForms.{a_table_s_name_is_a_token}
+use Rattle.derivation_commands.proofs.TableNames.{a_table_s_name_is_a_token}
 use Rattle.answer_path.specs.Reading.{IsReading, Reading, nested, read, stuck, unlexed}
 use Rattle.answer_path.specs.Admission.{Admission, accepted, admission_of, refused_for, walks_too_much}
 use Rattle.answer_path.proofs.Programs.{accepted_is, read_limits}
@@ -64,7 +64,7 @@ module _ (tables : Signature) (program text : List ℕ) (signed : IsSignature ta
       let same : t ≡ e = found.3 in
       let lowest_is : r ≡ lowest found.1 = found.4 in
       let judged = derived_is_judged tables e found.0 found.1 d signed words (read_limits program e reads) (program_is_words program e reads) found.2
-          (subst (λ (u : Term). least (names_of tables) u ≡ Some d) same is) in
+      (subst (λ (u : Term). least (names_of tables) u ≡ Some d) same is) in
       let of_text = subst (λ (w : List ℕ). IsJudged tables e w (lowest found.1)) (sym whole) judged in (
         e,
         r,

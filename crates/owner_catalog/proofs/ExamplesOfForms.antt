@@ -149,7 +149,7 @@ reserved_by text word is = ap is_reserved is ∙ each_word_is_reserved word
 not_reserved : (text : List ℕ) → not (is_reserved text) ≡ true → is_reserved text ≡ true → ⊥
 not_reserved text free reserved = true≢false (sym free ∙ ap not reserved)
 
-pub a_table_s_name_is_a_token : (text : List ℕ) → is_table_name text ≡ true → IsNameToken text [] (Name text)
+a_table_s_name_is_a_token : (text : List ℕ) → is_table_name text ≡ true → IsNameToken text [] (Name text)
 unfolding is_table_name is_catalog_name
 a_table_s_name_is_a_token text h =
     let whole = both_true (is_catalog_name text) (not (is_reserved text)) h in

@@ -1,6 +1,6 @@
 mod ExamplesOfAnalysts
 mod ExamplesOfFaults
-pub mod ExamplesOfForms
+mod ExamplesOfForms
 mod ExamplesOfLimits
 pub mod Laws
 pub mod Lists
