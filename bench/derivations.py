@@ -76,7 +76,7 @@ class Trial:
         ran = subprocess.run(["/usr/bin/time", "-f", "%M", *words], stdin=subprocess.DEVNULL, stdout=subprocess.DEVNULL, stderr=subprocess.PIPE, text=True)
         return int(ran.stderr.split()[-1]) / 1024
 
-    def row(self, name, program, derivation):
+    def row(self, name, program, derivation, own=True):
         """One program with its derivation: what it takes of each, and the bars. What `derive` and `judge` took."""
         for file, data in (("p", program), ("d", derivation)):
             with open(file, "wb") as kept:
@@ -90,7 +90,7 @@ class Trial:
             return None
         of_check, took = self.spent([PROGRAM, "check", "cat.json", "census", "p"])[0], []
         bar = 2 * of_check + len(derivation) / 10**6
-        for command, words, wanted in (("derive", ["p"], derivation), ("judge", ["p", "d"], said)):
+        for command, words, wanted in [("derive", ["p"], derivation)] * own + [("judge", ["p", "d"], said)]:
             given = [PROGRAM, command, "cat.json", "census", *words]
             used, found = self.spent(given)
             told = self.verdict(used <= bar, f"{bar * 1000:.0f} ms") if found == wanted else self.verdict(False, f"WRONG, it said {found[:80]!r}")
@@ -98,12 +98,12 @@ class Trial:
             took.append(used)
         return took
 
-    def growing(self, name, made):
-        """Derivations each twice as long as the one before."""
+    def growing(self, name, made, own=True):
+        """Derivations each twice as long as the one before; not the program's own ones are judged alone."""
         before = None
         for program, derivation in made:
-            took = self.row(f"{name}, {len(derivation) / 2**20:.1f} MiB", program, derivation)
-            for command, first, second in zip(("derive", "judge"), before or (), took or ()):
+            took = self.row(f"{name}, {len(derivation) / 2**20:.1f} MiB", program, derivation, own)
+            for command, first, second in zip(("derive", "judge") if own else ("judge",), before or (), took or ()):
                 if first > SHORT:
                     print(f"    {command}: {second / first:.2f} times the one before, at most {GROWTH}: {self.verdict(second <= GROWTH * first, f'{GROWTH} times')}")
             before = took
@@ -126,8 +126,8 @@ def main():
             trial.row(name, *least(text.encode()))
         trial.growing("lets that double a type", (least(doubling(names)) for names in range(12, 19)))
         size, one = b"size people", b"num | people 1\n"
-        trial.growing("a line of nested bags", ((size, one + b"bag " * many + b"num | people 1\n") for many in (2**15, 2**16, 2**17, 2**18)))
-        trial.growing("a line of names", ((size, one + b"bag num" + b"".join(b" | n%08d 1" % at for at in range(many)) + b"\n") for many in (2**14, 2**15, 2**16)))
+        trial.growing("a line of nested bags", ((size, one + b"bag " * many + b"num | people 1\n") for many in (2**15, 2**16, 2**17, 2**18)), own=False)
+        trial.growing("a line of names", ((size, one + b"bag num" + b"".join(b" | n%08d 1" % at for at in range(many)) + b"\n") for many in (2**14, 2**15, 2**16)), own=False)
         os.chdir(TOP)
     sys.exit(1 if trial.missed else 0)
 
