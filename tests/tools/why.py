@@ -570,13 +570,13 @@ class Trial:
         os.chdir(self.room)
 
     def told_to_end(self, room):
-        """While a cause is looked for, in eight tables of a million rows, many seconds of work: the end is the program's."""
+        """While a cause is looked for, in forty tables of a million rows, many seconds of work: the end is the program's."""
 
         def large():
             write("people.csv", FILES["people.csv"] + b"C,50\n" * (2**20 - 3))
-            for number in range(8):
+            for number in range(40):
                 os.link("people.csv", f"people{number}.csv")
-            owners = (owner(name=f"house{number}", tables=(("people", f"people{number}.csv", TABLES[0][2]),)) for number in range(8))
+            owners = (owner(name=f"house{number}", tables=(("people", f"people{number}.csv", TABLES[0][2]),)) for number in range(40))
             write("catalog.json", catalog(*owners, analysts=("ann",)))
 
         folder = self.ready(large)
