@@ -1,17 +1,17 @@
 -- Numbers of a rule, as the code has them: up to equality of fractions.
-use Rattle.std.proofs.Common.{◌≡◌, ℕ, zero, suc, ◌<◌, ◌≤◌, refl, arith, sym, ap, ◌∙◌, [], ◌∷◌, Bool, true, false, List, length, get_or, IfOk, IsTrue, ◌↔◌, true≢false}
+use Rattle.std.proofs.Common.{◌≡◌, ℕ, zero, suc, ◌<◌, ◌≤◌, refl, arith, [], ◌∷◌, Bool, true, false, List, length, get_or, IfOk, IsTrue, ◌↔◌}
 use Rattle.std.specs.Prelude.{Result, Ok, Err, IsErr, Option, Some, None}
 use Rattle.std.proofs.lemmas.List.{get_or-map}
-use Rattle.fz_frac.specs.Distance.{Distance, add, mul, greater, is_le, ◌≈◌, ◌⊑◌}
+use Rattle.fz_frac.specs.Distance.{Distance, add, is_le, mul, none, ◌≈◌}
 use Rattle.fz_frac.specs.Lowest.{is_out}
 use Rattle.fz_frac.specs.Sens.{distance_of}
 use Rattle.fz_frac.specs.declared.frac.Range.{Range}
 use Rattle.fz_frac.specs.declared.sens.Sens.{Sens}
-use Rattle.fz_frac.proofs.Laws.{◌⊕◌, ◌⊗◌, ≈-refl, ≈-sym, ≈-trans}
+use Rattle.fz_frac.proofs.Laws.{add-comm, add-none_r, is_le-yes, mul-none, none-add, none-least, ◌⨾◌, ◌⊕◌, ◌⊗◌, ⊑-refl, ≈-refl, ≈-trans}
 use Rattle.fz_frac.proofs.Lowest.{out_same, out_same_true, sens_fits}
 use Rattle.fz_ast.specs.Types.{Ty}
 use Rattle.fz_derive.specs.Held.{line_in, lines_in}
-use Rattle.fz_derive.specs.Lines.{Line, line_at}
+use Rattle.fz_derive.specs.Lines.{line_at}
 use Rattle.fz_derive.specs.Numbers.{ranged, sum_of, product_of, with_number}
 use Rattle.fz_derive.specs.Placed.{AreOne, IsNumber}
 use Rattle.fz_derive.specs.declared.line.Line.{Line as Kept}
@@ -68,3 +68,24 @@ module _ (r d : Distance) (h : r ≈ d) where
   -- b + r a
   pub bound_alike : (a b : Distance) → AreOne (with_number (product_of r a) (sum_of b)) (with_number (product_of d a) (sum_of b))
   bound_alike a b = with_alike (product_of r a) (product_of d a) b (product_alike a)
+
+-- a kept number is in range
+pub number_of : (s : Sens) (e : Distance) → distance_of s ≈ e → IsNumber (Ok s) (ranged e)
+number_of s e h = let g : is_out e ≡ false = out_same (distance_of s) e h (sens_fits s) in rw g h
+
+-- 0 adds nothing
+zero_right : (a b : Distance) → is_le b none ≡ true → a ≈ add a b
+zero_right a b h = record {
+  le = none-add a ⨾ (add-comm none a ⨾ (⊑-refl a ⊕ none-least b));
+  ge = (⊑-refl a ⊕ is_le-yes b none h) ⨾ add-none_r a;
+}
+
+pub nothing_right : (a b d e : Distance) → is_le b none ≡ true → a ≈ d → b ≈ e → a ≈ add d e
+nothing_right a b d e h k l = ≈-trans (zero_right a b h) (add_alike k l)
+
+pub nothing_left : (a b d e : Distance) → is_le a none ≡ true → a ≈ d → b ≈ e → b ≈ add d e
+nothing_left a b d e h k l = ≈-trans (zero_right b a h) (≈-trans (record { le = add-comm b a; ge = add-comm a b }) (add_alike k l))
+
+-- and any number of times 0 is 0
+pub zero_times : (r a : Distance) → is_le a none ≡ true → none ≈ mul r a
+zero_times r a h = record { le = none-least (mul r a); ge = (⊑-refl r ⊗ is_le-yes a none h) ⨾ mul-none r }

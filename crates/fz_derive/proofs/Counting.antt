@@ -1,8 +1,8 @@
 -- A derivation has no more lines than bytes, and so none that isn't counted.
-use Rattle.std.proofs.Common.{◌≡◌, ◌≢◌, ℕ, suc, ◌+◌, ◌<◌, ◌≤◌, ◌⊎◌, inl, inr, refl, arith, List, [], ◌∷◌, ◌++◌, length, length-append}
+use Rattle.std.proofs.Common.{◌≡◌, ℕ, suc, ◌+◌, ◌<◌, ◌≤◌, inl, inr, refl, arith, List, [], ◌∷◌, length, length-append}
 use Rattle.std.specs.Prelude.{min}
 use Rattle.fz_derive.specs.Lines.{Line}
-use Rattle.fz_derive.specs.Texts.{AreLines, BeginWith, IsFaultyLine, NoLine, line_feed}
+use Rattle.fz_derive.specs.Texts.{AreLines, BeginWith, IsFaultyLine, line_feed}
 use Rattle.fz_derive.specs.Walked.{most_counted}
 use Rattle.fz_derive.specs.Written.{longest}
 

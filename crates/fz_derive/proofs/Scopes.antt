@@ -1,7 +1,7 @@
 -- Names in scope, one by one.
-use Rattle.std.proofs.Common.{◌≡◌, ℕ, zero, suc, ◌+◌, ◌<◌, ◌≤◌, refl, sym, arith, add-one, Bool, true, false, List, [], ◌∷◌, length, drop, drop-cons, get_or}
+use Rattle.std.proofs.Common.{◌≡◌, ℕ, zero, suc, ◌+◌, ◌<◌, ◌≤◌, refl, arith, add-one, Bool, true, false, List, [], ◌∷◌, length, drop, drop-cons, get_or}
 use Rattle.std.specs.Prelude.{Result, Ok, Option, Some, None, bytes_eq}
-use Rattle.fz_frac.specs.Distance.{Distance, is_le, ◌≈◌, ◌⊑◌}
+use Rattle.fz_frac.specs.Distance.{Distance, is_le, ◌≈◌}
 use Rattle.fz_frac.specs.Sens.{distance_of}
 use Rattle.fz_frac.specs.declared.frac.Range.{Range}
 use Rattle.fz_frac.specs.declared.sens.Sens.{Sens}
@@ -11,8 +11,6 @@ use Rattle.fz_ast.specs.Arena.{Grows}
 use Rattle.fz_ast.specs.Names.{name_of}
 use Rattle.fz_ast.specs.Terms.{Name}
 use Rattle.fz_ast.specs.Types.{Ty}
-use Rattle.fz_ast.specs.TypeNodes.{type_at}
-use Rattle.term_meanings.specs.Scopes.{Under}
 use Rattle.fz_derive.specs.Faults.{suffices}
 use Rattle.fz_derive.specs.Placed.{IsNumber}
 use Rattle.fz_derive.specs.Rows.{type_in}

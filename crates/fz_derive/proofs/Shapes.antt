@@ -1,5 +1,5 @@
 -- What a test of a type's form tells.
-use Rattle.std.proofs.Common.{◌≡◌, ℕ, ◌<◌, ◌≤◌, IfOk, refl, sym, ◌∙◌, Bool, true, false, List, length}
+use Rattle.std.proofs.Common.{◌≡◌, ℕ, ◌<◌, IfOk, refl, ◌∙◌, Bool, true, false, List, length}
 use Rattle.std.specs.Prelude.{Result, Ok, Err}
 use Rattle.fz_ast.specs.Types.{Ty, same_type}
 use Rattle.fz_ast.specs.TypeNodes.{type_at, type_of, IsKnownType}

@@ -1,9 +1,9 @@
 -- Tests of a bag's elements.
-use Rattle.std.proofs.Common.{◌≡◌, ◌<◌, refl, sym, true, List, length}
+use Rattle.std.proofs.Common.{◌≡◌, sym, true, List, length}
 use Rattle.std.specs.Prelude.{Option, Some}
 use Rattle.fz_ast.specs.Types.{Ty, BagT, BoolT, UnlimitedT, same_type}
 use Rattle.fz_ast.specs.TypeNodes.{type_at}
-use Rattle.fz_ast.proofs.SameTypes.{same_type_is, same_type_refl}
+use Rattle.fz_ast.proofs.SameTypes.{same_type_is}
 use Rattle.fz_derive.specs.Lines.{Line}
 use Rattle.fz_derive.specs.Placed.{number_of}
 use Rattle.fz_derive.specs.Rows.{test_of}

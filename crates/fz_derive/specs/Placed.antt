@@ -1,5 +1,5 @@
 -- The numbers that the code's numbers stand for: parts' lines stand at places.
-use Rattle.std.specs.Prelude.{true, false, ℕ, ◌<◌, ◌≡◌, List, length, Option, Some, None, Result, Ok, Err, ⊤}
+use Rattle.std.specs.Prelude.{true, false, ℕ, ◌≡◌, List, Option, Some, None, Result, Ok, Err, ⊤}
 use Rattle.fz_frac.specs.Distance.{Distance, ◌≈◌}
 use Rattle.fz_frac.specs.Lowest.{is_out}
 use Rattle.fz_frac.specs.Sens.{distance_of}

@@ -1,6 +1,5 @@
 -- What a rule looks at besides its node: the types written in the term have their numbers in the arena, and the lines' types are there.
-use Rattle.std.specs.Prelude.{◌≡◌, ◌<◌, List, length}
-use Rattle.fz_ast.specs.Types.{Ty}
+use Rattle.std.specs.Prelude.{List}
 use Rattle.fz_derive.specs.Held.{AreHeld, lines_in}
 use Rattle.fz_derive.specs.Interned.{AreWritten}
 use Rattle.fz_derive.specs.Lines.{Line}

@@ -88,6 +88,13 @@ fn amount_without_two(lines: &[Line], x: &Name, y: &Name, k: usize, name: &Name)
 fn sum(a: Sens, b: Sens) -> Result<Sens, Range>
     ensures { (d e : Distance) → distance_of a ≈ d → distance_of b ≈ e → IsNumber result (sum_of d e) }
 {
+    // Most names are said by few lines, and a sum of fractions is dear.
+    if b.le(Sens::whole(0)) {
+        return Ok(a);
+    }
+    if a.le(Sens::whole(0)) {
+        return Ok(b);
+    }
     a.add(b)
 }
 
@@ -95,6 +102,9 @@ fn sum(a: Sens, b: Sens) -> Result<Sens, Range>
 fn product(r: Sens, a: Sens) -> Result<Sens, Range>
     ensures { IsNumber result (product_of (distance_of r) (distance_of a)) }
 {
+    if a.le(Sens::whole(0)) {
+        return Ok(Sens::whole(0));
+    }
     r.mul(a)
 }
 

@@ -1,6 +1,5 @@
 //! Rows of forms whose parts stand in the node's own scope.
-ghost use Rattle.std.specs.Prelude.{◌≡◌, ◌<◌, length, List};
-ghost use Rattle.fz_ast.specs.TypeNodes.{type_at};
+ghost use Rattle.std.specs.Prelude.{◌<◌, length, List};
 ghost use Rattle.fz_derive.specs.Lines.{Line};
 ghost use Rattle.fz_derive.specs.Rows.{fst_row, snd_row, least_row, size_row, app_row, plus_row, le_row, eq_row, union_row, map_row, filter_row, split_row};
 ghost use Rattle.fz_derive.specs.Groups.{unary_row, binary_row};

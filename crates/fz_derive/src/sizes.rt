@@ -1,7 +1,7 @@
 //! How many nodes a term's parts have: each has a line of a derivation.
 ghost use Rattle.std.specs.Prelude.{◌≡◌, ◌+◌, ◌<◌, ℕ, suc, length, min, IfOk, slice_index};
 ghost use Rattle.fz_ast.specs.Parts.{Parts};
-ghost use Rattle.fz_ast.specs.TermNodes.{IsKnown, term_at};
+ghost use Rattle.fz_ast.specs.TermNodes.{IsKnown};
 ghost use Rattle.fz_ast.specs.declared.span.Span.{Span};
 ghost use Rattle.fz_derive.specs.Nodes.{nodes_of};
 ghost use Rattle.fz_derive.specs.Walked.{AreSizes, most_counted, node_term};

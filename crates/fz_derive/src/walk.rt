@@ -5,7 +5,7 @@ ghost use Rattle.fz_ast.specs.TermNodes.{FormLimits, IsKnown, term_at};
 ghost use Rattle.fz_ast.specs.TypeNodes.{type_at};
 ghost use Rattle.fz_ast.specs.declared.span.Span.{Span};
 ghost use Rattle.term_meanings.specs.Scopes.{Under};
-ghost use Rattle.fz_derive.specs.Faults.{fault_in, first_of, first_type, second_type, is_fine, second_at, third_at};
+ghost use Rattle.fz_derive.specs.Faults.{first_of, first_type, second_type, is_fine};
 ghost use Rattle.fz_derive.specs.Formed.{ArePlaced, form_row};
 ghost use Rattle.fz_derive.specs.Lines.{line_at};
 ghost use Rattle.fz_derive.specs.Nodes.{nodes_of};
@@ -14,7 +14,7 @@ ghost use Rattle.fz_derive.specs.Ruled.{IsRuled};
 ghost use Rattle.fz_derive.specs.Scoped.{HasKnownTypes, context_in};
 ghost use Rattle.fz_derive.specs.Shapes.{IsKnownShape, is_bang};
 ghost use Rattle.fz_derive.specs.Viewed.{lines_seen};
-ghost use Rattle.fz_derive.specs.Walked.{node_term, form_places, one_place, two_places, three_places};
+ghost use Rattle.fz_derive.specs.Walked.{form_places, most_counted, node_term, one_place, three_places, two_places};
 ghost use Rattle.fz_derive.specs.Walking.{IsWalk, fault_seen, names_seen, nodes_seen, type_seen};
 
 use crate::row::Row;
@@ -33,7 +33,7 @@ pub struct Walk<'a> {
 }
 
 fn one_place(k: usize) -> Places
-    requires { k < 4294967295 }
+    requires { k < most_counted }
     ensures { result ≡ one_place k }
 {
     let first = k + 1;

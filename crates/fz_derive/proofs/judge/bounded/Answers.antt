@@ -1,8 +1,5 @@
-use Rattle.std.proofs.Common.{◌∙◌, ap}
 use Rattle.fz_frac.specs.Distance.{Fin, Inf}
 use Rattle.fz_derive.specs.Held.{line_in}
-use Rattle.fz_derive.specs.Judged.{greatest_said}
-use Rattle.fz_derive.specs.Said.{says_of}
 use Rattle.fz_derive.proofs.Finite.{bounded_by}
 use Rattle.fz_derive.proofs.judge.bounded.Goals as goal
 

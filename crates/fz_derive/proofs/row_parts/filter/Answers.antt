@@ -1,4 +1,3 @@
-use Rattle.std.proofs.Common.{◌≡◌}
 use Rattle.fz_ast.specs.Types.{BagT}
 use Rattle.fz_ast.specs.TypeNodes.{type_at}
 use Rattle.fz_derive.specs.declared.shape.Shape.TheVariants.{Known}

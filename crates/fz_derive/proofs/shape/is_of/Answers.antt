@@ -1,4 +1,4 @@
-use Rattle.std.proofs.Common.{ℕ, length, arith, ◌∙◌}
+use Rattle.std.proofs.Common.{length, arith, ◌∙◌}
 use Rattle.fz_ast.proofs.TypeNodes.{known_more}
 use Rattle.fz_derive.proofs.Shapes.{forms_say}
 use Rattle.fz_derive.proofs.shape.is_of.Goals as goal

@@ -1,4 +1,4 @@
-use Rattle.std.proofs.Common.{refl, arith, ◌≤◌}
+use Rattle.std.proofs.Common.{refl, arith}
 use Rattle.fz_ast.proofs.Arenas.{grows_trans}
 use Rattle.fz_derive.proofs.TableNames.{one_table_more, signed}
 use Rattle.fz_derive.proofs.tables.tables_in_scope.Goals as goal
