@@ -12,7 +12,7 @@ use Rattle.budget_core.specs.declared.entry.Grant.{Grant}
 use Rattle.budget_core.specs.declared.entry.ReserveFault.TheVariants.{OverBudget, Full}
 use Rattle.budget_core.specs.Cost.{cost_of, budget_of}
 use Rattle.budget_core.specs.Entries.{Entry}
-use Rattle.partition_charge.specs.Cost.{cost_of_charges, partition_cost}
+use Rattle.partition_charge.specs.Cost.{cost_of_charges, partition_cost, parts_cost}
 use Rattle.fz_frac.specs.Distance.{Fin, Inf}
 use Rattle.fz_frac.specs.Lowest.{gcd, gcd_in}
 use Rattle.fz_ast.specs.Signature.{TableType, row_of}
@@ -251,16 +251,16 @@ abbrev entry_in : (version : ℕ) → Entry
 entry_in version = record { budget = 9000000; capacity = 100; analysts = 6; keys = []; version = version; limits = [] }
 
 records_are : grant_records (entry_in 2) [] an_ask (a_grant 4 1000000 9) Exhausted ≡ reserved 4 ∷ settling 4 Exhausted ∷ []
-unfolding cost_of cost_of_charges partition_cost budget_of
+unfolding cost_of cost_of_charges parts_cost partition_cost budget_of
 records_are = refl
 
 -- In version 3 what an exhausted number was charged comes back, and of no other.
 comes_back : grant_records (entry_in 3) [] an_ask (a_grant 4 1000000 9) Exhausted ≡ reserved 4 ∷ settling_back 4 Exhausted 1000000 ∷ []
-unfolding cost_of cost_of_charges partition_cost budget_of
+unfolding cost_of cost_of_charges parts_cost partition_cost budget_of
 comes_back = refl
 
 lost_stays : grant_records (entry_in 3) [] an_ask (a_grant 4 1000000 9) Lost ≡ reserved 4 ∷ settling 4 Lost ∷ []
-unfolding cost_of cost_of_charges partition_cost budget_of
+unfolding cost_of cost_of_charges parts_cost partition_cost budget_of
 lost_stays = refl
 
 -- Verdicts: the budget is asked after the program, and then the journal's room.
@@ -283,15 +283,15 @@ pub charged : IsCharged (people ∷ []) size_people 1 1
 charged = (size_term, size_reads, size_admitted)
 
 just_enough : IsVerdict (owner 1000000 2).entry (people ∷ []) 0 [] (a_query size_people) (granted an_ask (a_grant 0 1000000 1))
-unfolding cost_of cost_of_charges partition_cost budget_of signature_in
+unfolding cost_of cost_of_charges parts_cost partition_cost budget_of signature_in
 just_enough = money_says (owner 1000000 2) 0 [] (a_query size_people) 1 1 _ charged refl
 
 over_budget : IsVerdict (owner 999999 2).entry (people ∷ []) 0 [] (a_query size_people) (money_refused (NoBudget 0 1000000 999999 0))
-unfolding cost_of cost_of_charges partition_cost budget_of signature_in
+unfolding cost_of cost_of_charges parts_cost partition_cost budget_of signature_in
 over_budget = money_says (owner 999999 2) 0 [] (a_query size_people) 1 1 _ charged refl
 
 no_room : IsVerdict (owner 2000000 3).entry (people ∷ []) 0 (reserved 0 ∷ settling 0 Exhausted ∷ []) (a_query size_people) (money_refused (JournalFull 2 0 3))
-unfolding cost_of cost_of_charges partition_cost budget_of signature_in
+unfolding cost_of cost_of_charges parts_cost partition_cost budget_of signature_in
 no_room = money_says (owner 2000000 3) 0 (reserved 0 ∷ settling 0 Exhausted ∷ []) (a_query size_people) 1 1 _ charged refl
 
 -- the program's value and the noise settle its reservation, and so does want of memory
@@ -312,7 +312,7 @@ meanwhile = before ++ reserved 1 ∷ reserved 2 ∷ []
 
 asked_among_others : IsAsked (owner 9000000 100) (λ number. draws_of_minus_one) 0 (a_query size_people) [] (answered 1 (pos 2) 1000000)
     ((2, reserved 1) ∷ (4, settling 1 (Answered (pos 2))) ∷ []) (meanwhile ++ settling 1 (Answered (pos 2)) ∷ [])
-unfolding IsAsked cost_of cost_of_charges partition_cost budget_of signature_in
+unfolding IsAsked cost_of cost_of_charges parts_cost partition_cost budget_of signature_in
 asked_among_others = (
   before,
   (before, refl),
@@ -334,7 +334,7 @@ asked_among_others = (
 -- the same line where memory ran out after its reservation
 asked_and_lost : IsAsked (owner 9000000 100) (λ number. draws_of_minus_one) 0 (a_query size_people) [] (refused (by_number (NoAnswer 1)))
     ((2, reserved 1) ∷ (4, settling 1 Lost) ∷ []) (meanwhile ++ settling 1 Lost ∷ [])
-unfolding IsAsked cost_of cost_of_charges partition_cost budget_of signature_in
+unfolding IsAsked cost_of cost_of_charges parts_cost partition_cost budget_of signature_in
 asked_and_lost = (
   before,
   (before, refl),

@@ -8,7 +8,7 @@ use Rattle.journal_records.specs.Records.{settling}
 use Rattle.budget_core.specs.declared.entry.Grant.{Grant}
 use Rattle.budget_core.specs.Cost.{cost_of, budget_of}
 use Rattle.budget_core.specs.Mine.{spent_by}
-use Rattle.partition_charge.specs.Cost.{cost_of_charges, partition_cost}
+use Rattle.partition_charge.specs.Cost.{cost_of_charges, partition_cost, parts_cost}
 use Rattle.fz_frac.specs.Distance.{Fin}
 use Rattle.wire_lines.specs.Reply.{Replied, answered, refused}
 use Rattle.wire_lines.specs.Refusal.{ProgramRefusal, Refusal, by_line, by_program, by_money, by_disk, by_number, ill_typed, no_memory}
@@ -79,7 +79,7 @@ exhausted_at draws none = subst (λ (k : Option ℤ). IsSettledAt (HasWorthIn (o
 
 asked_and_exhausted : (draws : ℕ → ℕ) → noise_at 1000000 draws ≡ None → IsAsked (owner 9000000 100) (λ number. draws) 0 query [] (refused (by_number (NoNoise 1)))
     ((2, reserved 1) ∷ (3, settling 1 Exhausted) ∷ []) (before ++ reserved 1 ∷ settling 1 Exhausted ∷ [])
-unfolding IsAsked cost_of cost_of_charges partition_cost budget_of signature_in
+unfolding IsAsked cost_of cost_of_charges parts_cost partition_cost budget_of signature_in
 asked_and_exhausted draws none = (
   before,
   (before, refl),
@@ -103,7 +103,7 @@ unfolding IsAsked signature_in
 asked_of_a_stranger draws = (before, (before, refl), inl (program_refused unknown, refused_before_the_budget, (refl, refl, refl)))
 
 asked_over_budget : (draws : ℕ → ℕ → ℕ) → IsAsked (owner 1999999 100) draws 0 query [] (refused (by_money (NoBudget 1000000 2000000 1999999 2))) [] before
-unfolding IsAsked cost_of cost_of_charges partition_cost budget_of signature_in
+unfolding IsAsked cost_of cost_of_charges parts_cost partition_cost budget_of signature_in
 asked_over_budget draws = (
   before,
   (before, refl),
@@ -115,7 +115,7 @@ asked_over_budget draws = (
 )
 
 asked_without_room : (draws : ℕ → ℕ → ℕ) → IsAsked (owner 2000000 3) draws 0 query [] (refused (by_money (JournalFull 2 0 3))) [] before
-unfolding IsAsked cost_of cost_of_charges partition_cost budget_of signature_in
+unfolding IsAsked cost_of cost_of_charges parts_cost partition_cost budget_of signature_in
 asked_without_room draws = (
   before,
   (before, refl),
@@ -130,11 +130,11 @@ abbrev share : MoneyRefusal
 share = OverShare 1000000 2000000 1500000 2
 
 asked_over_share : (draws : ℕ → ℕ → ℕ) → IsAsked limited draws 0 query [] (refused (by_money share)) [] before
-unfolding IsAsked cost_of cost_of_charges partition_cost budget_of signature_in spent_by
+unfolding IsAsked cost_of cost_of_charges parts_cost partition_cost budget_of signature_in spent_by
 asked_over_share draws = (before, (before, refl), inl (money_refused share, money_says limited 0 before query 1 1 _ charged refl, (by_money share, inl refl, (refl, refl, refl))))
 
 asked_when_shut : (draws : ℕ → ℕ → ℕ) → IsAsked limited draws 0 query [] (refused (by_disk (Closed 3))) [] before
-unfolding IsAsked cost_of cost_of_charges partition_cost budget_of signature_in spent_by
+unfolding IsAsked cost_of cost_of_charges parts_cost partition_cost budget_of signature_in spent_by
 asked_when_shut draws =
     (before, (before, refl), inl (money_refused share, money_says limited 0 before query 1 1 _ charged refl, (by_disk (Closed 3), inr (3, omega arith, refl), (refl, refl, refl))))
 
@@ -214,7 +214,7 @@ not_lost_without_noise draws none told after (g, begins, inr (said, nothing, res
 
 -- The same of a line among which no other adds records: answered, lost and refused; and want of memory adds nothing.
 answered_alone : IsAnswered (owner 9000000 100) (λ number. draws_of_minus_one) 0 before query (answered 1 (pos 2) 1000000) (reserved 1 ∷ settling 1 (Answered (pos 2)) ∷ [])
-unfolding IsAnswered cost_of cost_of_charges partition_cost budget_of signature_in
+unfolding IsAnswered cost_of cost_of_charges parts_cost partition_cost budget_of signature_in
 answered_alone = (
   granted an_ask (a_grant 1 1000000 3),
   money_says (owner 9000000 100) 0 before query 1 1 _ charged refl,
@@ -222,7 +222,7 @@ answered_alone = (
 )
 
 lost_alone : IsAnswered (owner 9000000 100) (λ number. draws_of_minus_one) 0 before query (refused (by_number (NoAnswer 1))) (reserved 1 ∷ settling 1 Lost ∷ [])
-unfolding IsAnswered cost_of cost_of_charges partition_cost budget_of signature_in
+unfolding IsAnswered cost_of cost_of_charges parts_cost partition_cost budget_of signature_in
 lost_alone = (
   granted an_ask (a_grant 1 1000000 3),
   money_says (owner 9000000 100) 0 before query 1 1 _ charged refl,

@@ -10,7 +10,7 @@ use Rattle.budget_core.specs.Cost.{cost_of, budget_of}
 use Rattle.budget_core.specs.Entries.{Entry}
 use Rattle.budget_core.specs.Mine.{spent_by}
 use Rattle.sha2.specs.Sha256.{sha256}
-use Rattle.partition_charge.specs.Cost.{cost_of_charges, partition_cost}
+use Rattle.partition_charge.specs.Cost.{cost_of_charges, partition_cost, parts_cost}
 use Rattle.budget_ledger.specs.declared.failure.Failure.{Failure}
 use Rattle.wire_lines.specs.Reply.{answered, recalled, remaining, spending, refused}
 use Rattle.wire_lines.specs.Refusal.{by_disk, by_money, by_number, by_program, no_memory, no_token}
@@ -48,7 +48,7 @@ settled_number (Raise grant) = 0
 
 -- 52 at the reservation: nothing was added, and the book is closed with that reservation pending.
 fault_at_reservation : (draws : ℕ → ℕ → ℕ) → IsAsked (owner 9000000 100) draws 0 query [] (refused (by_disk Fault)) [] before
-unfolding IsAsked cost_of cost_of_charges partition_cost budget_of signature_in
+unfolding IsAsked cost_of cost_of_charges parts_cost partition_cost budget_of signature_in
 fault_at_reservation draws = (
   before,
   (before, refl),
@@ -65,13 +65,13 @@ closed_at_reservation draws = (failed (reserved 1), refl, refl, (1, 1, charged, 
 
 -- That reservation is what is due: number 1, which raises the cost by 1000000. No other number or charge is.
 due_at_reservation : IsGrantPending (owner 9000000 100) 0 query (refused (by_disk Fault)) [] before (Some (failed (reserved 1)))
-unfolding cost_of cost_of_charges partition_cost budget_of signature_in
+unfolding cost_of cost_of_charges parts_cost partition_cost budget_of signature_in
 due_at_reservation = (failed (reserved 1), refl, (an_ask, a_grant 1 1000000 3, money_says (owner 9000000 100) 0 before query 1 1 _ charged refl, refl))
 
 -- what the verdict grants here
 granted_once : (asking : Ask) (grant : Grant) → IsVerdict (owner 9000000 100).entry (people ∷ []) 0 before query (granted asking grant)
     → granted asking grant ≡ granted an_ask (a_grant 1 1000000 3)
-unfolding IsVerdict cost_of cost_of_charges partition_cost budget_of
+unfolding IsVerdict cost_of cost_of_charges parts_cost partition_cost budget_of
 granted_once asking grant (reading, reads, by) =
     subst (λ (j : Admission). IsVerdictBy (owner 9000000 100).entry 0 before query j (granted asking grant)) (admitted_at_one reading reads) by
 
@@ -105,7 +105,7 @@ not_due_at_another_charge due =
 
 -- 52 at the settlement: the reservation was added, and its settlement is pending.
 fault_at_settlement : (draws : ℕ → ℕ → ℕ) → IsAsked (owner 9000000 100) draws 0 query [] (refused (by_disk Fault)) ((2, reserved 1) ∷ []) (before ++ reserved 1 ∷ [])
-unfolding IsAsked cost_of cost_of_charges partition_cost budget_of signature_in
+unfolding IsAsked cost_of cost_of_charges parts_cost partition_cost budget_of signature_in
 fault_at_settlement draws = (
   before,
   (before, refl),
@@ -117,7 +117,7 @@ fault_at_settlement draws = (
 )
 
 fault_alone : (draws : ℕ → ℕ → ℕ) → IsAnswered (owner 9000000 100) draws 0 before query (refused (by_disk Fault)) (reserved 1 ∷ [])
-unfolding IsAnswered cost_of cost_of_charges partition_cost budget_of signature_in
+unfolding IsAnswered cost_of cost_of_charges parts_cost partition_cost budget_of signature_in
 fault_alone draws = (
   granted an_ask (a_grant 1 1000000 3),
   money_says (owner 9000000 100) 0 before query 1 1 _ charged refl,
@@ -126,7 +126,7 @@ fault_alone draws = (
 
 closed_at_settlement :
     Closes (owner 9000000 100) (λ number. draws_of_minus_one) query (refused (by_disk Fault)) ((2, reserved 1) ∷ []) None (Some (failed (settling 1 (Answered (pos 2)))))
-unfolding cost_of cost_of_charges partition_cost budget_of
+unfolding cost_of cost_of_charges parts_cost partition_cost budget_of
 closed_at_settlement = (failed (settling 1 (Answered (pos 2))), refl, refl, (Answered (pos 2), before ++ reserved 1 ∷ [], settled_by_three minus_one, refl))
 
 -- 42 after it: the count of then is said, and nothing changes.
@@ -224,11 +224,11 @@ recalled_of_before = (history, ([], refl), refl, refl)
 
 -- what is spent and left, and before any record
 left_of_it : IsBalance (owner 9000000 100).entry before (remaining 1000000 9000000 2) before
-unfolding IsBalance cost_of cost_of_charges partition_cost budget_of signature_in
+unfolding IsBalance cost_of cost_of_charges parts_cost partition_cost budget_of signature_in
 left_of_it = (before, ([], refl), refl, refl)
 
 left_at_first : IsBalance (owner 9000000 100).entry [] (remaining 0 9000000 0) []
-unfolding IsBalance cost_of cost_of_charges partition_cost budget_of signature_in
+unfolding IsBalance cost_of cost_of_charges parts_cost partition_cost budget_of signature_in
 left_at_first = ([], ([], refl), refl, refl)
 
 not_left_unseen : IsBalance (owner 9000000 100).entry before (remaining 0 9000000 0) [] → ⊥
@@ -240,11 +240,11 @@ abbrev limited : Entry
 limited = record (owner 9000000 100).entry { limits = None ∷ None ∷ None ∷ None ∷ None ∷ Some 1500000 ∷ [] }
 
 spent_by_itself : IsSpending limited 5 before (spending 1000000 (Some 1500000) 2) before
-unfolding IsSpending cost_of_charges partition_cost spent_by
+unfolding IsSpending cost_of_charges parts_cost partition_cost spent_by
 spent_by_itself = (before, ([], refl), refl, refl)
 
 spent_by_another : IsSpending limited 4 before (spending 0 None 2) before
-unfolding IsSpending cost_of_charges partition_cost spent_by
+unfolding IsSpending cost_of_charges parts_cost partition_cost spent_by
 spent_by_another = (before, ([], refl), refl, refl)
 
 not_spent_unseen : IsSpending limited 5 before (spending 0 (Some 1500000) 0) [] → ⊥

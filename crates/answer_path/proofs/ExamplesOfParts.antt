@@ -3,7 +3,7 @@ use Rattle.std.proofs.Common.{◌≡◌, ℕ, arith, List, [], ◌∷◌, Option
 use Rattle.std.specs.Prelude.{ℤ, ◌+ℤ◌}
 use Rattle.partition_charge.specs.declared.view.View.{View}
 use Rattle.partition_charge.specs.declared.view.View.TheVariants.{Whole, Part}
-use Rattle.partition_charge.specs.Cost.{cost_of_charges, partition_cost}
+use Rattle.partition_charge.specs.Cost.{cost_of_charges, partition_cost, parts_cost}
 use Rattle.journal_records.specs.declared.records.Outcome.TheVariants.{Answered}
 use Rattle.journal_records.specs.declared.records.Record.{Record}
 use Rattle.budget_core.specs.declared.entry.Ask.{Ask}
@@ -176,28 +176,28 @@ abbrev both_reserved : List Record
 both_reserved = reserved 0 york 6 6 ∷ reserved 1 bath 6 0 ∷ []
 
 york_takes : IsVerdict (owner 10).entry (signature_of_view (owner 10) york) 0 [] (query york 6) (granted (ask_for (query york 6) 1 1) (a_grant 0 6 1))
-unfolding cost_of cost_of_charges partition_cost budget_of
+unfolding cost_of cost_of_charges parts_cost partition_cost budget_of
 york_takes = money_says (owner 10) 0 [] (query york 6) 1 1 _ (charged_in_a_city 0) refl
 
 bath_takes_nothing :
     IsVerdict (owner 10).entry (signature_of_view (owner 10) bath) 0 york_reserved (query bath 6) (granted (ask_for (query bath 6) 1 1) (a_grant 1 0 2))
-unfolding cost_of cost_of_charges partition_cost budget_of
+unfolding cost_of cost_of_charges parts_cost partition_cost budget_of
 bath_takes_nothing = money_says (owner 10) 0 york_reserved (query bath 6) 1 1 _ (charged_in_a_city 1) refl
 
 york_takes_more :
     IsVerdict (owner 10).entry (signature_of_view (owner 10) york) 0 both_reserved (query york 4) (granted (ask_for (query york 4) 1 1) (a_grant 2 4 3))
-unfolding cost_of cost_of_charges partition_cost budget_of
+unfolding cost_of cost_of_charges parts_cost partition_cost budget_of
 york_takes_more = money_says (owner 10) 0 both_reserved (query york 4) 1 1 _ (charged_in_a_city 0) refl
 
 york_is_over : IsVerdict (owner 10).entry (signature_of_view (owner 10) york) 0 both_reserved (query york 5) (money_refused (NoBudget 6 11 10 2))
-unfolding cost_of cost_of_charges partition_cost budget_of
+unfolding cost_of cost_of_charges parts_cost partition_cost budget_of
 york_is_over = money_says (owner 10) 0 both_reserved (query york 5) 1 1 _ (charged_in_a_city 0) refl
 
 the_whole_takes :
     IsVerdict (owner 10).entry (signature_of_view (owner 10) Whole) 0 both_reserved (query Whole 4) (granted (ask_for (query Whole 4) 1 1) (a_grant 2 4 3))
-unfolding cost_of cost_of_charges partition_cost budget_of
+unfolding cost_of cost_of_charges parts_cost partition_cost budget_of
 the_whole_takes = money_says (owner 10) 0 both_reserved (query Whole 4) 1 1 _ charged_in_the_whole refl
 
 the_whole_is_over : IsVerdict (owner 10).entry (signature_of_view (owner 10) Whole) 0 both_reserved (query Whole 5) (money_refused (NoBudget 6 11 10 2))
-unfolding cost_of cost_of_charges partition_cost budget_of
+unfolding cost_of cost_of_charges parts_cost partition_cost budget_of
 the_whole_is_over = money_says (owner 10) 0 both_reserved (query Whole 5) 1 1 _ charged_in_the_whole refl

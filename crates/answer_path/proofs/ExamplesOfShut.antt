@@ -7,7 +7,7 @@ use Rattle.journal_records.specs.declared.records.Record.TheVariants.{Reserve, S
 use Rattle.journal_records.specs.Records.{settling}
 use Rattle.budget_core.specs.Cost.{cost_of, budget_of}
 use Rattle.budget_core.specs.Mine.{spent_by}
-use Rattle.partition_charge.specs.Cost.{cost_of_charges, partition_cost}
+use Rattle.partition_charge.specs.Cost.{cost_of_charges, partition_cost, parts_cost}
 use Rattle.budget_ledger.specs.declared.failure.Failure.{Failure}
 use Rattle.wire_lines.specs.Reply.{answered, recalled, remaining, spending, refused}
 use Rattle.wire_lines.specs.Refusal.{by_disk, by_money, by_number, no_memory}
@@ -72,7 +72,7 @@ unfolding signature_in
 fault_of_a_reservation = (failed (reserved 1), refl, refl, (1, 1, charged, a_grant 1 1000000 3, refl), refl)
 
 fault_of_a_settlement : FailsBy one_owner draws query (Some None) ((2, reserved 1) ∷ []) unshut (shut_here (settling 1 (Answered (pos 2))))
-unfolding cost_of cost_of_charges partition_cost budget_of
+unfolding cost_of cost_of_charges parts_cost partition_cost budget_of
 fault_of_a_settlement = (failed (settling 1 (Answered (pos 2))), refl, refl, (Answered (pos 2), before ++ reserved 1 ∷ [], settled_by_three minus_one, refl), refl)
 
 -- it isn't another pass's, nor told where the book was seen shut, nor where it stays open, nor of another number
@@ -183,7 +183,7 @@ unfolding IsMet
 recall_adds_nothing first (is, none) = absurd (cc none)
 
 balance_met : IsMet one_owner draws 4 balances [] (remaining 1000000 9000000 2) [] before
-unfolding IsMet IsBalance cost_of cost_of_charges partition_cost budget_of
+unfolding IsMet IsBalance cost_of cost_of_charges parts_cost partition_cost budget_of
 balance_met = ((before, (before, refl), refl, refl), refl)
 
 balance_adds_nothing : (first : Told) → IsMet one_owner draws 4 balances [] (remaining 1000000 9000000 2) (first ∷ []) before → ⊥
@@ -191,7 +191,7 @@ unfolding IsMet
 balance_adds_nothing first (is, none) = absurd (cc none)
 
 spending_met : IsMet one_owner draws 4 (spends 5) [] (spending 1000000 None 2) [] before
-unfolding IsMet IsSpending cost_of_charges partition_cost spent_by
+unfolding IsMet IsSpending cost_of_charges parts_cost partition_cost spent_by
 spending_met = ((before, (before, refl), refl, refl), refl)
 
 spending_adds_nothing : (first : Told) → IsMet one_owner draws 4 (spends 5) [] (spending 1000000 None 2) (first ∷ []) before → ⊥
@@ -212,11 +212,11 @@ unfolding IsMetExactly
 not_exactly_on_later_ones (is, none, rest) = let two : 2 ≡ 1 = ap length rest in omega (arith, two)
 
 balance_met_exactly : IsMetExactly one_owner draws 4 balances before (remaining 1000000 9000000 2) [] before
-unfolding IsMetExactly cost_of cost_of_charges partition_cost budget_of
+unfolding IsMetExactly cost_of cost_of_charges parts_cost partition_cost budget_of
 balance_met_exactly = (refl, refl, refl)
 
 spending_met_exactly : IsMetExactly one_owner draws 4 (spends 5) before (spending 1000000 None 2) [] before
-unfolding IsMetExactly cost_of_charges partition_cost spent_by
+unfolding IsMetExactly cost_of_charges parts_cost partition_cost spent_by
 spending_met_exactly = (refl, refl, refl)
 
 query_met_exactly : IsMetExactly one_owner draws 0 (asks query) before (refused no_memory) [] before

@@ -1,7 +1,7 @@
 -- what a ledger answers, worked out by computation
 use Rattle.std.proofs.Common.{◌≡◌, ℕ, pos, negsuc, List, [], ◌∷◌, ◌++◌, replicate, refl}
 use Rattle.partition_charge.specs.declared.view.View.TheVariants.{Whole}
-use Rattle.partition_charge.specs.Cost.{cost_of_charges, partition_cost}
+use Rattle.partition_charge.specs.Cost.{cost_of_charges, partition_cost, parts_cost}
 use Rattle.journal_records.specs.declared.records.Outcome.TheVariants.{Answered, Exhausted, Lost}
 use Rattle.journal_records.specs.declared.records.Record.{Record}
 use Rattle.journal_records.specs.declared.records.Record.TheVariants.{Reserve}
@@ -60,12 +60,12 @@ unknown_then : recalled_from 2 found 2 1 ≡ Unknown 3
 unknown_then = refl
 
 left_over : left_of ledger ≡ record { spent = 6; budget = 10; seen = 10 }
-unfolding cost_of cost_of_charges partition_cost budget_of
+unfolding cost_of cost_of_charges parts_cost partition_cost budget_of
 left_over = refl
 
 -- In version 3 what the exhausted number was charged is left as well.
 left_over_in_three : left_of (record ledger { entry = record ledger.entry { version = 3 } }) ≡ record { spent = 5; budget = 10; seen = 10 }
-unfolding cost_of cost_of_charges partition_cost budget_of
+unfolding cost_of cost_of_charges parts_cost partition_cost budget_of
 left_over_in_three = refl
 
 -- Of six reservations two are answered and one is exhausted; three are lost or open.

@@ -2,7 +2,7 @@
 use Rattle.std.proofs.Common.{◌≡◌, ℕ, ◌+◌, ◌^◌, pos, true, false, List, [], ◌∷◌, replicate, refl}
 use Rattle.partition_charge.specs.declared.view.View.{View}
 use Rattle.partition_charge.specs.declared.view.View.TheVariants.{Whole, Part}
-use Rattle.partition_charge.specs.Cost.{cost_of_charges, partition_cost}
+use Rattle.partition_charge.specs.Cost.{cost_of_charges, partition_cost, parts_cost}
 use Rattle.journal_records.specs.declared.records.Outcome.TheVariants.{Answered, Exhausted, Lost}
 use Rattle.journal_records.specs.declared.records.Record.{Record}
 use Rattle.journal_records.specs.declared.records.Record.TheVariants.{Reserve}
@@ -35,7 +35,7 @@ five = settling 0 (Answered (pos 5))
 -- runs again, and an ask for 1 more is over budget.
 spent_at_once : ran (entry_of 10 100) (ToReserve (ask_of Whole 10) ∷ Send 0 ∷ ToSettle 0 (Answered (pos 5)) ∷ Send 0 ∷ Stop ∷ Open ∷ ToReserve (ask_of Whole 1) ∷ [])
     ≡ record { records = made 0 Whole 10 10 ∷ five ∷ []; start = 1; running = true; sent = 0 ∷ [] }
-unfolding cost_of cost_of_charges partition_cost budget_of
+unfolding cost_of cost_of_charges parts_cost partition_cost budget_of
 spent_at_once = refl
 
 nothing_happened : ran (entry_of 10 100) [] ≡ record { records = []; start = 0; running = true; sent = [] }
@@ -44,7 +44,7 @@ nothing_happened = refl
 -- Numbers go on after a stop, and what was left open then is never settled.
 goes_on : ran (entry_of 10 100) (ToReserve (ask_of Whole 4) ∷ Stop ∷ Open ∷ ToReserve (ask_of Whole 6) ∷ ToSettle 0 Lost ∷ ToSettle 1 Exhausted ∷ [])
     ≡ record { records = made 0 Whole 4 4 ∷ made 1 Whole 6 6 ∷ settling 1 Exhausted ∷ []; start = 1; running = true; sent = [] }
-unfolding cost_of cost_of_charges partition_cost budget_of
+unfolding cost_of cost_of_charges parts_cost partition_cost budget_of
 goes_on = refl
 
 -- ---- what comes back
@@ -61,35 +61,35 @@ dearer_returned = made 0 (Part 0 0) 6 6 ∷ made 1 (Part 0 1) 4 0 ∷ settling_b
 
 -- In version 3 it gives 2 back, and the cost is the cheaper one's.
 comes_back : ran (newest_of 10 100) dearer_exhausted ≡ record { records = dearer_returned; start = 0; running = true; sent = [] }
-unfolding cost_of cost_of_charges partition_cost budget_of
+unfolding cost_of cost_of_charges parts_cost partition_cost budget_of
 comes_back = refl
 
 cost_then : cost_of (newest_of 10 100) dearer_returned ≡ 4
-unfolding cost_of cost_of_charges partition_cost budget_of
+unfolding cost_of cost_of_charges parts_cost partition_cost budget_of
 cost_then = refl
 
 -- In version 2 it gives nothing back.
 stays_spent : ran (entry_of 10 100) dearer_exhausted
     ≡ record { records = made 0 (Part 0 0) 6 6 ∷ made 1 (Part 0 1) 4 0 ∷ settling 0 Exhausted ∷ []; start = 0; running = true; sent = [] }
-unfolding cost_of cost_of_charges partition_cost budget_of
+unfolding cost_of cost_of_charges parts_cost partition_cost budget_of
 stays_spent = refl
 
 -- The cheaper one gives nothing back, and doesn't count from then on.
 cheaper_back : ran (newest_of 10 100) (ToReserve (ask_of (Part 0 0) 6) ∷ ToReserve (ask_of (Part 0 1) 4) ∷ ToSettle 1 Exhausted ∷ ToReserve (ask_of (Part 0 1) 6) ∷ [])
     ≡ record { records = made 0 (Part 0 0) 6 6 ∷ made 1 (Part 0 1) 4 0 ∷ settling 1 Exhausted ∷ made 2 (Part 0 1) 6 0 ∷ []; start = 0; running = true; sent = [] }
-unfolding cost_of cost_of_charges partition_cost budget_of
+unfolding cost_of cost_of_charges parts_cost partition_cost budget_of
 cheaper_back = refl
 
 -- What is lost stays spent.
 lost_stays : ran (newest_of 10 100) (ToReserve (ask_of Whole 10) ∷ ToSettle 0 Lost ∷ ToReserve (ask_of Whole 1) ∷ [])
     ≡ record { records = made 0 Whole 10 10 ∷ settling 0 Lost ∷ []; start = 0; running = true; sent = [] }
-unfolding cost_of cost_of_charges partition_cost budget_of
+unfolding cost_of cost_of_charges parts_cost partition_cost budget_of
 lost_stays = refl
 
 -- What comes back is there for the next ask.
 spent_again : ran (newest_of 10 100) (ToReserve (ask_of Whole 10) ∷ ToSettle 0 Exhausted ∷ ToReserve (ask_of Whole 10) ∷ [])
     ≡ record { records = made 0 Whole 10 10 ∷ settling_back 0 Exhausted 10 ∷ made 1 Whole 10 10 ∷ []; start = 0; running = true; sent = [] }
-unfolding cost_of cost_of_charges partition_cost budget_of
+unfolding cost_of cost_of_charges parts_cost partition_cost budget_of
 spent_again = refl
 
 -- ---- one event
@@ -103,30 +103,30 @@ one_answered = record { records = made 0 Whole 4 4 ∷ five ∷ []; start = 0; r
 
 -- 6 more fit into a budget of 10, and 7 don't.
 just_within : stepped (entry_of 10 100) one_open (ToReserve (ask_of Whole 6)) ≡ record one_open { records = made 0 Whole 4 4 ∷ made 1 Whole 6 6 ∷ [] }
-unfolding cost_of cost_of_charges partition_cost budget_of
+unfolding cost_of cost_of_charges parts_cost partition_cost budget_of
 just_within = refl
 
 over_by_one : stepped (entry_of 10 100) one_open (ToReserve (ask_of Whole 7)) ≡ one_open
-unfolding cost_of cost_of_charges partition_cost budget_of
+unfolding cost_of cost_of_charges parts_cost partition_cost budget_of
 over_by_one = refl
 
 -- Two records and two more fill a capacity of 4. With 3 there is no room, though one record would fit.
 just_fits : stepped (entry_of 10 4) one_answered (ToReserve (ask_of Whole 6)) ≡ record one_answered { records = made 0 Whole 4 4 ∷ five ∷ made 1 Whole 6 6 ∷ [] }
-unfolding cost_of cost_of_charges partition_cost budget_of
+unfolding cost_of cost_of_charges parts_cost partition_cost budget_of
 just_fits = refl
 
 full_by_one : stepped (entry_of 10 3) one_answered (ToReserve (ask_of Whole 6)) ≡ one_answered
-unfolding cost_of cost_of_charges partition_cost budget_of
+unfolding cost_of cost_of_charges parts_cost partition_cost budget_of
 full_by_one = refl
 
 -- What this run left open keeps a place; what an earlier run left open doesn't.
 place_kept : stepped (entry_of 10 3) one_open (ToReserve (ask_of Whole 6)) ≡ one_open
-unfolding cost_of cost_of_charges partition_cost budget_of
+unfolding cost_of cost_of_charges parts_cost partition_cost budget_of
 place_kept = refl
 
 place_given_up : stepped (entry_of 10 3) (record one_open { start = 1 }) (ToReserve (ask_of Whole 6))
     ≡ record { records = made 0 Whole 4 4 ∷ made 1 Whole 6 6 ∷ []; start = 1; running = true; sent = [] }
-unfolding cost_of cost_of_charges partition_cost budget_of
+unfolding cost_of cost_of_charges parts_cost partition_cost budget_of
 place_given_up = refl
 
 -- An ask of another entry is none.
@@ -135,7 +135,7 @@ no_such_analyst = refl
 
 -- A number of this run that is reserved and unsettled is settled; another isn't.
 settles_it : stepped (entry_of 10 100) one_open (ToSettle 0 (Answered (pos 5))) ≡ one_answered
-unfolding cost_of cost_of_charges partition_cost budget_of
+unfolding cost_of cost_of_charges parts_cost partition_cost budget_of
 settles_it = refl
 
 settles_again : stepped (entry_of 10 100) one_answered (ToSettle 0 Lost) ≡ one_answered

@@ -8,7 +8,7 @@ use Rattle.journal_records.specs.declared.records.Record.TheVariants.{Reserve}
 use Rattle.journal_records.specs.Records.{reservation_in, settling_back, settling}
 use Rattle.budget_core.specs.declared.entry.Ask.{Ask}
 use Rattle.budget_core.specs.declared.entry.ReserveFault.TheVariants.{OverBudget, Full}
-use Rattle.partition_charge.specs.Cost.{cost_of_charges, partition_cost}
+use Rattle.partition_charge.specs.Cost.{cost_of_charges, partition_cost, parts_cost}
 use Rattle.budget_core.specs.Cost.{charge_of, charges_in, cost_of, budget_of}
 use Rattle.budget_core.specs.Bare.{without_answers}
 use Rattle.budget_core.specs.Counts.{reservations_of, reservation_of, outcome_of, asker_of, settles, reservation_number, taken_of, returned_of, open_from}
@@ -60,20 +60,20 @@ answered (suc n) = answered n ++ made n Whole 1000000 1000000 ∷ settling n (An
 
 -- Ten fit into a budget of 10; the eleventh would make it 11.
 first_ask : money_verdict (entry_of 10000000 100) 0 (answered 0) (ask_of Whole 1000000) ≡ Ok (record { number = 0; taken = 1000000; seen = 1 })
-unfolding cost_of cost_of_charges partition_cost budget_of
+unfolding cost_of cost_of_charges parts_cost partition_cost budget_of
 first_ask = refl
 
 tenth_ask : money_verdict (entry_of 10000000 100) 0 (answered 9) (ask_of Whole 1000000) ≡ Ok (record { number = 9; taken = 1000000; seen = 19 })
-unfolding cost_of cost_of_charges partition_cost budget_of
+unfolding cost_of cost_of_charges parts_cost partition_cost budget_of
 tenth_ask = refl
 
 eleventh_ask : money_verdict (entry_of 10000000 100) 0 (answered 10) (ask_of Whole 1000000) ≡ Err (OverBudget 10000000 11000000 10000000 20)
-unfolding cost_of cost_of_charges partition_cost budget_of
+unfolding cost_of cost_of_charges parts_cost partition_cost budget_of
 eleventh_ask = refl
 
 -- With a capacity of 3 one ask is answered, and the second finds two records and no room for two more.
 no_room : money_verdict (entry_of 10000000 3) 0 (answered 1) (ask_of Whole 1000000) ≡ Err (Full 2 0 3)
-unfolding cost_of cost_of_charges partition_cost budget_of
+unfolding cost_of cost_of_charges parts_cost partition_cost budget_of
 no_room = refl
 
 -- Parts of one partition cost as much as the dearest one.
@@ -87,27 +87,27 @@ abbrev parts_aba : List Record
 parts_aba = parts_ab ++ made 2 (Part 0 0) 4 4 ∷ settling 2 (Answered (pos 1)) ∷ []
 
 costs_a : cost_of (entry_of 10 100) part_a ≡ 6
-unfolding cost_of cost_of_charges partition_cost budget_of
+unfolding cost_of cost_of_charges parts_cost partition_cost budget_of
 costs_a = refl
 
 costs_ab : cost_of (entry_of 10 100) parts_ab ≡ 6
-unfolding cost_of cost_of_charges partition_cost budget_of
+unfolding cost_of cost_of_charges parts_cost partition_cost budget_of
 costs_ab = refl
 
 costs_aba : cost_of (entry_of 10 100) parts_aba ≡ 10
-unfolding cost_of cost_of_charges partition_cost budget_of
+unfolding cost_of cost_of_charges parts_cost partition_cost budget_of
 costs_aba = refl
 
 free_part : money_verdict (entry_of 10 100) 0 part_a (ask_of (Part 0 1) 6) ≡ Ok (record { number = 1; taken = 0; seen = 3 })
-unfolding cost_of cost_of_charges partition_cost budget_of
+unfolding cost_of cost_of_charges parts_cost partition_cost budget_of
 free_part = refl
 
 dearer_part : money_verdict (entry_of 10 100) 0 parts_ab (ask_of (Part 0 0) 4) ≡ Ok (record { number = 2; taken = 4; seen = 5 })
-unfolding cost_of cost_of_charges partition_cost budget_of
+unfolding cost_of cost_of_charges parts_cost partition_cost budget_of
 dearer_part = refl
 
 whole_after_parts : money_verdict (entry_of 10 100) 0 parts_aba (ask_of Whole 1) ≡ Err (OverBudget 10 11 10 6)
-unfolding cost_of cost_of_charges partition_cost budget_of
+unfolding cost_of cost_of_charges parts_cost partition_cost budget_of
 whole_after_parts = refl
 
 -- Two partitions each cost as much as their dearest part, beside the whole.
@@ -115,21 +115,21 @@ abbrev two_partitions : List Record
 two_partitions = parts_aba ++ made 3 (Part 1 0) 3 3 ∷ made 4 (Part 1 1) 2 0 ∷ made 5 Whole 5 5 ∷ []
 
 costs_both : cost_of (entry_of 10 100) two_partitions ≡ 18
-unfolding cost_of cost_of_charges partition_cost budget_of
+unfolding cost_of cost_of_charges parts_cost partition_cost budget_of
 costs_both = refl
 
 -- The last part of the last partition costs as well.
 last_of_all : cost_of (entry_of 10 100) (made 0 (Part 7 3999) 6 6 ∷ made 1 Whole 1 1 ∷ []) ≡ 7
-unfolding cost_of cost_of_charges partition_cost budget_of
+unfolding cost_of cost_of_charges parts_cost partition_cost budget_of
 last_of_all = refl
 
 no_records : cost_of (entry_of 10 100) [] ≡ 0
-unfolding cost_of cost_of_charges partition_cost budget_of
+unfolding cost_of cost_of_charges parts_cost partition_cost budget_of
 no_records = refl
 
 -- An ask of sensitivity 0 costs nothing, and is granted on a budget that is spent.
 for_nothing : money_verdict (entry_of 10 100) 0 parts_aba (record { analyst = 0; view = Whole; e = 1000000000; p = 0; q = 1; digest = digest }) ≡ Ok (record { number = 3; taken = 0; seen = 7 })
-unfolding cost_of cost_of_charges partition_cost budget_of
+unfolding cost_of cost_of_charges parts_cost partition_cost budget_of
 for_nothing = refl
 
 -- A sensitivity of 3/2 at one millionth takes 2: granted where 2 are left, and over by one where 1 is.
@@ -137,29 +137,29 @@ abbrev three_halves : Ask
 three_halves = record { analyst = 1; view = Whole; e = 1; p = 3; q = 2; digest = digest }
 
 exactly_the_budget : money_verdict (entry_of 12 100) 0 parts_aba three_halves ≡ Ok (record { number = 3; taken = 2; seen = 7 })
-unfolding cost_of cost_of_charges partition_cost budget_of
+unfolding cost_of cost_of_charges parts_cost partition_cost budget_of
 exactly_the_budget = refl
 
 one_over : money_verdict (entry_of 11 100) 0 parts_aba three_halves ≡ Err (OverBudget 10 12 11 6)
-unfolding cost_of cost_of_charges partition_cost budget_of
+unfolding cost_of cost_of_charges parts_cost partition_cost budget_of
 one_over = refl
 
 -- A part that costs nothing more is granted where the whole is over budget.
 part_at_the_end : money_verdict (entry_of 10 100) 0 parts_aba (ask_of (Part 0 1) 4) ≡ Ok (record { number = 3; taken = 0; seen = 7 })
-unfolding cost_of cost_of_charges partition_cost budget_of
+unfolding cost_of cost_of_charges parts_cost partition_cost budget_of
 part_at_the_end = refl
 
 -- Six records and two more fill a capacity of 8 exactly. One place less is too little, and over budget comes first.
 exactly_full : money_verdict (entry_of 100 8) 0 parts_aba (ask_of Whole 1) ≡ Ok (record { number = 3; taken = 1; seen = 7 })
-unfolding cost_of cost_of_charges partition_cost budget_of
+unfolding cost_of cost_of_charges parts_cost partition_cost budget_of
 exactly_full = refl
 
 one_too_many : money_verdict (entry_of 100 7) 0 parts_aba (ask_of Whole 1) ≡ Err (Full 6 0 7)
-unfolding cost_of cost_of_charges partition_cost budget_of
+unfolding cost_of cost_of_charges parts_cost partition_cost budget_of
 one_too_many = refl
 
 over_before_full : money_verdict (entry_of 10 7) 0 parts_aba (ask_of Whole 1) ≡ Err (OverBudget 10 11 10 6)
-unfolding cost_of cost_of_charges partition_cost budget_of
+unfolding cost_of cost_of_charges parts_cost partition_cost budget_of
 over_before_full = refl
 
 -- Each reservation charges its view, and a settlement nothing.
@@ -172,11 +172,11 @@ left_open = made 0 Whole 4 4 ∷ []
 
 -- A reservation that this run left open keeps a place.
 place_kept : money_verdict (entry_of 10 4) 0 left_open (ask_of Whole 1) ≡ Ok (record { number = 1; taken = 1; seen = 2 })
-unfolding cost_of cost_of_charges partition_cost budget_of
+unfolding cost_of cost_of_charges parts_cost partition_cost budget_of
 place_kept = refl
 
 no_place_beside : money_verdict (entry_of 10 3) 0 left_open (ask_of Whole 1) ≡ Err (Full 1 1 3)
-unfolding cost_of cost_of_charges partition_cost budget_of
+unfolding cost_of cost_of_charges parts_cost partition_cost budget_of
 no_place_beside = refl
 
 -- What a grant adds has the ask's fields; a refusal adds nothing.
@@ -242,11 +242,11 @@ charged_in_two : charges_in (entry_of 10 100) exhausted ≡ record { view = Whol
 charged_in_two = refl
 
 cost_in_three : cost_of (record (entry_of 10 100) { version = 3 }) exhausted ≡ 3
-unfolding cost_of cost_of_charges partition_cost budget_of
+unfolding cost_of cost_of_charges parts_cost partition_cost budget_of
 cost_in_three = refl
 
 cost_in_one : cost_of (record (entry_of 10 100) { version = 1 }) exhausted ≡ 7
-unfolding cost_of cost_of_charges partition_cost budget_of
+unfolding cost_of cost_of_charges parts_cost partition_cost budget_of
 cost_in_one = refl
 
 -- Only answers are set to 0.
@@ -256,7 +256,7 @@ answers_are_gone = refl
 
 -- A reservation that an earlier run left open keeps its cost, and no room.
 still_costs : cost_of (entry_of 10 100) left_open ≡ 4
-unfolding cost_of cost_of_charges partition_cost budget_of
+unfolding cost_of cost_of_charges parts_cost partition_cost budget_of
 still_costs = refl
 
 still_open : open_from 0 left_open ≡ 1
@@ -266,5 +266,5 @@ not_ours : open_from 1 left_open ≡ 0
 not_ours = refl
 
 next_after_open : money_verdict (entry_of 10 3) 1 left_open (ask_of Whole 6) ≡ Ok (record { number = 1; taken = 6; seen = 2 })
-unfolding cost_of cost_of_charges partition_cost budget_of
+unfolding cost_of cost_of_charges parts_cost partition_cost budget_of
 next_after_open = refl

@@ -1,7 +1,7 @@
 -- grants, worked out from the written rules
 use Rattle.std.proofs.Common.{◌≡◌, ℕ, ◌+◌, ◌^◌, ◌++◌, pos, true, List, [], ◌∷◌, replicate, Ok, Err, refl, arith}
 use Rattle.partition_charge.specs.declared.view.View.TheVariants.{Whole}
-use Rattle.partition_charge.specs.Cost.{cost_of_charges, partition_cost}
+use Rattle.partition_charge.specs.Cost.{cost_of_charges, partition_cost, parts_cost}
 use Rattle.journal_records.specs.declared.records.Outcome.TheVariants.{Answered}
 use Rattle.journal_records.specs.declared.records.Record.{Record}
 use Rattle.journal_records.specs.declared.records.Record.TheVariants.{Reserve, Grant}
@@ -40,64 +40,64 @@ all_spent = made 0 1000000 1000000 ∷ settling 0 (Answered (pos 5)) ∷ []
 
 -- Then an ask at 1/2 is over budget;
 refused : money_verdict (entry_of 1000000 100 3) 1 all_spent (ask_at 500000) ≡ Err (OverBudget 1000000 1500000 1000000 2)
-unfolding cost_of cost_of_charges partition_cost budget_of
+unfolding cost_of cost_of_charges parts_cost partition_cost budget_of
 refused = refl
 
 -- 1/2 is granted;
 raised : grant_verdict (entry_of 1000000 100 3) 1 all_spent 500000 ≡ Ok (record { spent = 1000000; budget = 1500000; seen = 3 })
-unfolding cost_of cost_of_charges partition_cost budget_of
+unfolding cost_of cost_of_charges parts_cost partition_cost budget_of
 raised = refl
 
 -- the ask is granted;
 accepted : money_verdict (entry_of 1000000 100 3) 1 (all_spent ++ granted 0 500000 ∷ []) (ask_at 500000) ≡ Ok (record { number = 1; taken = 500000; seen = 4 })
-unfolding cost_of cost_of_charges partition_cost budget_of
+unfolding cost_of cost_of_charges parts_cost partition_cost budget_of
 accepted = refl
 
 -- and all is spent again.
 spent_again : left_by (entry_of 1000000 100 3) (all_spent ++ granted 0 500000 ∷ made 1 500000 500000 ∷ settling 1 (Answered (pos 5)) ∷ [])
     ≡ record { spent = 1500000; budget = 1500000; seen = 5 }
-unfolding cost_of cost_of_charges partition_cost budget_of
+unfolding cost_of cost_of_charges parts_cost partition_cost budget_of
 spent_again = refl
 
 -- ---- the limits
 
 largest : grant_verdict (entry_of 1 2 3) 0 [] 999999999999999999 ≡ Ok (record { spent = 0; budget = 10 ^ 18; seen = 1 })
-unfolding cost_of cost_of_charges partition_cost budget_of
+unfolding cost_of cost_of_charges parts_cost partition_cost budget_of
 largest = refl
 
 too_large : grant_verdict (entry_of 1000000 100 3) 0 [] (10 ^ 18) ≡ Err (TooLarge 1000000 (10 ^ 18))
-unfolding cost_of cost_of_charges partition_cost budget_of
+unfolding cost_of cost_of_charges parts_cost partition_cost budget_of
 too_large = refl
 
 too_large_by_one : grant_verdict (entry_of 2 2 3) 0 [] 999999999999999999 ≡ Err (TooLarge 2 999999999999999999)
-unfolding cost_of cost_of_charges partition_cost budget_of
+unfolding cost_of cost_of_charges parts_cost partition_cost budget_of
 too_large_by_one = refl
 
 -- An earlier grant counts.
 too_large_by_both : grant_verdict (entry_of 1 9 3) 0 (granted 0 999999999999999999 ∷ []) 1 ≡ Err (TooLarge (10 ^ 18) 1)
-unfolding cost_of cost_of_charges partition_cost budget_of
+unfolding cost_of cost_of_charges parts_cost partition_cost budget_of
 too_large_by_both = refl
 
 -- Too large comes first, then full.
 both_too_large_and_full : grant_verdict (entry_of 2 2 3) 1 all_spent (10 ^ 18) ≡ Err (TooLarge 2 (10 ^ 18))
-unfolding cost_of cost_of_charges partition_cost budget_of
+unfolding cost_of cost_of_charges parts_cost partition_cost budget_of
 both_too_large_and_full = refl
 
 is_full : grant_verdict (entry_of 1000000 2 3) 1 all_spent 1 ≡ Err (Full 2 0 2)
-unfolding cost_of cost_of_charges partition_cost budget_of
+unfolding cost_of cost_of_charges parts_cost partition_cost budget_of
 is_full = refl
 
 just_fits : grant_verdict (entry_of 1000000 3 3) 1 all_spent 1 ≡ Ok (record { spent = 1000000; budget = 1000001; seen = 3 })
-unfolding cost_of cost_of_charges partition_cost budget_of
+unfolding cost_of cost_of_charges parts_cost partition_cost budget_of
 just_fits = refl
 
 -- A reservation of this run keeps its place for a settlement; one of an earlier run doesn't.
 place_kept : grant_verdict (entry_of 1000000 2 3) 0 (made 0 5 5 ∷ []) 1 ≡ Err (Full 1 1 2)
-unfolding cost_of cost_of_charges partition_cost budget_of
+unfolding cost_of cost_of_charges parts_cost partition_cost budget_of
 place_kept = refl
 
 place_given_up : grant_verdict (entry_of 1000000 2 3) 1 (made 0 5 5 ∷ []) 1 ≡ Ok (record { spent = 5; budget = 1000001; seen = 2 })
-unfolding cost_of cost_of_charges partition_cost budget_of
+unfolding cost_of cost_of_charges parts_cost partition_cost budget_of
 place_given_up = refl
 
 least_amount : IsAmount 1
@@ -161,7 +161,7 @@ goes_on : ran (entry_of 10 100 3)
       running = true;
       sent = [];
     }
-unfolding cost_of cost_of_charges partition_cost budget_of
+unfolding cost_of cost_of_charges parts_cost partition_cost budget_of
 goes_on = refl
 
 abbrev running_on : List Record → World
@@ -174,9 +174,9 @@ too_much_at_once : stepped (entry_of 10 100 3) (running_on []) (ToGrant 10000000
 too_much_at_once = refl
 
 too_much_in_all : stepped (entry_of 10 100 3) (running_on []) (ToGrant (10 ^ 18)) ≡ running_on []
-unfolding cost_of cost_of_charges partition_cost budget_of
+unfolding cost_of cost_of_charges parts_cost partition_cost budget_of
 too_much_in_all = refl
 
 no_room : stepped (entry_of 10 2 3) (running_on (made 0 5 5 ∷ [])) (ToGrant 1) ≡ running_on (made 0 5 5 ∷ [])
-unfolding cost_of cost_of_charges partition_cost budget_of
+unfolding cost_of cost_of_charges parts_cost partition_cost budget_of
 no_room = refl

@@ -8,7 +8,7 @@ use Rattle.journal_records.specs.declared.records.Record.{Record}
 use Rattle.journal_records.specs.declared.records.Record.TheVariants.{Reserve}
 use Rattle.journal_records.specs.Records.{settling_back, settling}
 use Rattle.budget_core.specs.declared.entry.Ask.{Ask}
-use Rattle.partition_charge.specs.Cost.{cost_of_charges, partition_cost}
+use Rattle.partition_charge.specs.Cost.{cost_of_charges, partition_cost, parts_cost}
 use Rattle.budget_core.specs.Cost.{cost_of, budget_of}
 use Rattle.budget_core.specs.Entries.{Entry, IsEntry, HasView, IsEpsilon}
 use Rattle.budget_core.specs.Ledger.{Ledger, IsAskOf, IsUnsettled}
@@ -141,11 +141,11 @@ settled = left_open ++ settling 0 Exhausted ∷ []
 
 -- The first reservation has number 0, the second number 1.
 first_may : MayFollow small [] (made 0 Whole 10 10 1)
-unfolding cost_of cost_of_charges partition_cost budget_of
+unfolding cost_of cost_of_charges parts_cost partition_cost budget_of
 first_may = record { numbered = refl; asked_by = omega arith; looks_at = tt; rise = refl; within = omega arith; limited = tt }
 
 second_may : MayFollow small settled (made 1 (Part 0 1) 6 0 0)
-unfolding cost_of cost_of_charges partition_cost budget_of
+unfolding cost_of cost_of_charges parts_cost partition_cost budget_of
 second_may = record { numbered = refl; asked_by = omega arith; looks_at = omega arith; rise = refl; within = omega arith; limited = tt }
 
 number_again : MayFollow small settled (made 0 Whole 1 1 0) → ⊥
@@ -158,16 +158,16 @@ no_such_part : MayFollow small [] (made 0 (Part 0 2) 1 1 0) → ⊥
 no_such_part may = omega (arith, may.looks_at)
 
 wrong_rise : MayFollow small settled (made 1 (Part 0 1) 6 6 0) → ⊥
-unfolding cost_of cost_of_charges partition_cost budget_of
+unfolding cost_of cost_of_charges parts_cost partition_cost budget_of
 wrong_rise may = let rise : 6 ≡ 12 = may.rise in omega (arith, rise)
 
 over_budget : MayFollow small [] (made 0 Whole 11 11 0) → ⊥
-unfolding cost_of cost_of_charges partition_cost budget_of
+unfolding cost_of cost_of_charges parts_cost partition_cost budget_of
 over_budget may = let within : 11 ≤ 10 = may.within in omega (arith, within)
 
 -- An open reservation may be settled; one that isn't there, or is settled, may not.
 settles_open : MayFollow small left_open (settling 0 (Answered (pos 5)))
-unfolding cost_of cost_of_charges partition_cost budget_of
+unfolding cost_of cost_of_charges parts_cost partition_cost budget_of
 settles_open = record { reserved = refl; unsettled = refl; fall = refl }
 
 -- It says by how much the cost falls: in version 3 where the sampler ran out of draws.
@@ -175,19 +175,19 @@ abbrev newest : Entry
 newest = record small { version = 3 }
 
 gives_back : MayFollow newest left_open (settling_back 0 Exhausted 6)
-unfolding cost_of cost_of_charges partition_cost budget_of
+unfolding cost_of cost_of_charges parts_cost partition_cost budget_of
 gives_back = record { reserved = refl; unsettled = refl; fall = refl }
 
 gives_too_little : MayFollow newest left_open (settling 0 Exhausted) → ⊥
-unfolding cost_of cost_of_charges partition_cost budget_of
+unfolding cost_of cost_of_charges parts_cost partition_cost budget_of
 gives_too_little may = let fall : 0 ≡ 6 = may.fall in omega (arith, fall)
 
 gives_for_a_loss : MayFollow newest left_open (settling_back 0 Lost 6) → ⊥
-unfolding cost_of cost_of_charges partition_cost budget_of
+unfolding cost_of cost_of_charges parts_cost partition_cost budget_of
 gives_for_a_loss may = let fall : 12 ≡ 6 = may.fall in omega (arith, fall)
 
 gives_in_two : MayFollow small left_open (settling_back 0 Exhausted 6) → ⊥
-unfolding cost_of cost_of_charges partition_cost budget_of
+unfolding cost_of cost_of_charges parts_cost partition_cost budget_of
 gives_in_two may = let fall : 12 ≡ 6 = may.fall in omega (arith, fall)
 
 settles_unknown : MayFollow small left_open (settling 1 Lost) → ⊥
@@ -202,7 +202,7 @@ no_epsilon_reserved terms = omega (arith, terms.above)
 
 -- With room for two records one reservation and its settlement are legal; with room for one they aren't.
 fits : IsLegal (entry_of 10 2 2 (2 ∷ [])) [] left_open
-unfolding cost_of cost_of_charges partition_cost budget_of
+unfolding cost_of cost_of_charges parts_cost partition_cost budget_of
 fits = legal-append (entry_of 10 2 2 (2 ∷ [])) [] [] (made 0 (Part 0 0) 6 6 0) (legal-nil (entry_of 10 2 2 (2 ∷ [])))
     (record { numbered = refl; asked_by = omega arith; looks_at = omega arith; rise = refl; within = omega arith; limited = tt })
     (ask-from (entry_of 10 2 2 (2 ∷ [])) (record { analyst = 0; view = Whole; e = 6; p = 1; q = 1; digest = digest }) refl).terms

@@ -2,7 +2,7 @@
 use Rattle.std.proofs.Common.{◌≡◌, ℕ, ◌≤◌, pos, true, List, [], ◌∷◌, ◌++◌, replicate, Option, Some, None, Ok, Err, refl, arith}
 use Rattle.partition_charge.specs.declared.view.View.{View}
 use Rattle.partition_charge.specs.declared.view.View.TheVariants.{Whole, Part}
-use Rattle.partition_charge.specs.Cost.{cost_of_charges, partition_cost}
+use Rattle.partition_charge.specs.Cost.{cost_of_charges, partition_cost, parts_cost}
 use Rattle.journal_records.specs.declared.records.Outcome.TheVariants.{Answered, Exhausted}
 use Rattle.journal_records.specs.declared.records.Record.{Record}
 use Rattle.journal_records.specs.declared.records.Record.TheVariants.{Reserve, Grant}
@@ -42,36 +42,36 @@ once = made 0 0 Whole 1000000 1000000 ∷ settling 0 (Answered (pos 5)) ∷ []
 
 -- It asks at 1, and then again: that would take it to 2.
 at_the_limit : money_verdict (entry_of 10000000 100 3 first_limited) 0 [] (ask_by 0 Whole 1000000) ≡ Ok (record { number = 0; taken = 1000000; seen = 1 })
-unfolding cost_of cost_of_charges partition_cost budget_of spent_by
+unfolding cost_of cost_of_charges parts_cost partition_cost budget_of spent_by
 at_the_limit = refl
 
 over_the_limit : money_verdict (entry_of 10000000 100 3 first_limited) 0 once (ask_by 0 Whole 1000000) ≡ Err (OverShare 1000000 2000000 1000000 2)
-unfolding cost_of cost_of_charges partition_cost budget_of spent_by
+unfolding cost_of cost_of_charges parts_cost partition_cost budget_of spent_by
 over_the_limit = refl
 
 over_by_one : money_verdict (entry_of 10000000 100 3 first_limited) 0 once (ask_by 0 Whole 1) ≡ Err (OverShare 1000000 1000001 1000000 2)
-unfolding cost_of cost_of_charges partition_cost budget_of spent_by
+unfolding cost_of cost_of_charges parts_cost partition_cost budget_of spent_by
 over_by_one = refl
 
 -- The other one asks, who has no limit.
 without_a_limit : money_verdict (entry_of 10000000 100 3 first_limited) 0 once (ask_by 1 Whole 1000000) ≡ Ok (record { number = 1; taken = 1000000; seen = 3 })
-unfolding cost_of cost_of_charges partition_cost budget_of spent_by
+unfolding cost_of cost_of_charges parts_cost partition_cost budget_of spent_by
 without_a_limit = refl
 
 abbrev both : List Record
 both = once ++ made 1 1 Whole 1000000 1000000 ∷ settling 1 (Answered (pos 7)) ∷ []
 
 mine_then : mine_by (entry_of 10000000 100 3 first_limited) both 0 ≡ record { spent = 1000000; limit = Some 1000000; seen = 4 }
-unfolding cost_of_charges partition_cost spent_by
+unfolding cost_of_charges parts_cost partition_cost spent_by
 mine_then = refl
 
 mine_without_one : mine_by (entry_of 10000000 100 3 first_limited) both 1 ≡ record { spent = 1000000; limit = None; seen = 4 }
-unfolding cost_of_charges partition_cost spent_by
+unfolding cost_of_charges parts_cost partition_cost spent_by
 mine_without_one = refl
 
 -- who isn't an analyst of the entry
 mine_of_nobody : mine_by (entry_of 10000000 100 3 first_limited) both 2 ≡ record { spent = 0; limit = None; seen = 4 }
-unfolding cost_of_charges partition_cost spent_by
+unfolding cost_of_charges parts_cost partition_cost spent_by
 mine_of_nobody = refl
 
 -- what each asked, its settlements with it; a grant is nobody's
@@ -84,17 +84,17 @@ second_asked = refl
 -- ---- which refusal comes first
 
 budget_before_limit : money_verdict (entry_of 1000000 100 3 first_limited) 0 once (ask_by 0 Whole 1000000) ≡ Err (OverBudget 1000000 2000000 1000000 2)
-unfolding cost_of cost_of_charges partition_cost budget_of spent_by
+unfolding cost_of cost_of_charges parts_cost partition_cost budget_of spent_by
 budget_before_limit = refl
 
 room_before_limit : money_verdict (entry_of 10000000 3 3 first_limited) 0 once (ask_by 0 Whole 1000000) ≡ Err (Full 2 0 3)
-unfolding cost_of cost_of_charges partition_cost budget_of spent_by
+unfolding cost_of cost_of_charges parts_cost partition_cost budget_of spent_by
 room_before_limit = refl
 
 -- A grant raises the budget and no limit.
 limit_after_a_grant : money_verdict (entry_of 1000000 100 3 first_limited) 0 (once ++ Grant (record { number = 0; amount = 9000000 }) ∷ []) (ask_by 0 Whole 1000000)
     ≡ Err (OverShare 1000000 2000000 1000000 3)
-unfolding cost_of cost_of_charges partition_cost budget_of spent_by
+unfolding cost_of cost_of_charges parts_cost partition_cost budget_of spent_by
 limit_after_a_grant = refl
 
 -- ---- parts
@@ -104,31 +104,31 @@ abbrev parts : List Record
 parts = made 0 0 (Part 0 0) 6 6 ∷ settling 0 (Answered (pos 1)) ∷ made 1 0 (Part 0 1) 4 0 ∷ settling 1 (Answered (pos 1)) ∷ []
 
 mine_of_parts : mine_by (entry_of 100 100 3 (Some 10 ∷ [])) parts 0 ≡ record { spent = 6; limit = Some 10; seen = 4 }
-unfolding cost_of_charges partition_cost spent_by
+unfolding cost_of_charges parts_cost partition_cost spent_by
 mine_of_parts = refl
 
 whole_over : money_verdict (entry_of 100 100 3 (Some 10 ∷ [])) 0 parts (ask_by 0 Whole 5) ≡ Err (OverShare 6 11 10 4)
-unfolding cost_of cost_of_charges partition_cost budget_of spent_by
+unfolding cost_of cost_of_charges parts_cost partition_cost budget_of spent_by
 whole_over = refl
 
 whole_within : money_verdict (entry_of 100 100 3 (Some 10 ∷ [])) 0 parts (ask_by 0 Whole 4) ≡ Ok (record { number = 2; taken = 4; seen = 5 })
-unfolding cost_of cost_of_charges partition_cost budget_of spent_by
+unfolding cost_of cost_of_charges parts_cost partition_cost budget_of spent_by
 whole_within = refl
 
 -- What takes nothing more of the owner's budget counts for its analyst.
 part_over : money_verdict (entry_of 100 100 3 (Some 10 ∷ Some 1 ∷ [])) 0 parts (ask_by 1 (Part 0 1) 2) ≡ Err (OverShare 0 2 1 4)
-unfolding cost_of cost_of_charges partition_cost budget_of spent_by
+unfolding cost_of cost_of_charges parts_cost partition_cost budget_of spent_by
 part_over = refl
 
 -- ---- what comes back
 
 -- In version 3 what an exhausted number was charged comes back to its analyst, and in version 2 it stays spent.
 exhausted_in_three : mine_by (entry_of 100 100 3 (Some 10 ∷ [])) (made 0 0 Whole 6 6 ∷ settling_back 0 Exhausted 6 ∷ []) 0 ≡ record { spent = 0; limit = Some 10; seen = 2 }
-unfolding cost_of_charges partition_cost spent_by
+unfolding cost_of_charges parts_cost partition_cost spent_by
 exhausted_in_three = refl
 
 exhausted_in_two : mine_by (entry_of 100 100 2 (Some 10 ∷ [])) (made 0 0 Whole 6 6 ∷ settling 0 Exhausted ∷ []) 0 ≡ record { spent = 6; limit = Some 10; seen = 2 }
-unfolding cost_of_charges partition_cost spent_by
+unfolding cost_of_charges parts_cost partition_cost spent_by
 exhausted_in_two = refl
 
 -- ---- shares of a budget
@@ -141,16 +141,16 @@ abbrev first_share : List Record
 first_share = made 0 0 Whole 600000 600000 ∷ settling 0 (Answered (pos 5)) ∷ []
 
 first_is_over : money_verdict shared 0 first_share (ask_by 0 Whole 1) ≡ Err (OverShare 600000 600001 600000 2)
-unfolding cost_of cost_of_charges partition_cost budget_of spent_by
+unfolding cost_of cost_of_charges parts_cost partition_cost budget_of spent_by
 first_is_over = refl
 
 second_has_its_own : money_verdict shared 0 first_share (ask_by 1 Whole 400000) ≡ Ok (record { number = 1; taken = 400000; seen = 3 })
-unfolding cost_of cost_of_charges partition_cost budget_of spent_by
+unfolding cost_of cost_of_charges parts_cost partition_cost budget_of spent_by
 second_has_its_own = refl
 
 first_has_its_own : money_verdict shared 0 (made 0 1 Whole 400000 400000 ∷ settling 0 (Answered (pos 5)) ∷ []) (ask_by 0 Whole 600000)
     ≡ Ok (record { number = 1; taken = 600000; seen = 3 })
-unfolding cost_of cost_of_charges partition_cost budget_of spent_by
+unfolding cost_of cost_of_charges parts_cost partition_cost budget_of spent_by
 first_has_its_own = refl
 
 -- ---- entries, the machine and records
@@ -171,13 +171,13 @@ abbrev running_on : List Record → World
 running_on records = record { records = records; start = 0; running = true; sent = [] }
 
 adds_nothing : stepped (entry_of 10000000 100 3 first_limited) (running_on once) (ToReserve (ask_by 0 Whole 1)) ≡ running_on once
-unfolding cost_of cost_of_charges partition_cost budget_of spent_by
+unfolding cost_of cost_of_charges parts_cost partition_cost budget_of spent_by
 adds_nothing = refl
 
 may_not_follow : MayFollow (entry_of 10000000 100 3 first_limited) once (made 1 0 Whole 1 1) → ⊥
-unfolding cost_of cost_of_charges partition_cost budget_of spent_by
+unfolding cost_of cost_of_charges parts_cost partition_cost budget_of spent_by
 may_not_follow may = let limited : 1000001 ≤ 1000000 = may.limited in omega (arith, limited)
 
 may_follow : MayFollow (entry_of 10000000 100 3 first_limited) once (made 1 1 Whole 1 1)
-unfolding cost_of cost_of_charges partition_cost budget_of spent_by
+unfolding cost_of cost_of_charges parts_cost partition_cost budget_of spent_by
 may_follow = record { numbered = refl; asked_by = omega arith; looks_at = tt; rise = refl; within = omega arith; limited = tt }

@@ -7,7 +7,7 @@ use mathlib.Core.Logic.{◌⊎◌, inl, inr}
 use Rattle.partition_charge.specs.declared.view.View.{View}
 use Rattle.partition_charge.specs.declared.view.View.TheVariants.{Whole, Part}
 use Rattle.partition_charge.specs.Views.{partition_range}
-use Rattle.partition_charge.specs.Cost.{Charge, charged_to, charges_of, total_below, partition_cost, cost_of_charges}
+use Rattle.partition_charge.specs.Cost.{Charge, charged_to, charges_of, total_below, partition_cost, parts_cost, cost_of_charges}
 use Rattle.partition_charge.proofs.Charges.{cost-nil, dearest-at, dearest-le}
 use Rattle.journal_records.specs.declared.records.Reservation.{Reservation}
 use Rattle.journal_records.specs.declared.records.Record.{Record}
@@ -88,7 +88,7 @@ covered m n whole wholes part parts first each = omega (
 
 costs-covered : (n : ℕ) (all : List Charge) (own : ℕ → List Charge) → ((view : View) → charges_of view all ≡ total_below n (λ a. charges_of view (own a)))
     → cost_of_charges all ≤ total_below n (λ a. cost_of_charges (own a))
-unfolding cost_of_charges
+unfolding cost_of_charges parts_cost
 costs-covered n all own views =
     covered partition_range n (charges_of Whole all) (λ a. charges_of Whole (own a)) (partition_cost all) (λ a p. partition_cost (own a) p)
     (same-le (charges_of Whole all) (total_below n (λ a. charges_of Whole (own a))) (views Whole))

@@ -9,7 +9,7 @@ use Rattle.journal_records.specs.declared.records.Header.{Header}
 use Rattle.budget_journal.specs.Journals.{Stands}
 use Rattle.budget_journal.proofs.One.{stands-one}
 use Rattle.partition_charge.specs.declared.view.View.TheVariants.{Whole}
-use Rattle.partition_charge.specs.Cost.{cost_of_charges, partition_cost}
+use Rattle.partition_charge.specs.Cost.{cost_of_charges, partition_cost, parts_cost}
 use Rattle.budget_core.specs.declared.entry.Ask.{Ask}
 use Rattle.budget_core.specs.declared.entry.ReserveFault.TheVariants.{OverBudget, Full, OverShare}
 use Rattle.budget_core.specs.Entries.{Entry}
@@ -142,14 +142,14 @@ module _ (header : Header) (bytes : List ℕ) (before after : Storage) (head : b
 
 -- the first grant has number 0 and leads to those records, and the grant behind the stop has number 1
 first_grant : money_verdict small 0 [] one ≡ Ok (record { number = 0; taken = 6; seen = 1 })
-unfolding cost_of cost_of_charges partition_cost budget_of
+unfolding cost_of cost_of_charges parts_cost partition_cost budget_of
 first_grant = refl
 
 first_records : records_after [] one (Ok (record { number = 0; taken = 6; seen = 1 })) ≡ left_open
 first_records = refl
 
 grant_behind_the_stop : money_verdict small 1 left_open one ≡ Ok (record { number = 1; taken = 6; seen = 2 })
-unfolding cost_of cost_of_charges partition_cost budget_of
+unfolding cost_of cost_of_charges parts_cost partition_cost budget_of
 grant_behind_the_stop = refl
 
 -- ---- which refusal of an ask comes first
@@ -167,15 +167,15 @@ module _ (header : Header) (trace : Option Trace) where
 
   -- the budget and the room are looked at before the book that is closed: the ask would take the cost to 26, and the records to four
   over_budget_first : IsReserved three_shut (record one { e = 20 }) (Err (Refused (OverBudget 6 26 20 1))) three_shut
-  unfolding cost_of cost_of_charges partition_cost budget_of
+  unfolding cost_of cost_of_charges parts_cost partition_cost budget_of
   over_budget_first = (refl, refl)
 
   full_first : IsReserved three_shut one (Err (Refused (Full 1 1 3))) three_shut
-  unfolding cost_of cost_of_charges partition_cost budget_of
+  unfolding cost_of cost_of_charges parts_cost partition_cost budget_of
   full_first = (refl, refl)
 
   not_closed_first : (new : Account) → IsReserved three_shut one (Err (Unwritten (Closed 3))) new → ⊥
-  unfolding cost_of cost_of_charges partition_cost budget_of
+  unfolding cost_of cost_of_charges parts_cost partition_cost budget_of
   not_closed_first new answer = absurd (cc answer.0)
 
   -- with room for it the ask is refused for the book
@@ -183,7 +183,7 @@ module _ (header : Header) (trace : Option Trace) where
   four_shut = record three_shut { ledger = record three_shut.ledger { entry = record small { capacity = 4 } } }
 
   then_closed : IsReserved four_shut one (Err (Unwritten (Closed 3))) four_shut
-  unfolding cost_of cost_of_charges partition_cost budget_of
+  unfolding cost_of cost_of_charges parts_cost partition_cost budget_of
   then_closed = (refl, refl)
 
   -- so it is where the ask is above its analyst's limit, which comes last
@@ -194,39 +194,39 @@ module _ (header : Header) (trace : Option Trace) where
   limited_shut = limited (Some (record { failed_at = 3; pending = lost }))
 
   closed_before_its_limit : IsReserved limited_shut one (Err (Unwritten (Closed 3))) limited_shut
-  unfolding cost_of cost_of_charges partition_cost budget_of spent_by
+  unfolding cost_of cost_of_charges parts_cost partition_cost budget_of spent_by
   closed_before_its_limit = (refl, refl)
 
   above_its_limit : IsReserved (limited None) one (Err (Refused (OverShare 6 12 10 1))) (limited None)
-  unfolding cost_of cost_of_charges partition_cost budget_of spent_by
+  unfolding cost_of cost_of_charges parts_cost partition_cost budget_of spent_by
   above_its_limit = (refl, refl)
 
   not_above_when_closed : (new : Account) → IsReserved limited_shut one (Err (Refused (OverShare 6 12 10 1))) new → ⊥
-  unfolding cost_of cost_of_charges partition_cost budget_of spent_by
+  unfolding cost_of cost_of_charges parts_cost partition_cost budget_of spent_by
   not_above_when_closed new answer = absurd (cc answer.0)
 
   over_budget_before_its_limit : IsReserved limited_shut (record one { e = 20 }) (Err (Refused (OverBudget 6 26 20 1))) limited_shut
-  unfolding cost_of cost_of_charges partition_cost budget_of spent_by
+  unfolding cost_of cost_of_charges parts_cost partition_cost budget_of spent_by
   over_budget_before_its_limit = (refl, refl)
 
   -- and so is a grant: the limit and the room come first
   grant_too_large : IsRaised three_shut 999999999999999981 (Err (NotGranted (TooLarge 20 999999999999999981))) three_shut
-  unfolding cost_of cost_of_charges partition_cost budget_of
+  unfolding cost_of cost_of_charges parts_cost partition_cost budget_of
   grant_too_large = (refl, refl)
 
   abbrev two_shut : Account
   two_shut = record three_shut { ledger = record three_shut.ledger { entry = record small { capacity = 2 } } }
 
   grant_full : IsRaised two_shut 5 (Err (NotGranted (IsFull 1 1 2))) two_shut
-  unfolding cost_of cost_of_charges partition_cost budget_of
+  unfolding cost_of cost_of_charges parts_cost partition_cost budget_of
   grant_full = (refl, refl)
 
   grant_then_closed : IsRaised three_shut 999999999999999980 (Err (NotWritten (Closed 3))) three_shut
-  unfolding cost_of cost_of_charges partition_cost budget_of
+  unfolding cost_of cost_of_charges parts_cost partition_cost budget_of
   grant_then_closed = ((record { spent = 6; budget = 1000000000000000000; seen = 2 }, refl), (record { failed_at = 3; pending = lost }, refl, refl, refl))
 
   -- written to a book that isn't closed
   grant_written : IsRaised (after_a_fault None) 5 (Ok (record { spent = 6; budget = 25; seen = 2 }))
       (record (after_a_fault None) { ledger = record (after_a_fault None).ledger { records = left_open ++ Granted (record { number = 0; amount = 5 }) ∷ [] } })
-  unfolding cost_of cost_of_charges partition_cost budget_of
+  unfolding cost_of cost_of_charges parts_cost partition_cost budget_of
   grant_written = (refl, record { ledger = refl; open_before = refl; open_after = refl })

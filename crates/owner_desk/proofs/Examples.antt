@@ -6,7 +6,7 @@ use Rattle.journal_records.specs.declared.records.Record.{Record}
 use Rattle.journal_records.specs.declared.records.Record.TheVariants.{Reserve}
 use Rattle.journal_records.specs.Records.{outcome_in, settling_back, settling}
 use Rattle.partition_charge.specs.declared.view.View.TheVariants.{Whole}
-use Rattle.partition_charge.specs.Cost.{cost_of_charges, partition_cost}
+use Rattle.partition_charge.specs.Cost.{cost_of_charges, partition_cost, parts_cost}
 use Rattle.budget_core.specs.declared.entry.Ask.{Ask}
 use Rattle.budget_core.specs.declared.entry.Grant.{Grant}
 use Rattle.budget_core.specs.declared.entry.ReserveFault.TheVariants.{OverBudget, OverShare}
@@ -86,7 +86,7 @@ grant number seen = record { number = number; taken = 6; seen = seen }
 
 -- It is granted on the records g that are there, and stands right behind them.
 reserves : HasReserved (pass found None [] []) one (Ok (grant 2 4)) (pass (others ++ reserved 2 ∷ []) None ((3, reserved 2) ∷ []) [])
-unfolding cost_of cost_of_charges partition_cost budget_of
+unfolding cost_of cost_of_charges parts_cost partition_cost budget_of
 reserves = (others, (reserved 1 ∷ [], refl), (refl, record { open_before = refl; open_after = refl; seen = refl; own = refl; faults = refl }))
 
 -- nor may it stand elsewhere, be forgotten, or be granted on the records found where more are there
@@ -114,12 +114,12 @@ abbrev full : List Record
 full = others ++ reserved 2 ∷ []
 
 refuses : HasReserved (pass found None [] []) one (Err (Refused (OverBudget 18 24 20 4))) (pass full None [] [])
-unfolding cost_of cost_of_charges partition_cost budget_of
+unfolding cost_of cost_of_charges parts_cost partition_cost budget_of
 refuses = (full, (reserved 1 ∷ reserved 2 ∷ [], refl), (refl, record { seen = refl; own = refl; faults = refl; closed = λ failure was. was }))
 
 -- The append fails: the pass has one fault more, which shut the book, and no record more.
 breaks : HasReserved (pass found None [] []) one (Err (Unwritten DiskFault)) (pass found (Some (failed (reserved 1))) [] (failed (reserved 1) ∷ []))
-unfolding cost_of cost_of_charges partition_cost budget_of
+unfolding cost_of cost_of_charges parts_cost partition_cost budget_of
 breaks = (
   found,
   ([], refl),
@@ -134,7 +134,7 @@ not_after_a_failure (g, begins, (given, verdict, fails)) = let no : Some (failed
 
 -- Another pass's append has failed: this pass learns of it, with its count, and it isn't a fault of its own.
 learns : HasReserved (pass found None [] []) one (Err (Unwritten (Closed 3))) (pass found (Some (failed (reserved 1))) [] [])
-unfolding cost_of cost_of_charges partition_cost budget_of
+unfolding cost_of cost_of_charges parts_cost partition_cost budget_of
 learns = (
   found,
   ([], refl),
@@ -142,7 +142,7 @@ learns = (
 )
 
 not_another_count : HasReserved (pass found None [] []) one (Err (Unwritten (Closed 4))) (pass found (Some (failed (reserved 1))) [] []) → ⊥
-unfolding cost_of cost_of_charges partition_cost budget_of
+unfolding cost_of cost_of_charges parts_cost partition_cost budget_of
 not_another_count (g, begins, (verdict, stays)) =
     let same : Err (Unwritten (Closed 3)) ≡ Err (Unwritten (Closed 4)) = subst (λ (records : List Record). verdict_on (pass found None [] []) records (Some (failed (reserved 1))) one ≡ Err (Unwritten (Closed 4))) (sym stays.seen) verdict in
     let four : ◌≡◌ {A = ℕ} 3 4 = cc same in omega (arith, four)
@@ -174,7 +174,7 @@ not_granted_twice h = h.unsettled 3 Lost 0 (inr (inl refl))
 -- A settlement goes to the records that are there by then.
 settles : HasSettled (pass (found ++ reserved 1 ∷ []) None ((2, reserved 1) ∷ []) []) 1 Exhausted (Ok 5)
     (pass (found ++ reserved 1 ∷ reserved 2 ∷ settling 1 Exhausted ∷ []) None ((2, reserved 1) ∷ (4, settling 1 Exhausted) ∷ []) [])
-unfolding cost_of cost_of_charges partition_cost budget_of
+unfolding cost_of cost_of_charges parts_cost partition_cost budget_of
 settles = (
   found ++ reserved 1 ∷ reserved 2 ∷ [],
   (reserved 2 ∷ [], refl),
@@ -190,7 +190,7 @@ not_as_another_outcome (g, begins, (adds, counted)) =
 
 -- What is left is told by all records that are there, and is none of a state before those seen.
 looks : HasLooked (pass found None [] []) (λ ledger. left_by ledger.entry ledger.records ≡ record { spent = 12; budget = 20; seen = 3 }) (pass others None [] [])
-unfolding cost_of cost_of_charges partition_cost budget_of
+unfolding cost_of cost_of_charges parts_cost partition_cost budget_of
 looks = (others, (reserved 1 ∷ [], refl), refl, record { seen = refl; own = refl; faults = refl; closed = λ failure was. was })
 
 not_a_look_back : (IsTold : Ledger → Type 0) → HasLooked (pass others None [] []) IsTold (pass found None [] []) → ⊥
@@ -202,34 +202,34 @@ abbrev with_limit : Pass → Pass
 with_limit p = record p { opened = record p.opened { ledger = record p.opened.ledger { entry = record p.opened.ledger.entry { limits = Some 12 ∷ [] } } } }
 
 within_its_share : HasReserved (with_limit (pass found None [] [])) one (Ok (grant 1 3)) (with_limit (pass others None ((2, reserved 1) ∷ []) []))
-unfolding cost_of cost_of_charges partition_cost budget_of spent_by
+unfolding cost_of cost_of_charges parts_cost partition_cost budget_of spent_by
 within_its_share = (found, ([], refl), (refl, record { open_before = refl; open_after = refl; seen = refl; own = refl; faults = refl }))
 
 over_its_share : HasReserved (with_limit (pass found None [] [])) one (Err (Refused (OverShare 12 18 12 3))) (with_limit (pass others None [] []))
-unfolding cost_of cost_of_charges partition_cost budget_of spent_by
+unfolding cost_of cost_of_charges parts_cost partition_cost budget_of spent_by
 over_its_share = (others, (reserved 1 ∷ [], refl), (refl, record { seen = refl; own = refl; faults = refl; closed = λ failure was. was }))
 
 -- A closed book is looked at before a share, and after the budget.
 shut_before_a_share : HasReserved (with_limit (pass found None [] [])) one (Err (Unwritten (Closed 3))) (with_limit (pass others (Some (failed (reserved 1))) [] []))
-unfolding cost_of cost_of_charges partition_cost budget_of
+unfolding cost_of cost_of_charges parts_cost partition_cost budget_of
 shut_before_a_share = (others, (reserved 1 ∷ [], refl), (refl, record { seen = refl; own = refl; faults = refl; closed = λ failure was. absurd (cc was) }))
 
 no_share_when_shut : HasReserved (with_limit (pass found None [] [])) one (Err (Refused (OverShare 12 18 12 3))) (with_limit (pass others (Some (failed (reserved 1))) [] [])) → ⊥
-unfolding cost_of cost_of_charges partition_cost budget_of
+unfolding cost_of cost_of_charges parts_cost partition_cost budget_of
 no_share_when_shut (g, begins, (verdict, stays)) =
     let same : Err (Unwritten (Closed 3)) ≡ Err (Refused (OverShare 12 18 12 3)) =
     subst (λ (records : List Record). verdict_on (with_limit (pass found None [] [])) records (Some (failed (reserved 1))) one ≡ Err (Refused (OverShare 12 18 12 3))) (sym stays.seen) verdict in
     cc same
 
 budget_before_shut : HasReserved (with_limit (pass found None [] [])) one (Err (Refused (OverBudget 18 24 20 4))) (with_limit (pass full (Some (failed (reserved 1))) [] []))
-unfolding cost_of cost_of_charges partition_cost budget_of
+unfolding cost_of cost_of_charges parts_cost partition_cost budget_of
 budget_before_shut = (full, (reserved 1 ∷ reserved 2 ∷ [], refl), (refl, record { seen = refl; own = refl; faults = refl; closed = λ failure was. absurd (cc was) }))
 
 -- what it spent is told by all records that are there, to itself; another has spent nothing, and has no limit
 looks_at_its_own : HasLooked (with_limit (pass found None [] [])) (λ ledger. mine_by ledger.entry ledger.records 0 ≡ record { spent = 12; limit = Some 12; seen = 3 }) (with_limit (pass others None [] []))
-unfolding cost_of_charges partition_cost spent_by
+unfolding cost_of_charges parts_cost partition_cost spent_by
 looks_at_its_own = (others, (reserved 1 ∷ [], refl), refl, record { seen = refl; own = refl; faults = refl; closed = λ failure was. was })
 
 looks_at_anothers : HasLooked (with_limit (pass found None [] [])) (λ ledger. mine_by ledger.entry ledger.records 1 ≡ record { spent = 0; limit = None; seen = 2 }) (with_limit (pass found None [] []))
-unfolding cost_of_charges partition_cost spent_by
+unfolding cost_of_charges parts_cost partition_cost spent_by
 looks_at_anothers = (found, ([], refl), refl, record { seen = refl; own = refl; faults = refl; closed = λ failure was. was })

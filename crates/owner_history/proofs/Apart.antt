@@ -5,7 +5,7 @@ use Rattle.std.proofs.lemmas.List.Elements.{All-get_or}
 use Rattle.partition_charge.specs.declared.view.View.{View}
 use Rattle.partition_charge.specs.declared.view.View.TheVariants.{Whole, Part}
 use Rattle.partition_charge.specs.Views.{partition_range, part_limit}
-use Rattle.partition_charge.specs.Cost.{Charge, charges_of, partition_cost, cost_of_charges}
+use Rattle.partition_charge.specs.Cost.{Charge, charges_of, partition_cost, parts_cost, cost_of_charges}
 use Rattle.partition_charge.proofs.Charges.{dearest-at}
 use Rattle.fz_ast.specs.Signature.{Signature}
 use Rattle.metric_values.specs.Tables.{Dataset, IsDataset, apart}
@@ -66,6 +66,6 @@ dearest-within charges p = greatest-within part_limit (partition_cost charges p)
 pub charges-within : (tables : Signature) (partitions : List PartitionEntry) (rows other : Dataset) (charges : List Charge)
     → ArePartitions tables partitions → IsDataset tables rows → IsDataset tables other
     → weighed (far partitions rows other) charges ≤ cost_of_charges charges * apart rows other
-unfolding cost_of_charges
+unfolding cost_of_charges parts_cost
 charges-within tables partitions rows other charges are first second =
     weighed-within partition_range part_limit (far partitions rows other) (apart rows other) (far-spread tables partitions rows other are first second) charges (partition_cost charges) (dearest-within charges)

@@ -4,7 +4,7 @@ use Rattle.std.specs.List.{IsDistinct}
 use Rattle.std.proofs.lemmas.List.Elements.{All-from_recursion}
 use Rattle.partition_charge.specs.declared.view.View.{View}
 use Rattle.partition_charge.specs.declared.view.View.TheVariants.{Whole, Part}
-use Rattle.partition_charge.specs.Cost.{cost_of_charges, partition_cost}
+use Rattle.partition_charge.specs.Cost.{cost_of_charges, partition_cost, parts_cost}
 use Rattle.journal_records.specs.declared.records.Outcome.TheVariants.{Answered}
 use Rattle.journal_records.specs.declared.records.Record.{Record}
 use Rattle.journal_records.specs.declared.records.Record.TheVariants.{Reserve}
@@ -159,7 +159,7 @@ abbrev both_cities : List Record
 both_cities = asked 0 (Part 0 0) 1000000 1000000 size_people ∷ settled 0 ∷ asked 1 (Part 0 1) 1000000 0 size_people ∷ settled 1 ∷ []
 
 cities_cost_once : cost_of an_entry both_cities ≡ 1000000
-unfolding cost_of cost_of_charges partition_cost budget_of
+unfolding cost_of cost_of_charges parts_cost partition_cost budget_of
 cities_cost_once = refl
 
 -- each answer is displaced by 1
@@ -203,7 +203,7 @@ mix =
 
 -- the whole 500000, cities 1000000, teams 1000000, places 250000
 mix_costs : cost_of an_entry mix ≡ 2750000
-unfolding cost_of cost_of_charges partition_cost budget_of
+unfolding cost_of cost_of_charges parts_cost partition_cost budget_of
 mix_costs = refl
 
 -- 1 in A, 2 in the whole at half, 1 in B, 2 among the red, and 1 at the pool at a quarter

@@ -6,7 +6,7 @@ use Rattle.std.proofs.lemmas.List.Elements.{All-head, All-tail}
 use Rattle.partition_charge.specs.declared.view.View.{View}
 use Rattle.partition_charge.specs.declared.view.View.TheVariants.{Whole, Part}
 use Rattle.partition_charge.specs.Views.{IsView, same_view, partition_range, part_limit}
-use Rattle.partition_charge.specs.Cost.{Charge, charged_to, charges_of, greatest_by, total_below, part_cost, partition_cost, cost_of_charges}
+use Rattle.partition_charge.specs.Cost.{Charge, charged_to, charges_of, greatest_by, total_below, part_cost, partition_cost, parts_cost, cost_of_charges}
 
 -- ---- sums and greatest ones
 
@@ -136,12 +136,30 @@ same-partition xs ys p same =
     let down : partition_cost xs p ≤ partition_cost ys p = dearest-le xs p (partition_cost ys p) (λ j. omega (arith, same j, dearest-at ys p j)) in
     omega (arith, up, down)
 
+-- ---- all partitions
+
+parts-same : (xs ys : List Charge) → ((p : ℕ) → partition_cost ys p ≡ partition_cost xs p) → parts_cost ys ≡ parts_cost xs
+unfolding parts_cost
+parts-same xs ys same = total-same partition_range (partition_cost xs) (partition_cost ys) (λ p lt. same p)
+
+parts-at : (charges : List Charge) (p : ℕ) → p < partition_range → partition_cost charges p ≤ parts_cost charges
+unfolding parts_cost
+parts-at charges p lt = total-at partition_range (partition_cost charges) p lt
+
+parts-changed : (xs ys : List Charge) (p : ℕ) → p < partition_range → ((q : ℕ) → (q ≡ p → ⊥) → partition_cost ys q ≡ partition_cost xs q)
+    → parts_cost ys + partition_cost xs p ≡ parts_cost xs + partition_cost ys p
+unfolding parts_cost
+parts-changed xs ys p lt others = total-changed partition_range (partition_cost xs) (partition_cost ys) p lt others
+
+parts-zero : (charges : List Charge) → ((p : ℕ) → partition_cost charges p ≡ 0) → parts_cost charges ≡ 0
+unfolding parts_cost
+parts-zero charges none = total-zero partition_range (partition_cost charges) none
+
 -- Lists that charge each view the same cost the same.
 pub same-cost : (xs ys : List Charge) → ((view : View) → charges_of view ys ≡ charges_of view xs) → cost_of_charges ys ≡ cost_of_charges xs
 unfolding cost_of_charges
 same-cost xs ys same =
-    let parts : total_below partition_range (partition_cost ys) ≡ total_below partition_range (partition_cost xs)
-    = total-same partition_range (partition_cost xs) (partition_cost ys) (λ p lt. same-partition xs ys p (λ j. same (Part p j))) in
+    let parts : parts_cost ys ≡ parts_cost xs = parts-same xs ys (λ p. same-partition xs ys p (λ j. same (Part p j))) in
     omega (arith, parts, same Whole)
 
 -- The whole view's charges and a partition's cost are at most the cost.
@@ -151,7 +169,7 @@ whole-within charges = omega arith
 
 pub partition-within : (charges : List Charge) (p : ℕ) → p < partition_range → partition_cost charges p ≤ cost_of_charges charges
 unfolding cost_of_charges
-partition-within charges p lt = omega (arith, total-at partition_range (partition_cost charges) p lt)
+partition-within charges p lt = omega (arith, parts-at charges p lt)
 
 module _ (charges : List Charge) (amount : ℕ) where
   -- ---- to the whole
@@ -169,8 +187,7 @@ module _ (charges : List Charge) (amount : ℕ) where
   unfolding cost_of_charges
   whole-cost =
       let whole : charges_of Whole with_whole ≡ charges_of Whole charges + amount = charges-append Whole charges (record { view = Whole; amount = amount }) in
-      let parts : total_below partition_range (partition_cost with_whole) ≡ total_below partition_range (partition_cost charges)
-      = total-same partition_range (partition_cost charges) (partition_cost with_whole) (λ p lt. whole-partition p) in
+      let parts : parts_cost with_whole ≡ parts_cost charges = parts-same charges with_whole whole-partition in
       omega arith
 
   -- ---- to a part
@@ -223,21 +240,20 @@ module _ (charges : List Charge) (amount : ℕ) where
         (charges_of (Part p j) charges + amount - partition_cost charges p)
     unfolding cost_of_charges
     part-cost lt =
-        let parts : total_below partition_range (partition_cost with_part) + partition_cost charges p ≡ total_below partition_range
-        (partition_cost charges) + partition_cost with_part p
-        = total-changed partition_range (partition_cost charges) (partition_cost with_part) p lt elsewhere-partition in
+        let parts : parts_cost with_part + partition_cost charges p ≡ parts_cost charges + partition_cost with_part p
+        = parts-changed charges with_part p lt elsewhere-partition in
         omega (arith, parts, part-whole, part-partition)
 
     -- a part's sum is at most the cost
     pub part-le : p < partition_range → charges_of (Part p j) charges + amount ≤ cost_of_charges
         (charges ++ record { view = Part p j; amount = amount } ∷ [])
     unfolding cost_of_charges
-    part-le lt = omega (arith, part-partition, total-at partition_range (partition_cost with_part) p lt)
+    part-le lt = omega (arith, part-partition, parts-at with_part p lt)
 
 -- ---- laws
 
 pub cost-nil : cost_of_charges [] ≡ 0
-unfolding cost_of_charges partition_cost
+unfolding cost_of_charges parts_cost partition_cost
 cost-nil = refl
 
 pub partition-nil : (p : ℕ) → partition_cost [] p ≡ 0
@@ -245,7 +261,8 @@ unfolding partition_cost
 partition-nil p = refl
 
 parts-le : (xs ys : List Charge) → ((p j : ℕ) → charges_of (Part p j) xs ≤ charges_of (Part p j) ys)
-    → total_below partition_range (partition_cost xs) ≤ total_below partition_range (partition_cost ys)
+    → parts_cost xs ≤ parts_cost ys
+unfolding parts_cost
 parts-le xs ys below = total-le partition_range (partition_cost xs) (partition_cost ys)
     (λ p. dearest-le xs p (partition_cost ys p) (λ j. omega (arith, below p j, dearest-at ys p j)))
 
@@ -284,7 +301,7 @@ whole-partitions charges all p =
 pub adds-up-whole : (charges : List Charge) → All is_whole charges → cost_of_charges charges ≡ sum_by (λ (charge : Charge). charge.amount) charges
 unfolding cost_of_charges
 adds-up-whole charges all =
-    ap (λ (n : ℕ). charges_of Whole charges + n) (total-zero partition_range (partition_cost charges) (whole-partitions charges all))
+    ap (λ (n : ℕ). charges_of Whole charges + n) (parts-zero charges (whole-partitions charges all))
     ∙ add-zero (charges_of Whole charges) ∙ sum-whole charges all
 
 -- ---- where the view is given

@@ -4,7 +4,7 @@ use Rattle.partition_charge.specs.declared.view.View.TheVariants.{Whole, Part}
 use Rattle.partition_charge.specs.declared.parts.PartSum.{PartSum}
 use Rattle.partition_charge.specs.Views.{IsView, IsPartBelow, same_view, partition_limit, partition_range}
 use Rattle.partition_charge.specs.Parts.{sum_of, sum_without, IsInOrder, AreBelow, HasPlaceAmong}
-use Rattle.partition_charge.specs.Cost.{Charge, charges_of, greatest_by, partition_cost, cost_of_charges}
+use Rattle.partition_charge.specs.Cost.{Charge, charges_of, greatest_by, partition_cost, parts_cost, cost_of_charges}
 
 abbrev whole : ℕ → Charge
 whole amount = record { view = Whole; amount = amount }
@@ -13,50 +13,50 @@ abbrev part : (p j amount : ℕ) → Charge
 part p j amount = record { view = Part p j; amount = amount }
 
 no_charge : cost_of_charges [] ≡ 0
-unfolding cost_of_charges partition_cost
+unfolding cost_of_charges parts_cost partition_cost
 no_charge = refl
 
 -- the whole view's amounts are added up
 whole_twice : cost_of_charges (whole 3 ∷ whole 4 ∷ []) ≡ 7
-unfolding cost_of_charges partition_cost
+unfolding cost_of_charges parts_cost partition_cost
 whole_twice = refl
 
 -- of two parts the dearer counts
 dearer_part : cost_of_charges (part 0 0 6 ∷ part 0 1 4 ∷ []) ≡ 6
-unfolding cost_of_charges partition_cost
+unfolding cost_of_charges parts_cost partition_cost
 dearer_part = refl
 
 -- as dear as the dearest, and then one dearer
 as_dear : cost_of_charges (part 0 0 6 ∷ part 0 1 4 ∷ part 0 1 2 ∷ []) ≡ 6
-unfolding cost_of_charges partition_cost
+unfolding cost_of_charges parts_cost partition_cost
 as_dear = refl
 
 one_dearer : cost_of_charges (part 0 0 6 ∷ part 0 1 4 ∷ part 0 1 3 ∷ []) ≡ 7
-unfolding cost_of_charges partition_cost
+unfolding cost_of_charges parts_cost partition_cost
 one_dearer = refl
 
 -- one part's amounts are added up
 part_twice : cost_of_charges (part 0 0 6 ∷ part 0 0 4 ∷ []) ≡ 10
-unfolding cost_of_charges partition_cost
+unfolding cost_of_charges parts_cost partition_cost
 part_twice = refl
 
 -- and so are partitions
 two_partitions : cost_of_charges (part 0 1 6 ∷ part 1 1 4 ∷ []) ≡ 10
-unfolding cost_of_charges partition_cost
+unfolding cost_of_charges parts_cost partition_cost
 two_partitions = refl
 
 -- and the whole view beside them
 whole_and_parts : cost_of_charges (whole 3 ∷ part 0 0 6 ∷ part 1 0 5 ∷ part 0 1 4 ∷ whole 1 ∷ []) ≡ 15
-unfolding cost_of_charges partition_cost
+unfolding cost_of_charges parts_cost partition_cost
 whole_and_parts = refl
 
 -- the last part of the last partition counts, and what is past the partitions doesn't
 last_part : cost_of_charges (part 7 3999 5 ∷ []) ≡ 5
-unfolding cost_of_charges partition_cost
+unfolding cost_of_charges parts_cost partition_cost
 last_part = refl
 
 past_the_partitions : cost_of_charges (part 8 0 5 ∷ []) ≡ 0
-unfolding cost_of_charges partition_cost
+unfolding cost_of_charges parts_cost partition_cost
 past_the_partitions = refl
 
 -- a partition costs nothing where it was charged nothing, or only others and the whole were

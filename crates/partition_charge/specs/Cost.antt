@@ -36,6 +36,10 @@ part_cost charges partition (Part p part) = if partition == p then charges_of (P
 unfoldable pub partition_cost : List Charge → ℕ → ℕ
 partition_cost charges partition = greatest_by (λ (charge : Charge). part_cost charges partition charge.view) charges
 
+-- what all partitions cost, each its dearest part's
+unfoldable pub parts_cost : List Charge → ℕ
+parts_cost charges = total_below partition_range (partition_cost charges)
+
 -- The whole view's amounts, and for each partition its dearest part's.
 unfoldable pub cost_of_charges : List Charge → ℕ
-cost_of_charges charges = charges_of Whole charges + total_below partition_range (partition_cost charges)
+cost_of_charges charges = charges_of Whole charges + parts_cost charges

@@ -7,7 +7,7 @@ use Rattle.outside_disks.specs.Disks.{Step, Trace, overlaid, seen}
 use Rattle.outside_disks.specs.Stored.{Stored, Twins}
 use Rattle.outside_disks.specs.Disks.Step.{Wrote, Synced}
 use Rattle.partition_charge.specs.declared.view.View.TheVariants.{Whole}
-use Rattle.partition_charge.specs.Cost.{cost_of_charges, partition_cost}
+use Rattle.partition_charge.specs.Cost.{cost_of_charges, partition_cost, parts_cost}
 use Rattle.journal_records.specs.declared.records.Outcome.TheVariants.{Answered, Exhausted}
 use Rattle.journal_records.specs.declared.records.Record.{Record}
 use Rattle.journal_records.specs.declared.records.Record.TheVariants.{Reserve}
@@ -93,11 +93,11 @@ kept_in version = record { budget = 10000000; capacity = 100; analysts = 1; keys
 
 -- in version 2 each counts, and in version 3 the exhausted one's charge has come back
 line_of_three : counted_line (kept_in 2) (owner census 10000000 100) three ≡ codes "census reservations 3 answered 1 exhausted 1 lost 1 spent 6 budget 10000000\n"
-unfolding digits cost_of cost_of_charges partition_cost budget_of
+unfolding digits cost_of cost_of_charges parts_cost partition_cost budget_of
 line_of_three = refl
 
 line_of_three_later : counted_line (kept_in 3) (owner census 10000000 100) three ≡ codes "census reservations 3 answered 1 exhausted 1 lost 1 spent 4 budget 10000000\n"
-unfolding digits cost_of cost_of_charges partition_cost budget_of
+unfolding digits cost_of cost_of_charges parts_cost partition_cost budget_of
 line_of_three_later = refl
 
 -- each owner's line is of its own records
@@ -106,7 +106,7 @@ of_the_second o = replicate o (made 0)
 
 lines_of_both : counted_text loading of_the_second
     ≡ codes "census reservations 0 answered 0 exhausted 0 lost 0 spent 0 budget 10000000\nb reservations 1 answered 0 exhausted 0 lost 1 spent 2 budget 3\n"
-unfolding digits cost_of cost_of_charges partition_cost budget_of
+unfolding digits cost_of cost_of_charges parts_cost partition_cost budget_of
 lines_of_both = refl
 
 -- ---- headers
@@ -131,7 +131,7 @@ later_entry = refl
 -- each owner's line is by the version of its own journal
 spent_by_version : counted_text later_and_older (λ o. made 0 ∷ settling 0 Exhausted ∷ [])
     ≡ codes "census reservations 1 answered 0 exhausted 1 lost 0 spent 0 budget 10000000\nb reservations 1 answered 0 exhausted 1 lost 0 spent 2 budget 3\n"
-unfolding digits cost_of cost_of_charges partition_cost budget_of
+unfolding digits cost_of cost_of_charges parts_cost partition_cost budget_of
 spent_by_version = refl
 
 -- ---- what the disks show

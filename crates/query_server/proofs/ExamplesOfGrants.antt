@@ -7,7 +7,7 @@ use Rattle.outside_disks.specs.Disks.{Step, WasImageOf}
 use Rattle.outside_disks.specs.Stored.{Stored}
 use Rattle.outside_disks.specs.Disks.Step.{Synced}
 use Rattle.outside_disks.proofs.Images.{passes-none}
-use Rattle.partition_charge.specs.Cost.{cost_of_charges, partition_cost}
+use Rattle.partition_charge.specs.Cost.{cost_of_charges, partition_cost, parts_cost}
 use Rattle.journal_records.specs.declared.records.Header.{Header}
 use Rattle.journal_records.specs.declared.records.Record.{Record}
 use Rattle.journal_records.specs.declared.records.Record.TheVariants.{Grant}
@@ -70,7 +70,7 @@ abbrev granted : (number amount : ℕ) → Record
 granted number amount = Grant (record { number = number; amount = amount })
 
 line_of_grants : counted_line kept owner (granted 0 5 ∷ granted 1 7 ∷ []) ≡ codes "census reservations 0 answered 0 exhausted 0 lost 0 spent 0 budget 10000012\n"
-unfolding digits cost_of cost_of_charges partition_cost budget_of
+unfolding digits cost_of cost_of_charges parts_cost partition_cost budget_of
 line_of_grants = refl
 
 -- ---- what a valid grant ends with
@@ -96,19 +96,19 @@ one_of capacity = record {
 }
 
 up_to_the_limit : verdict_on (one_of 100) 3 [] 999999999990000000 ≡ Ok (record { spent = 0; budget = 1000000000000000000; seen = 1 })
-unfolding cost_of cost_of_charges partition_cost budget_of
+unfolding cost_of cost_of_charges parts_cost partition_cost budget_of
 up_to_the_limit = refl
 
 past_the_limit : verdict_on (one_of 100) 3 [] 999999999990000001 ≡ Err (TooLarge 10000000 999999999990000001)
-unfolding cost_of cost_of_charges partition_cost budget_of
+unfolding cost_of cost_of_charges parts_cost partition_cost budget_of
 past_the_limit = refl
 
 in_the_last_place : verdict_on (one_of 2) 1 (granted 0 5 ∷ []) 7 ≡ Ok (record { spent = 0; budget = 10000012; seen = 2 })
-unfolding cost_of cost_of_charges partition_cost budget_of
+unfolding cost_of cost_of_charges parts_cost partition_cost budget_of
 in_the_last_place = refl
 
 behind_the_last_place : verdict_on (one_of 2) 1 (granted 0 5 ∷ granted 1 7 ∷ []) 1 ≡ Err (Full 2 0 2)
-unfolding cost_of cost_of_charges partition_cost budget_of
+unfolding cost_of cost_of_charges parts_cost partition_cost budget_of
 behind_the_last_place = refl
 
 -- ---- what a grant leaves

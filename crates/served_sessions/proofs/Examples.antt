@@ -4,7 +4,7 @@ use Rattle.std.specs.Prelude.{Ok, if◌then◌else◌}
 use Rattle.std.specs.List.{enumerate_from}
 use Rattle.std.proofs.lemmas.Bool.{ltb-true}
 use mathlib.Core.List.{IsPrefix}
-use Rattle.partition_charge.specs.Cost.{cost_of_charges, partition_cost}
+use Rattle.partition_charge.specs.Cost.{cost_of_charges, partition_cost, parts_cost}
 use Rattle.journal_records.specs.declared.records.Outcome.{Outcome}
 use Rattle.journal_records.specs.declared.records.Outcome.TheVariants.{Answered, Exhausted, Lost}
 use Rattle.journal_records.specs.declared.records.Record.{Record}
@@ -102,7 +102,7 @@ no_other o owner at =
     cc (none)
 
 first_leads : (draws : ℕ → ℕ → ℕ → ℕ) → LeadExactly house draws 0 0 [] (first_lines (outcome_at draws)) (made (outcome_at draws))
-unfolding meant_by request_of cost_of cost_of_charges partition_cost budget_of signature_in rows_in IsMetExactly IsAnswered
+unfolding meant_by request_of cost_of cost_of_charges parts_cost partition_cost budget_of signature_in rows_in IsMetExactly IsAnswered
 first_leads draws =
     let outcome = outcome_at draws in (
       made outcome,

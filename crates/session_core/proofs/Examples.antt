@@ -12,7 +12,7 @@ use Rattle.journal_records.specs.Records.{settling}
 use Rattle.budget_core.specs.declared.entry.Ask.{Ask}
 use Rattle.budget_core.specs.declared.entry.Grant.{Grant}
 use Rattle.budget_core.specs.Cost.{cost_of, budget_of}
-use Rattle.partition_charge.specs.Cost.{cost_of_charges, partition_cost}
+use Rattle.partition_charge.specs.Cost.{cost_of_charges, partition_cost, parts_cost}
 use Rattle.budget_core.specs.Ledger.{money_verdict}
 use Rattle.fz_frac.specs.Lowest.{gcd, gcd_in}
 use Rattle.owner_history.specs.ShapeLaw.Walk.{depth_limit}
@@ -183,7 +183,7 @@ one_owner register one draws xs records leads zero owner at = leads
 one_owner register one draws xs records leads (suc o) owner at = let none : None ≡ Some owner = ap (λ (ws : List Owner). slice_get ws (suc o)) (sym one) ∙ at in absurd (cc (none))
 
 three_leads : (draws : ℕ → ℕ → ℕ → ℕ) → LeadExactly (house_of three_rows) draws 0 0 [] (one_ask (outcome_of_size 3 draws)) (made (outcome_of_size 3 draws))
-unfolding meant_by request_of cost_of cost_of_charges partition_cost budget_of signature_in rows_in IsMetExactly
+unfolding meant_by request_of cost_of cost_of_charges parts_cost partition_cost budget_of signature_in rows_in IsMetExactly
 three_leads draws =
     let outcome = outcome_of_size 3 draws in
     (made outcome, (made outcome, inl (grant_answer (the_owner three_rows) (draws 0) [] a_query a_grant 3 size_asked refl three_value), refl, refl), refl)
@@ -214,7 +214,7 @@ without_memory draws =
 
 -- .. or after it, where the draws suffice: both records are added
 lost_leads : (draws : ℕ → ℕ → ℕ → ℕ) (noise : ℤ) → noise_at 1000000 (draws 0 0) ≡ Some noise → LeadExactly (house_of three_rows) draws 0 0 [] (one_ask Lost) (made Lost)
-unfolding meant_by request_of cost_of cost_of_charges partition_cost budget_of IsAnswered signature_in rows_in IsMetExactly
+unfolding meant_by request_of cost_of cost_of_charges parts_cost partition_cost budget_of IsAnswered signature_in rows_in IsMetExactly
 lost_leads draws noise is =
     let settled = subst (λ (k : Option ℤ). IsSettledAt (HasWorthIn (the_owner three_rows) a_query) k Lost) (sym is) (inr refl) in
     (made Lost, (made Lost, inl (granted an_ask a_grant, money_says (the_owner three_rows) 0 [] a_query 1 1 _ size_asked refl, inl (Lost, settled, refl, refl)), refl, refl), refl)
@@ -232,11 +232,11 @@ lost_run draws noise is = record {
 
 -- a loss is charged, and the next number is one more
 behind_loss : IsVerdict (the_owner three_rows).entry (people ∷ []) 0 (made Lost) a_query (granted an_ask (record { number = 1; taken = 1000000; seen = 3 }))
-unfolding cost_of cost_of_charges partition_cost budget_of signature_in
+unfolding cost_of cost_of_charges parts_cost partition_cost budget_of signature_in
 behind_loss = money_says (the_owner three_rows) 0 (made Lost) a_query 1 1 _ size_asked refl
 
 over_by_loss : IsVerdict (the_owner (house 1000000 100 [])).entry (people ∷ []) 0 (made Lost) a_query (money_refused (NoBudget 1000000 2000000 1000000 2))
-unfolding cost_of cost_of_charges partition_cost budget_of signature_in
+unfolding cost_of cost_of_charges parts_cost partition_cost budget_of signature_in
 over_by_loss = money_says (the_owner (house 1000000 100 [])) 0 (made Lost) a_query 1 1 _ size_asked refl
 
 -- Of these replies 90 and 51 say that memory ran out, 52 and 42 that the disk failed, and 50 says nothing of the kind.
@@ -297,7 +297,7 @@ IsSecondRefused budget capacity refusal draws =
 second_refused : (budget capacity : ℕ) (refusal : MoneyRefusal) (draws : ℕ → ℕ → ℕ → ℕ) → let owner : Owner = the_owner (house budget capacity []) in
     money_verdict owner.entry 0 [] an_ask ≡ Ok a_grant → IsVerdict owner.entry (people ∷ []) 0 (made (outcome_of_size 0 draws)) a_query (money_refused refusal)
     → IsSecondRefused budget capacity refusal draws
-unfolding meant_by request_of cost_of cost_of_charges partition_cost budget_of IsAnswered signature_in rows_in IsMetExactly
+unfolding meant_by request_of cost_of cost_of_charges parts_cost partition_cost budget_of IsAnswered signature_in rows_in IsMetExactly
 second_refused budget capacity refusal draws first second =
     let outcome = outcome_of_size 0 draws in (
       made outcome,
@@ -306,12 +306,12 @@ second_refused budget capacity refusal draws first second =
     )
 
 second_over : (draws : ℕ → ℕ → ℕ → ℕ) → IsSecondRefused 1000000 100 (NoBudget 1000000 2000000 1000000 2) draws
-unfolding cost_of cost_of_charges partition_cost budget_of signature_in
+unfolding cost_of cost_of_charges parts_cost partition_cost budget_of signature_in
 second_over draws =
     second_refused 1000000 100 _ draws refl (money_says (the_owner (house 1000000 100 [])) 0 (made (outcome_of_size 0 draws)) a_query 1 1 _ size_asked refl)
 
 second_full : (draws : ℕ → ℕ → ℕ → ℕ) → IsSecondRefused 10000000 3 (JournalFull 2 0 3) draws
-unfolding cost_of cost_of_charges partition_cost budget_of signature_in
+unfolding cost_of cost_of_charges parts_cost partition_cost budget_of signature_in
 second_full draws =
     second_refused 10000000 3 _ draws refl (money_says (the_owner (house 10000000 3 [])) 0 (made (outcome_of_size 0 draws)) a_query 1 1 _ size_asked refl)
 

@@ -8,7 +8,7 @@ use Rattle.journal_records.specs.declared.records.Record.{Record}
 use Rattle.journal_records.specs.Records.{settling}
 use Rattle.budget_core.specs.Cost.{cost_of, budget_of}
 use Rattle.budget_core.specs.Mine.{spent_by}
-use Rattle.partition_charge.specs.Cost.{cost_of_charges, partition_cost}
+use Rattle.partition_charge.specs.Cost.{cost_of_charges, partition_cost, parts_cost}
 use Rattle.budget_ledger.specs.declared.failure.Failure.{Failure}
 use Rattle.wire_lines.specs.Request.{request_of}
 use Rattle.wire_lines.specs.Reply.{answered, recalled, remaining, spending, refused, reply_text}
@@ -77,14 +77,14 @@ answered_lines =
     ∷ quiet (Some 0) (codes "recall clinic 1") (refused (by_number (NoSuchNumber 1 2))) ∷ quiet None (codes "left clinic") (remaining 1000000 10000000 2) ∷ []
 
 answered_leads : (draws : ℕ → ℕ → ℕ → ℕ) → LeadExactly (house_of three_rows) draws 0 0 (made (Answered (pos 2))) answered_lines (made (Answered (pos 2)))
-unfolding meant_by request_of cost_of cost_of_charges partition_cost budget_of IsMetExactly
+unfolding meant_by request_of cost_of cost_of_charges parts_cost partition_cost budget_of IsMetExactly
 answered_leads draws =
     let records = made (Answered (pos 2)) in
     (records, (refl, refl, refl), (records, (refl, refl, refl), (records, (refl, refl, refl), (records, (refl, refl, refl), refl))))
 
 -- in a later run too, where the records were found
 found_leads : (draws : ℕ → ℕ → ℕ → ℕ) → LeadExactly (house_of three_rows) draws 0 1 (made (Answered (pos 2))) answered_lines (made (Answered (pos 2)))
-unfolding meant_by request_of cost_of cost_of_charges partition_cost budget_of IsMetExactly
+unfolding meant_by request_of cost_of cost_of_charges parts_cost partition_cost budget_of IsMetExactly
 found_leads draws =
     let records = made (Answered (pos 2)) in
     (records, (refl, refl, refl), (records, (refl, refl, refl), (records, (refl, refl, refl), (records, (refl, refl, refl), refl))))
@@ -98,13 +98,13 @@ abbrev own_lines : List Exchange
 own_lines = quiet (Some 0) (codes "mine clinic") (spending 1000000 None 2) ∷ quiet (Some 1) (codes "mine clinic") (spending 0 None 2) ∷ []
 
 own_leads : (draws : ℕ → ℕ → ℕ → ℕ) → LeadExactly (house_of three_rows) draws 0 0 (made (Answered (pos 2))) own_lines (made (Answered (pos 2)))
-unfolding meant_by request_of cost_of_charges partition_cost spent_by IsMetExactly
+unfolding meant_by request_of cost_of_charges parts_cost partition_cost spent_by IsMetExactly
 own_leads draws =
     let records = made (Answered (pos 2)) in
     (records, (refl, refl, refl), (records, (refl, refl, refl), refl))
 
 not_anothers_own : (draws : ℕ → ℕ → ℕ → ℕ) (last : List Record) → LeadExactly (house_of three_rows) draws 0 0 (made (Answered (pos 2))) (quiet (Some 1) (codes "mine clinic") (spending 1000000 None 2) ∷ []) last → ⊥
-unfolding meant_by request_of cost_of_charges partition_cost spent_by IsMetExactly
+unfolding meant_by request_of cost_of_charges parts_cost partition_cost spent_by IsMetExactly
 not_anothers_own draws last (after, (said, told, is), ends) = cc (said)
 
 -- another value isn't recalled, nor is bob told ann's
@@ -131,7 +131,7 @@ closed_lines =
     ∷ quiet None (codes "left clinic") (remaining 1000000 10000000 1) ∷ []
 
 closed_leads : (draws : ℕ → ℕ → ℕ → ℕ) → LeadExactly (house_of three_rows) draws 0 0 [] closed_lines opened
-unfolding meant_by request_of cost_of cost_of_charges partition_cost budget_of IsAnswered signature_in IsMetExactly
+unfolding meant_by request_of cost_of cost_of_charges parts_cost partition_cost budget_of IsAnswered signature_in IsMetExactly
 closed_leads draws = (
   opened,
   (opened, inl (granted an_ask a_grant, money_says clinic 0 [] a_query 1 1 _ size_asked refl, inr (Fault, refl, inr refl)), refl, refl),
@@ -151,7 +151,7 @@ abbrev failure : Outcome → Failure
 failure outcome = record { failed_at = 3; pending = settling 0 outcome }
 
 closed_by : (draws : ℕ → ℕ → ℕ → ℕ) → let outcome : Outcome = outcome_with 3 (noise_at 1000000 (draws 0 0)) in ClosesOn (house_of three_rows) draws 0 None closed_lines (Some (failure outcome))
-unfolding meant_by request_of cost_of cost_of_charges partition_cost budget_of signature_in rows_in
+unfolding meant_by request_of cost_of cost_of_charges parts_cost partition_cost budget_of signature_in rows_in
 closed_by draws =
     let outcome : Outcome = outcome_with 3 (noise_at 1000000 (draws 0 0)) in
     let shut : Option Failure = Some (failure outcome) in (
@@ -188,7 +188,7 @@ stays_shut : (outcome : Outcome) → StaysShut [] (Some (failure outcome)) (Some
 stays_shut outcome = record { still = λ other is. is; adds_nothing = λ other is. refl }
 
 shut_by : (draws : ℕ → ℕ → ℕ → ℕ) → let outcome : Outcome = outcome_with 3 (noise_at 1000000 (draws 0 0)) in ShutsOn (house_of three_rows) draws 0 unshut closed_lines (shut_own outcome)
-unfolding meant_by request_of signature_in rows_in ShutsBy cost_of cost_of_charges partition_cost budget_of
+unfolding meant_by request_of signature_in rows_in ShutsBy cost_of cost_of_charges parts_cost partition_cost budget_of
 shut_by draws =
     let outcome : Outcome = outcome_with 3 (noise_at 1000000 (draws 0 0)) in
     let shut : Shut = shut_own outcome in (

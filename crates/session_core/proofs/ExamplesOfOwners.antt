@@ -8,7 +8,7 @@ use Rattle.journal_records.specs.declared.records.Outcome.{Outcome}
 use Rattle.journal_records.specs.declared.records.Record.{Record}
 use Rattle.budget_core.specs.declared.entry.Grant.{Grant}
 use Rattle.budget_core.specs.Cost.{cost_of, budget_of}
-use Rattle.partition_charge.specs.Cost.{cost_of_charges, partition_cost}
+use Rattle.partition_charge.specs.Cost.{cost_of_charges, partition_cost, parts_cost}
 use Rattle.fz_frac.specs.Lowest.{gcd, gcd_in}
 use Rattle.fz_ast.specs.Signature.{Signature, TableType, IsSignature}
 use Rattle.fz_ast.specs.declared.row.Column.TheVariants.{Text}
@@ -219,7 +219,7 @@ school_value = (size_term, size_reads, (2, (NumF (pos 7) ∷ NumF (pos 8) ∷ []
 
 -- the clinic's budget suffices once ..
 clinic_leads : (draws : ℕ → ℕ → ℕ → ℕ) (b c : Option ℤ) → let a : Option ℤ = noise draws 0 0 in LeadExactly (house_of two_owners) draws 0 0 [] (exchanges a b c) (made (of_clinic a))
-unfolding meant_by request_of cost_of cost_of_charges partition_cost budget_of IsAnswered signature_in rows_in IsMetExactly
+unfolding meant_by request_of cost_of cost_of_charges parts_cost partition_cost budget_of IsAnswered signature_in rows_in IsMetExactly
 clinic_leads draws b c =
     let made_first = made (of_clinic (noise draws 0 0)) in (
       made_first,
@@ -233,7 +233,7 @@ clinic_leads draws b c =
 
 -- .. and the school's, from its own number 0 on and by its own draws, twice
 school_leads : (draws : ℕ → ℕ → ℕ → ℕ) (a : Option ℤ) → let b : Option ℤ = noise draws 1 0 in let c : Option ℤ = noise draws 1 1 in LeadExactly (house_of two_owners) draws 1 0 [] (exchanges a b c) (school_records b c)
-unfolding meant_by request_of cost_of cost_of_charges partition_cost budget_of signature_in rows_in IsMetExactly
+unfolding meant_by request_of cost_of cost_of_charges parts_cost partition_cost budget_of signature_in rows_in IsMetExactly
 school_leads draws a =
     let first = made (of_school (noise draws 1 0)) in
     let second = plain_records an_ask next_grant (of_school (noise draws 1 1)) in (

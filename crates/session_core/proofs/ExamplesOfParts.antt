@@ -4,7 +4,7 @@ use Rattle.std.specs.Prelude.{ℤ, Option}
 use Rattle.std.specs.Fmt.{digits}
 use Rattle.std.specs.List.{flat_map, enumerate_from}
 use Rattle.partition_charge.specs.declared.view.View.TheVariants.{Whole, Part}
-use Rattle.partition_charge.specs.Cost.{cost_of_charges, partition_cost}
+use Rattle.partition_charge.specs.Cost.{cost_of_charges, partition_cost, parts_cost}
 use Rattle.journal_records.specs.declared.records.Record.{Record}
 use Rattle.budget_core.specs.declared.entry.Ask.{Ask}
 use Rattle.budget_core.specs.declared.entry.Grant.{Grant}
@@ -216,7 +216,7 @@ value_of_b = (size_term, size_reads, (2, (PairF (TextF (codes "B")) (NumF (pos 3
 
 clinic_leads : (draws : ℕ → ℕ → ℕ → ℕ) → let a : Option ℤ = noise_at 6 (draws 0 0) in let b : Option ℤ = noise_at 6 (draws 0 1) in let c : Option ℤ = noise_at 4 (draws 0 2) in
     LeadExactly (house_of two_owners) draws 0 0 [] (exchanges a b c) (records a b c)
-unfolding meant_by request_of cost_of cost_of_charges partition_cost budget_of IsAnswered signature_in rows_in IsMetExactly
+unfolding meant_by request_of cost_of cost_of_charges parts_cost partition_cost budget_of IsAnswered signature_in rows_in IsMetExactly
 clinic_leads draws =
     let first = added_first (noise_at 6 (draws 0 0)) in
     let second = added_second (noise_at 6 (draws 0 1)) in

@@ -2,7 +2,7 @@
 use Rattle.std.proofs.Common.{◌≡◌, ℕ, zero, suc, ◌+◌, ◌≤◌, ◌<◌, List, [], ◌∷◌, ◌++◌, length, Some, None, slice_get, refl, sym, ◌∙◌, ap, subst, inl, inr, arith}
 use Rattle.std.specs.Prelude.{Ok}
 use Rattle.std.specs.List.{enumerate_from}
-use Rattle.partition_charge.specs.Cost.{cost_of_charges, partition_cost}
+use Rattle.partition_charge.specs.Cost.{cost_of_charges, partition_cost, parts_cost}
 use Rattle.journal_records.specs.declared.records.Outcome.{Outcome}
 use Rattle.journal_records.specs.declared.records.Outcome.TheVariants.{Answered, Exhausted, Lost}
 use Rattle.journal_records.specs.declared.records.Record.{Record}
@@ -149,7 +149,7 @@ answered_shuts draws grant Exhausted told = ((stays told, refl), tt)
 answered_shuts draws grant Lost told = ((stays told, refl), tt)
 
 first_leads : (draws : ℕ → ℕ → ℕ → ℕ) → LeadExactly house draws 0 0 [] (first_line (outcome_at draws 0) ∷ []) (made (outcome_at draws 0))
-unfolding meant_by request_of cost_of cost_of_charges partition_cost budget_of signature_in rows_in IsMetExactly IsAnswered
+unfolding meant_by request_of cost_of cost_of_charges parts_cost partition_cost budget_of signature_in rows_in IsMetExactly IsAnswered
 first_leads draws =
     let outcome = outcome_at draws 0 in (
       made outcome,
@@ -163,7 +163,7 @@ first_leads draws =
     )
 
 second_leads : (draws : ℕ → ℕ → ℕ → ℕ) → LeadExactly house draws 0 1 opened (again (outcome_at draws 1) ∷ []) (both_runs (outcome_at draws 1))
-unfolding meant_by request_of cost_of cost_of_charges partition_cost budget_of signature_in rows_in IsMetExactly IsAnswered
+unfolding meant_by request_of cost_of cost_of_charges parts_cost partition_cost budget_of signature_in rows_in IsMetExactly IsAnswered
 second_leads draws =
     let outcome = outcome_at draws 1 in (
       both_runs outcome,
@@ -333,7 +333,7 @@ abbrev failing : Outcome → Run
 failing outcome = record { count = 1; crew = one_worker; exchanges = unsettled ∷ []; records = opened; closed = Some (failed outcome); sent = all_sent; left = made outcome }
 
 failing_leads : (draws : ℕ → ℕ → ℕ → ℕ) → LeadExactly house draws 0 0 [] (unsettled ∷ []) opened
-unfolding meant_by request_of cost_of cost_of_charges partition_cost budget_of signature_in IsMetExactly IsAnswered
+unfolding meant_by request_of cost_of cost_of_charges parts_cost partition_cost budget_of signature_in IsMetExactly IsAnswered
 failing_leads draws = (opened, (opened, inl (granted an_ask a_grant, money_says clinic 0 [] a_query 1 1 (Ok a_grant) size_asked refl, inr (Fault, refl, inr refl)), refl, refl), refl)
 
 failing_gathered : (draws : ℕ → ℕ → ℕ → ℕ) → AreGathered house draws 1 one_worker 0 [] (unsettled ∷ []) opened
@@ -350,7 +350,7 @@ failing_gathered draws = record {
     each (suc i) lt = absurd (omega (arith, lt))
 
 shut_by_failure : (draws : ℕ → ℕ → ℕ → ℕ) → AreShut house draws 1 one_worker 0 (unsettled ∷ []) (Some (failed (outcome_at draws 0)))
-unfolding meant_by request_of cost_of cost_of_charges partition_cost budget_of signature_in rows_in ShutsBy
+unfolding meant_by request_of cost_of cost_of_charges parts_cost partition_cost budget_of signature_in rows_in ShutsBy
 shut_by_failure draws = record {
   crews = λ at. omega arith;
   ends = λ i. shut_by (outcome_at draws 0);
@@ -363,7 +363,7 @@ shut_by_failure draws = record {
     each (suc i) lt = absurd (omega (arith, lt))
 
 may_settle : (outcome : Outcome) → MayFollow clinic.entry opened (settling 0 outcome)
-unfolding cost_of cost_of_charges partition_cost budget_of
+unfolding cost_of cost_of_charges parts_cost partition_cost budget_of
 may_settle outcome = record { reserved = refl; unsettled = refl; fall = refl }
 
 -- It may be found settled, as a run that ends may find it open: whoever was told 52 wasn't told the answer.

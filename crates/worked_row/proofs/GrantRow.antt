@@ -6,7 +6,7 @@ use Rattle.std.specs.Io.KnownBytes.{append_known}
 use mathlib.Core.Logic.{inl, inr}
 use Rattle.outside_disks.specs.Disks.{Trace, seen_of}
 use Rattle.outside_disks.specs.Stored.{Stored, Twins}
-use Rattle.partition_charge.specs.Cost.{cost_of_charges, partition_cost}
+use Rattle.partition_charge.specs.Cost.{cost_of_charges, partition_cost, parts_cost}
 use Rattle.journal_records.specs.declared.records.Record.{Record}
 use Rattle.budget_journal.specs.Journals.{Stands, IsAtRest}
 use Rattle.budget_journal.proofs.Gates.{head-version}
@@ -81,7 +81,7 @@ abbrev the_verdict : Result Left GrantRefusal
 the_verdict = Ok (record { spent = 0; budget = 15000000; seen = 1 })
 
 allowed : verdict_on one 3 [] 5000000 ≡ the_verdict
-unfolding cost_of cost_of_charges partition_cost budget_of
+unfolding cost_of cost_of_charges parts_cost partition_cost budget_of
 allowed = refl
 
 its_line : verdict_text (its_name one) the_verdict ≡ granted_text

@@ -6,7 +6,7 @@ use Rattle.std.specs.List.{flat_map}
 use mathlib.Core.Logic.{◌⊎◌, inl, inr}
 use Rattle.sha2.specs.Sha256.{sha256}
 use Rattle.budget_core.specs.Cost.{cost_of, budget_of}
-use Rattle.partition_charge.specs.Cost.{cost_of_charges, partition_cost}
+use Rattle.partition_charge.specs.Cost.{cost_of_charges, partition_cost, parts_cost}
 use Rattle.budget_ledger.specs.declared.failure.Failure.{Failure}
 use Rattle.budget_core.specs.declared.entry.Ask.{Ask}
 use Rattle.budget_core.specs.declared.entry.Grant.{Grant}
@@ -95,7 +95,7 @@ third_meant = refl
 
 -- the verdict, whose program has one reading
 granted_by : (found : Reading) (verdict : Verdict) → found ≡ read size_term → IsVerdictBy owner.entry 0 [] query (admission_of tables found) verdict → verdict ≡ granted asking grant
-unfolding cost_of cost_of_charges partition_cost budget_of
+unfolding cost_of cost_of_charges parts_cost partition_cost budget_of
 granted_by found verdict same is =
     here (subst (λ (j : Admission). IsVerdictBy owner.entry 0 [] query j verdict) (ap (λ (r : Reading). admission_of tables r) same ∙ admission) is)
   where

@@ -1,6 +1,6 @@
 use Rattle.std.proofs.Common.{◌≡◌, ℕ, List, [], ◌∷◌, refl, arith}
 use Rattle.partition_charge.specs.declared.view.View.TheVariants.{Whole, Part}
-use Rattle.partition_charge.specs.Cost.{Charge, charges_of, cost_of_charges, partition_cost}
+use Rattle.partition_charge.specs.Cost.{Charge, charges_of, cost_of_charges, partition_cost, parts_cost}
 use Rattle.partition_charge.specs.Totals.{IsRest}
 use Rattle.partition_charge.proofs.Rooms.{place-free}
 use Rattle.data_tests.proofs.charges.parts_and_the_whole.Goals as goal
@@ -12,19 +12,19 @@ abbrev of_whole : Charge
 of_whole = record { view = Whole; amount = 3 }
 
 one : cost_of_charges (of_part 3999 4 ∷ []) ≡ 4
-unfolding cost_of_charges partition_cost
+unfolding cost_of_charges parts_cost partition_cost
 one = refl
 
 two : cost_of_charges (of_part 3999 4 ∷ of_part 0 6 ∷ []) ≡ 6
-unfolding cost_of_charges partition_cost
+unfolding cost_of_charges parts_cost partition_cost
 two = refl
 
 three : cost_of_charges (of_part 3999 4 ∷ of_part 0 6 ∷ of_part 3999 4 ∷ []) ≡ 8
-unfolding cost_of_charges partition_cost
+unfolding cost_of_charges parts_cost partition_cost
 three = refl
 
 and_the_whole : cost_of_charges (of_part 3999 4 ∷ of_part 0 6 ∷ of_whole ∷ []) ≡ 9
-unfolding cost_of_charges partition_cost
+unfolding cost_of_charges parts_cost partition_cost
 and_the_whole = refl
 
 abbrev last : List Charge
