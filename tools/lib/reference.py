@@ -27,10 +27,11 @@ from math import ceil
 
 from cryptography.hazmat.primitives.ciphers import Cipher, algorithms
 
-from bounds import DRAW_LIMIT, LINE_LIMIT, MOST_BUDGET, SCRIPT_LIMIT
+from bounds import DRAW_LIMIT, LINE_LIMIT, MADE_LIMIT, MOST_BUDGET, PARTITION_LIMIT, SCRIPT_LIMIT
 from catalog import catalog, census, limits, owner, read
-from journal import VERSIONS, WHOLE, Book, Grant, Reservation, Settlement, books
+from journal import VERSIONS, WHOLE, Book, Define, Grant, Reservation, Settlement, books
 from lines import amount_of, lines_of, millionths, whole_number
+from made_parts import Definition, keys_in, number_in
 from options import Parser
 from programs import Refused
 from runs import Run, asked, chain, judgement, unions, value
@@ -129,7 +130,7 @@ class Owner:
     def __init__(self, entry, rows):
         self.entry, self.rows, self.tables = entry, rows, signature(entry)
         self.version, self.budget, self.charges, self.records, self.start = VERSIONS[-1], entry["budget"], {}, 0, 0
-        self.reservations, self.added, self.unsettled, self.own = [], [], 0, {}
+        self.reservations, self.added, self.unsettled, self.own, self.made = [], [], 0, {}, []
         self.limits = {name.encode(): most for name, most in limits(entry).items()}
 
     def goes_on(self, charges, records, reservations):
@@ -140,7 +141,7 @@ class Owner:
 
     def found(self, book, analysts):
         """From here on a run is answered after the records of a journal (journal.py)."""
-        self.version, self.budget, self.own = book.version, book.budget, own_by_view(book, analysts)
+        self.version, self.budget, self.own, self.made = book.version, book.budget, own_by_view(book, analysts), list(book.made)
         standings = [book.settled[number].standing() if number in book.settled else None for number in range(len(book.reserved))]
         self.goes_on(by_view(book.costs), len(book.records), [(analysts[one.analyst], said) for one, said in zip(book.reserved, standings)])
 
@@ -177,6 +178,21 @@ class Owner:
         place = [column["name"] for column in columns].index(partition["column"])
         rows = [row for row in self.rows[name] if cells(row, len(columns))[place] == key]
         return [table for table in self.tables if table[0] == name], {name: rows}
+
+    def define(self, terms, who):
+        """The number of the partition with these terms (table, keys, digest), which is made where it isn't there; or the words of a refusal."""
+        known = [one.partition for one in self.made if one.terms() == terms]
+        if known:
+            return known[0]
+        if self.records + self.unsettled + 1 > self.entry["capacity"]:
+            return f"no 41 {self.records} {self.unsettled} {self.entry['capacity']}"
+        if len(self.made) == MADE_LIMIT:
+            return f"no 44 {MADE_LIMIT}"
+        made = Define(PARTITION_LIMIT + len(self.made), *terms[:2], who, terms[2])
+        self.made.append(made)
+        self.added.append(made)
+        self.records += 1
+        return made.partition
 
     def standing(self, number):
         said = self.reservations[number][1]
@@ -218,7 +234,7 @@ class Server:
 
     def __init__(self, house, draws, found=(), steps=None):
         self.analysts, self.owners, self.draws, self.steps = house.analysts(), house.owners(), draws, steps
-        self.who = None
+        self.who, self.definitions = None, {}
         for owner, book in zip(self.owners.values(), found):
             owner.found(book, self.analysts)
 
@@ -233,6 +249,10 @@ class Server:
             return self.ask(line.split(b" ", 3))
         if kind == b"askpart":
             return self.ask(line.split(b" ", 5))
+        if kind == b"part":
+            return self.part(line.split(b" ", 4))
+        if kind == b"askmade":
+            return self.ask(line.split(b" ", 5))
         if kind == b"recall":
             return self.recall(words)
         if kind == b"left":
@@ -242,7 +262,7 @@ class Server:
         if kind == b"bye":
             if len(words) > 1:
                 return "no 10 1"
-            self.who = None
+            self.who, self.definitions = None, {}
             return "bye"
         return "no 10 0"
 
@@ -295,11 +315,49 @@ class Server:
         self.who = words[1]
         return "hello " + words[1].decode()
 
+    def part(self, words):
+        """A partition that is made of a table, or was: the session keeps its definition."""
+        for place in range(1, 4):
+            if len(words) <= place or words[place] == b"" or (place == 3 and keys_in(words[3]) is None):
+                return f"no 10 {place}"
+        if len(words) <= 4:
+            return "no 10 4"
+        if words[1] not in self.owners:
+            return "no 12 1"
+        owner, definition = self.owners[words[1]], Definition(*words[2:])
+        names = [name.encode() for name, _ in owner.tables]
+        if definition.table not in names:
+            return "no 12 2"
+        if self.who is None:
+            return "no 14"
+        try:
+            definition.judge([(name, bag) for name, bag in owner.tables])
+        except Refused as refusal:
+            return f"no {refusal}"
+        made = owner.define((names.index(definition.table), len(definition.keys), definition.digest), self.analysts.index(self.who))
+        if isinstance(made, str):
+            return made
+        self.definitions[words[1], made] = definition
+        return f"part {made} {owner.records}"
+
+    def view_of(self, owner, words):
+        """The view that a line asks, its tables and its rows; or the number of the word that is unknown."""
+        if words[0] == b"ask":
+            return None, owner.shown(None)
+        if words[0] == b"askpart":
+            view = owner.part(words[2], words[3])
+            return view, None if isinstance(view, int) else owner.shown(view)
+        definition = self.definitions.get((words[1], number_in(words[2])))
+        if definition is None or words[3] not in definition.keys:
+            return 2 if definition is None else 3, None
+        key, name = definition.keys.index(words[3]), definition.table.decode()
+        return (number_in(words[2]), key), ([table for table in owner.tables if table[0] == name], {name: definition.part(key, owner.rows[name])})
+
     def ask(self, words):
         """An ask of the whole, or of a part, whose line has two words more."""
-        last = 5 if words[0] == b"askpart" else 3
+        last = 3 if words[0] == b"ask" else 5
         for place in range(1, last):
-            if len(words) <= place or words[place] == b"":
+            if len(words) <= place or words[place] == b"" or (place == 2 and words[0] == b"askmade" and number_in(words[2]) is None):
                 return f"no 10 {place}"
         if len(words) <= last:
             return f"no 10 {last}"
@@ -307,7 +365,7 @@ class Server:
         if name not in self.owners:
             return "no 12 1"
         owner = self.owners[name]
-        view = owner.part(words[2], words[3]) if last == 5 else None
+        view, shown = self.view_of(owner, words)
         if isinstance(view, int):
             return f"no 12 {view}"
         e = millionths(epsilon)
@@ -316,12 +374,13 @@ class Server:
         if self.who is None:
             return "no 14"
         try:
-            term, sensitivity = asked(program, owner.shown(view)[0])
+            term, sensitivity = asked(program, shown[0])
         except Refused as refusal:
             return f"no {refusal}"
-        return self.query(owner, view, e, program, term, sensitivity)
+        return self.query(owner, (view, shown[1]), e, program, (term, sensitivity))
 
-    def query(self, owner, view, e, program, term, sensitivity):
+    def query(self, owner, seen, e, program, accepted):
+        (view, rows), (term, sensitivity) = seen, accepted
         amount, budget, capacity = ceil(sensitivity * e), owner.budget, owner.entry["capacity"]
         spent, after = owner.spent, cost_of(owner.with_charge(view, amount))
         if after > budget:
@@ -335,7 +394,7 @@ class Server:
         before = owner.charges, owner.own
         owner.charge(self.who, view, amount)
         owner.records += 2
-        exact = Run(self.steps).value(term, dict(owner.shown(view)[1]))
+        exact = Run(self.steps).value(term, dict(rows))
         try:
             answer = exact + noise(e, self.draws(order, number))
             settlement, reply = Settlement(number, 1, answer), f"answer {number} {answer} {after - spent}"
@@ -675,6 +734,9 @@ def main():
     words.add_argument("owner", nargs="?", default="census")
     given = words.parse_args()
     if given.check:
+        import made_checks
+
+        made_checks.check()
         check()
         return
     if given.gen:
