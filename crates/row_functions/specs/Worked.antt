@@ -1,6 +1,6 @@
 -- Functions of rows with the columns town and age, each as it is parsed.
 use Rattle.std.specs.Prelude.{List, [], codes, pos, ℕ, ℤ, ◌∷◌, ◌≡◌}
-use Rattle.fz_ast.specs.Terms.{FnE, FunE, IfE, LeE, LetPairE, Name, NumE, SizeE, Term, TextE, VarE, at}
+use Rattle.fz_ast.specs.Terms.{EqE, FnE, FunE, IfE, LeE, LetPairE, Name, NumE, SizeE, Term, TextE, VarE, at}
 use Rattle.fz_ast.specs.Types.{NumT, TensorT, TextT, Ty}
 use Rattle.fz_ast.specs.declared.span.Span.{Span}
 use Rattle.linear_types.specs.Inferred.{Fault, Untyped}
@@ -42,6 +42,16 @@ abbrev pub town_once : Term
 town_once =
     at (span 0 43) (FunE (codes "r") (span 9 19) town_and_age
     (at (span 24 43) (LetPairE (codes "t") (codes "a") (name_at 37 38 (codes "r")) (name_at 42 43 (codes "t")))))
+
+-- fun (t : text) => if t == t then t else t
+abbrev pub text_used : Term
+text_used =
+    at (span 0 41) (FunE (codes "t") (span 9 13) TextT
+    (at (span 18 41) (IfE (at (span 21 27) (EqE (name_at 21 22 (codes "t")) (name_at 26 27 (codes "t")))) (name_at 33 34 (codes "t")) (name_at 40 41 (codes "t")))))
+
+-- fn (r : text * num) => 30
+abbrev pub thirty : Term
+thirty = at (span 0 25) (FnE (codes "r") (span 8 18) town_and_age (at (span 23 25) (NumE (pos 30))))
 
 -- fn (t : text) => t
 abbrev pub same_text : Term
