@@ -12,6 +12,10 @@ pub record Speaker : Type 0 where
   pub analyst : Option ℕ
   pub made : List Kept
 
+-- who has made none
+abbrev pub plain_speaker : Option ℕ → Speaker
+plain_speaker analyst = record { analyst = analyst; made = [] }
+
 -- where a session begins, and behind its `bye`
 abbrev pub no_speaker : Speaker
-no_speaker = record { analyst = None; made = [] }
+no_speaker = plain_speaker None
