@@ -1,0 +1,6 @@
+pub mod Bared
+pub mod Releases
+pub mod Words
+pub mod Fronts
+pub mod Slices
+pub mod Numbers
