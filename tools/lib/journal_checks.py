@@ -36,9 +36,9 @@ def check_records(reservation, settlement):
     for record in (reservation, *parts, *settled, Grant(0, 1), Grant(2**32 - 1, 10**18)):
         assert decoded(record.encoded()).encoded() == record.encoded()
     assert [decoded(one.encoded()).view for one in parts] == [one.view for one in parts]
-    made = [Reservation(9, view, 1, 1, 1, 1, 0, ONE) for view in ((8, 0), (8, 249), (254, 0), (254, 249))]
+    made = [Reservation(9, view, 1, 1, 1, 1, 0, ONE) for view in ((8, 0), (8, 250), (254, 0), (254, 3999))]
     assert [decoded(one.encoded()).view for one in made] == [one.view for one in made]
-    for view in ((7, 4000), (8, 250), (254, 250), (7, 65535), (255, 1), (255, 256)):
+    for view in ((7, 4000), (8, 4000), (254, 4000), (7, 65535), (255, 1), (255, 256)):
         slot = Reservation(9, view, 10**9, 0, 1, 0, 63, ONE).encoded()
         assert decoded(slot) is None and f"is {view[0]} and its part (bytes 3 and 30) {view[1]}" in no_record(slot)[0], view
     for change in [(1, 3), (1, 4), (1, 5), (3, 1), (19, 0), (15, 2), (30, 1), (31, 1)]:

@@ -98,8 +98,7 @@ def view_in(slot):
 
 def is_view(view):
     """Whether a record may name it: a catalog's partitions are 0 to 7, those that analysts made are 8 to 254."""
-    most = KEYS if view[0] < PARTITION_LIMIT else MADE_KEYS
-    return view == WHOLE or (view[0] < PARTITION_RANGE and view[1] < most)
+    return view == WHOLE or (view[0] < PARTITION_RANGE and view[1] < KEYS)
 
 
 def decoded(slot):
