@@ -196,6 +196,29 @@ def with_fault(rng, tables):
     return scratched(text.encode("latin-1"), rng)
 
 
+def cells_of(rng, row):
+    """The written type of a row, the words that take its columns apart up to one of them, that one's name, and whether it is a number."""
+    kinds, rest = [], row
+    while rest[0] == "*":
+        kinds, rest = [*kinds, rest[1]], rest[2]
+    kinds.append(rest)
+    place = rng.randrange(len(kinds))
+    apart = "".join(f"let (c{at}, r) = r in " for at in range(min(place + 1, len(kinds) - 1)))
+    return Writer(rng).written(row), apart, f"c{place}" if place < len(kinds) - 1 else "r", kinds[place] == NUM
+
+
+def function_of_rows(rng, tables):
+    """A function from a table's rows to texts, mostly."""
+    name, (_, row) = rng.choice(tables)
+    written, apart, cell, is_number = cells_of(rng, row)
+    begin = f"fn (r : {written}) => {apart}"
+    if rng.random() < 0.1:
+        return rng.choice([f"{begin}size {name}", f"fun (r : {written}) => {apart}\"low\"", f"{begin}{cell} <= 3", '"low"', "fn", f"{begin}{cell}", "size people"])
+    if is_number:
+        return f'{begin}if {cell} <= {rng.choice([0, 1, 20, 30, rng.randint(0, 40)])} then "low" else "high"'
+    return rng.choice([f"{begin}{cell}", f"fun (r : {written}) => {apart}{cell}", f'{begin}if {cell} == "A" then "low" else "high"', f'{begin}"low"'])
+
+
 WAYS = [
     (45, short), (17, lambda rng, tables: of_the_rules(rng, tables, 0)), (6, lambda rng, tables: of_the_rules(rng, tables, 0.15)), (9, with_fault),
     (6, lambda rng, _: program_of(rng)), (6, lambda rng, _: candidate(rng)), (8, known), (1, lambda rng, _: near_limit(rng)),
@@ -223,6 +246,9 @@ NUMBERS = (
     "4294967295 4294967296 4294967297 4294967294 10000000000 9999999999 12345678901 0000000000 0000000001 00 01 00000000000 000000000001 -1 +1 -0 1.0 x"
     " 1e0 0x0 18446744073709551616 99999999999999999999 \uff10 \u0660 1_0"
 ).split()
+MANY_KEYS = [b",".join(b"%d" % key for key in range(many)) for many in (250, 251)]
+KEYS_OF_CLASSES = [b"low,high", b"low,high", b"high,low", b"low", b"A,B", b"A", b"high,low,x", b"k" * 64]
+NO_KEYS = [b"low,low", b"k" * 65, b"low,", b",low", b"a,,b", b","]
 ODD_BYTES = [b"\0", b"\xff", b"\r", b"\t", b"\x0b", b"\x80", b" ", "é".encode()]
 
 
@@ -238,7 +264,7 @@ class Lines:
     """Writes lines over a catalog."""
 
     def __init__(self, rng, catalog, made):
-        self.rng, self.catalog, self.made = rng, catalog, dict(made)
+        self.rng, self.catalog, self.made, self.defined = rng, catalog, dict(made), []
         self.hostile = rng.choice([0.01, 0.05, 0.05, 0.15])
 
     def chance(self, part):
@@ -288,6 +314,32 @@ class Lines:
         keys = KEYS if self.chance(0.05) else [partition["keys"][part_at_random(self.rng, len(partition["keys"]))]]
         words = [b"askpart", name, self.name([partition["name"]]), self.name(keys), self.epsilon(one["budget"]), program_for(self.rng, tables)]
         return words[: self.rng.randint(1, 5)] + [b""] * self.chance(0.2) if self.chance(self.hostile) else words
+
+    def part(self):
+        """A definition, mostly one that was said before."""
+        rng = self.rng
+        if self.defined and rng.random() < 0.6:
+            return rng.choice(self.defined)
+        one, name = self.owner()
+        tables = signature(one)
+        keys = rng.choice(MANY_KEYS + NO_KEYS) if self.chance(self.hostile) else rng.choice(KEYS_OF_CLASSES)
+        function = program_for(rng, tables) if self.chance(self.hostile) else function_of_rows(rng, tables).encode()
+        words = [b"part", name, self.name([rng.choice(tables)[0]]), keys, function]
+        self.defined.append(words)
+        return words
+
+    def askmade(self):
+        """Of a partition that was defined, by the number that it has where each definition before it made one."""
+        rng, hostile = self.rng, self.hostile
+        one, name = self.owner()
+        place = rng.randrange(max(1, len(self.defined)))
+        keys = self.defined[place][3].split(b",") if self.defined else [b"low"]
+        name = self.defined[place][1] if self.defined and not self.chance(hostile) else name
+        self.counts(name)
+        number = rng.choice([b"7", b"255", b"1000", b"x", b"+8", b"0"]) if self.chance(hostile) else str(8 + place).encode()
+        words = [b"askmade", name, rng.choice([number, number, number.zfill(3)]), rng.choice(keys) if not self.chance(hostile) else b"middle"]
+        words += [self.epsilon(one["budget"]), program_for(rng, [rng.choice(signature(one))])]
+        return words[: rng.randint(1, 5)] + [b""] * self.chance(0.2) if self.chance(hostile) else words
 
     def recall(self):
         _, name = self.owner()
@@ -346,8 +398,8 @@ class Lines:
         return line
 
     def line(self):
-        kinds = [self.hello, self.ask, self.askpart, self.recall, self.left, self.mine, self.bye, self.junk]
-        words = self.rng.choices(kinds, [8, 38, 22, 12, 6, 5, 3, 10 * self.hostile])[0]()
+        kinds = [self.hello, self.ask, self.askpart, self.part, self.askmade, self.recall, self.left, self.mine, self.bye, self.junk]
+        words = self.rng.choices(kinds, [8, 30, 17, 9, 12, 12, 6, 5, 3, 10 * self.hostile])[0]()
         return self.changed(words) if self.chance(self.hostile) else b" ".join(words)
 
 
