@@ -1,3 +1,4 @@
 pub mod Computed
+pub mod Inferences
 pub mod Texts
 pub mod Examples

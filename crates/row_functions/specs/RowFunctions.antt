@@ -1,9 +1,9 @@
 -- Functions of a table's rows, which name no table: each row's class is the text that such a function gives for it.
 use Rattle.std.specs.Prelude.{List, ℕ, ◌≡◌}
-use Rattle.fz_ast.specs.Terms.{Term}
+use Rattle.fz_ast.specs.Terms.{Term, span_of}
 use Rattle.fz_ast.specs.Types.{TextT, Ty, UnlimitedT}
-use Rattle.linear_types.specs.Inferred.{Has}
-use Rattle.linear_types.specs.Rule.{rule}
+use Rattle.linear_types.specs.Inferred.{Has, Inferred, one_part}
+use Rattle.linear_types.specs.Rule.{exactly, rule}
 use Rattle.linear_types.specs.Sensitivities.{Sensitivities}
 use Rattle.linear_types.specs.Typing.{Closed}
 use Rattle.metric_law.specs.Means.{Applies, MeansIn}
@@ -18,6 +18,10 @@ depth_limit = 128
 -- t has the type row -> text where no name is in scope
 abbrev pub IsRowFunction : Ty → Term → Type 0
 IsRowFunction row t = (D : Sensitivities) × (rule Closed t ≡ Has (UnlimitedT row TextT) D)
+
+-- what is inferred of a term that is wanted to be a function of rows: where it has another type, the whole term is at fault
+abbrev pub function_rule : Ty → Term → Inferred
+function_rule row t = one_part (rule Closed t) (λ A D. exactly (span_of t) A (UnlimitedT row TextT) (Has A D))
 
 -- t is a function, which gives the text s for the row x: both by derivations of at most this height
 abbrev pub GivesTextIn : ℕ → Term → Flat → List ℕ → Type 0

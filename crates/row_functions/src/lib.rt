@@ -4,7 +4,7 @@
 ghost use Rattle.fz_ast.specs.Types.{TextT};
 ghost use Rattle.fz_frac.specs.Distance.{Fin};
 ghost use Rattle.linear_types.specs.Inferred.{TooSensitive, Unbound};
-ghost use Rattle.row_functions.specs.Laws.{MeaningsAreComputed, RowFunctionsGiveTexts, TextsAreComputed, TextsAreUnique};
+ghost use Rattle.row_functions.specs.Laws.{FunctionsAreInferred, MeaningsAreComputed, RowFunctionsGiveTexts, TextsAreComputed, TextsAreUnique};
 ghost use Rattle.row_functions.specs.RowFunctions.{IsRowFunction, row_text};
 ghost use Rattle.row_functions.specs.Worked.{HasFault, counts_people, in_town, same_text, span, text_used, thirty, town_and_age, town_once, young_or_old};
 ghost use Rattle.metric_values.specs.Values.{TextF};
@@ -13,6 +13,11 @@ ghost use Rattle.std.specs.Prelude.{codes, pos, replicate, ◌≡◌};
 /// Where the rules of meaning give a term a value, it is the one that is computed.
 pub fn meanings_are_computed()
     ensures { MeaningsAreComputed }
+{}
+
+/// A term is inferred to be a function of rows exactly where it is one.
+pub fn functions_are_inferred()
+    ensures { FunctionsAreInferred }
 {}
 
 /// A function of rows gives each row of its type a text of at most 64 bytes, and no other; within the limit of depth it is the one
