@@ -15,11 +15,14 @@ use Rattle.budget_ledger.specs.declared.book.AppendFault.TheVariants.{Closed, Di
 use Rattle.budget_ledger.specs.declared.book.DefinitionFault.{DefinitionFault}
 use Rattle.budget_ledger.specs.declared.book.DefinitionFault.TheVariants.{Refused, Unwritten}
 
--- What a book that is closed so, or isn't, says to a definition on these records, before anything is written: the partition that an equal
--- one made, whatever bars a new one; else full comes first, then closed, then too many.
+-- what a book that is closed so, or isn't, says to a new partition: full comes first, then closed, then too many
+abbrev pub bars_or : Entry → (start : ℕ) → List Record → Option Failure → Result Made DefinitionFault
+bars_or entry start records closed =
+    first_bar (bars_on_definition Refused (shut_with Unwritten closed) entry start records) (record { partition = next_partition records; seen = length records + 1 })
+
+-- what it says to a definition, before anything is written: the partition that an equal one made, whatever bars a new one
 abbrev pub book_definition : Entry → (start : ℕ) → List Record → Option Failure → Definition → Result Made DefinitionFault
-book_definition entry start records closed definition = made_or (partition_of records definition) (length records)
-    (first_bar (bars_on_definition Refused (shut_with Unwritten closed) entry start records) (record { partition = next_partition records; seen = length records + 1 }))
+book_definition entry start records closed definition = made_or (partition_of records definition) (length records) (bars_or entry start records closed)
 
 -- the verdict on a definition
 abbrev pub HasDefinitionVerdict : Account → Definition → Result Made DefinitionFault → Type 0
