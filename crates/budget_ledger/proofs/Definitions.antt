@@ -3,10 +3,10 @@ use Rattle.std.proofs.Common.{◌≡◌, ℕ, Bool, true, false, [], ◌∷◌, 
 use Rattle.std.specs.Prelude.{option_map}
 use Rattle.journal_records.specs.declared.records.MadePartition.{MadePartition}
 use Rattle.journal_records.specs.declared.records.Record.TheVariants.{Define}
-use Rattle.budget_core.specs.declared.defining.Definition.{Definition}
-use Rattle.budget_core.specs.declared.defining.DefineFault.{DefineFault}
-use Rattle.budget_core.specs.declared.defining.DefineFault.TheVariants.{Full, TooMany}
-use Rattle.budget_core.specs.declared.defining.Made.{Made}
+use Rattle.budget_core.specs.declared.definitions.Definition.{Definition}
+use Rattle.budget_core.specs.declared.definitions.DefineFault.{DefineFault}
+use Rattle.budget_core.specs.declared.definitions.DefineFault.TheVariants.{Full, TooMany}
+use Rattle.budget_core.specs.declared.definitions.Made.{Made}
 use Rattle.budget_core.specs.Bars.{first_bar}
 use Rattle.budget_core.specs.Defining.{partition_of, partition_behind, made_or, definition_verdict}
 use Rattle.budget_core.specs.Ledger.{start_of}
@@ -101,8 +101,7 @@ module _ (account : Account) (definition : Definition) where
           → IsDefined account definition (Ok made) account
       by None here same = absurd cc
       by (Some found) here same =
-          let told : now_made found ≡ made = cc same in
-          (
+          let told : now_made found ≡ made = cc same in (
             ap (λ (o : Option MadePartition). made_or o (length account.ledger.records) barred) here ∙ ap Ok told,
             subst (λ (o : Option MadePartition). GainsUnlessMade o account (Define (partition_behind account.ledger.records definition)) account) (sym here) refl,
           )
@@ -128,15 +127,17 @@ module _ (account : Account) (definition : Definition) where
   -- and one that isn't.
   pub is-unmade : (made : Made) (fault : AppendFault) (new : Account) → partition_of account.ledger.records definition ≡ None → Says (Ok made)
       → IsUnwritten account (Define (partition_behind account.ledger.records definition)) fault new → IsDefined account definition (Err (Unwritten fault)) new
-  is-unmade made (Closed n) new none is (failure, closed, at, same) =
-      (
-        ap (λ (c : Option Failure). book_definition account.ledger.entry (start_of account.ledger) account.ledger.records c definition) closed
-            ∙ (shut-by _ _ _ _ _ _ failure (partition_of account.ledger.records definition) _ _ made none is ∙ ap (λ (m : ℕ). Err (Unwritten (Closed m))) (sym at)),
-        same,
-      )
+  is-unmade made (Closed n) new none is (failure, closed, at, same) = (
+    ap (λ (c : Option Failure). book_definition account.ledger.entry (start_of account.ledger) account.ledger.records c definition) closed
+        ∙ (shut-by _ _ _ _ _ _ failure (partition_of account.ledger.records definition) _ _ made none is ∙ ap (λ (m : ℕ). Err (Unwritten (Closed m))) (sym at)),
+    same,
+  )
   is-unmade made DiskFault new none is closed = (
-    (made, ap (λ (c : Option Failure). book_definition account.ledger.entry (start_of account.ledger) account.ledger.records c definition) closed.open_before
-        ∙ grants _ _ _ _ _ _ (partition_of account.ledger.records definition) _ _ made is),
+    (
+      made,
+      ap (λ (c : Option Failure). book_definition account.ledger.entry (start_of account.ledger) account.ledger.records c definition) closed.open_before
+          ∙ grants _ _ _ _ _ _ (partition_of account.ledger.records definition) _ _ made is,
+    ),
     none,
     closed,
   )

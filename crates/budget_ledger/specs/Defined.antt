@@ -1,12 +1,10 @@
 -- What a book answers where an analyst defines a partition, and what it is afterwards.
-use Rattle.std.specs.Prelude.{◌≡◌, ℕ, ◌+◌, List, length, Result, Ok, Err, Option, None, Some}
-use Rattle.journal_records.specs.declared.records.MadePartition.{MadePartition}
+use Rattle.std.specs.Prelude.{◌≡◌, ℕ, List, Result, Ok, Err, Option, None, Some}
 use Rattle.journal_records.specs.declared.records.Record.{Record}
 use Rattle.journal_records.specs.declared.records.Record.TheVariants.{Define}
-use Rattle.budget_core.specs.declared.defining.Definition.{Definition}
-use Rattle.budget_core.specs.declared.defining.Made.{Made}
-use Rattle.budget_core.specs.Bars.{first_bar}
-use Rattle.budget_core.specs.Defining.{partition_of, next_partition, partition_behind, bars_on_definition, made_or}
+use Rattle.budget_core.specs.declared.definitions.Definition.{Definition}
+use Rattle.budget_core.specs.declared.definitions.Made.{Made}
+use Rattle.budget_core.specs.Defining.{made_before, made_behind, definition_verdict_with}
 use Rattle.budget_core.specs.Entries.{Entry}
 use Rattle.budget_core.specs.Ledger.{start_of}
 use Rattle.budget_ledger.specs.Account.{Failure, Account}
@@ -15,14 +13,10 @@ use Rattle.budget_ledger.specs.declared.book.AppendFault.TheVariants.{Closed, Di
 use Rattle.budget_ledger.specs.declared.book.DefinitionFault.{DefinitionFault}
 use Rattle.budget_ledger.specs.declared.book.DefinitionFault.TheVariants.{Refused, Unwritten}
 
--- what a book that is closed so, or isn't, says to a new partition: full comes first, then closed, then too many
-abbrev pub bars_or : Entry → (start : ℕ) → List Record → Option Failure → Result Made DefinitionFault
-bars_or entry start records closed =
-    first_bar (bars_on_definition Refused (shut_with Unwritten closed) entry start records) (record { partition = next_partition records; seen = length records + 1 })
-
--- what it says to a definition, before anything is written: the partition that an equal one made, whatever bars a new one
+-- What a book that is closed so, or isn't, says to a definition on these records, before anything is written: the partition of an equal
+-- one, whatever bars a new one; else full comes first, then closed, then too many.
 abbrev pub book_definition : Entry → (start : ℕ) → List Record → Option Failure → Definition → Result Made DefinitionFault
-book_definition entry start records closed definition = made_or (partition_of records definition) (length records) (bars_or entry start records closed)
+book_definition entry start records closed definition = definition_verdict_with Refused (shut_with Unwritten closed) entry start records definition
 
 -- the verdict on a definition
 abbrev pub HasDefinitionVerdict : Account → Definition → Result Made DefinitionFault → Type 0
@@ -30,15 +24,15 @@ HasDefinitionVerdict account definition verdict =
     book_definition account.ledger.entry (start_of account.ledger) account.ledger.records account.storage.closed definition ≡ verdict
 
 -- Nothing was done where an equal definition had made its partition. Else the record of a new one was written.
-abbrev pub GainsUnlessMade : Option MadePartition → (old : Account) → Record → (new : Account) → Type 0
+abbrev pub GainsUnlessMade : Option Made → (old : Account) → Record → (new : Account) → Type 0
 GainsUnlessMade (Some made) old next new = new ≡ old
 GainsUnlessMade None old next new = HasGained old next new
 
 -- A definition is answered by its verdict. Where the disk fails, a new partition was to be made.
 abbrev pub IsDefined : Account → Definition → Result Made DefinitionFault → Account → Type 0
 IsDefined old definition (Ok made) new = HasDefinitionVerdict old definition (Ok made)
-    × GainsUnlessMade (partition_of old.ledger.records definition) old (Define (partition_behind old.ledger.records definition)) new
+    × GainsUnlessMade (made_before old.ledger.records definition) old (Define (made_behind old.ledger.records definition)) new
 IsDefined old definition (Err (Refused fault)) new = HasDefinitionVerdict old definition (Err (Refused fault)) × (new ≡ old)
 IsDefined old definition (Err (Unwritten (Closed failed_at))) new = HasDefinitionVerdict old definition (Err (Unwritten (Closed failed_at))) × (new ≡ old)
 IsDefined old definition (Err (Unwritten DiskFault)) new = ((made : Made) × HasDefinitionVerdict old definition (Ok made))
-    × (partition_of old.ledger.records definition ≡ None) × HasClosed old (Define (partition_behind old.ledger.records definition)) new
+    × (made_before old.ledger.records definition ≡ None) × HasClosed old (Define (made_behind old.ledger.records definition)) new

@@ -11,8 +11,8 @@ use Rattle.budget_journal.specs.declared.journal.Journal.{Journal}
 use Rattle.budget_journal.specs.Journals.{disk_of, used, is_closed, capacity_of, mark_of, IsMarked, Appended, AppendFailed}
 use Rattle.budget_core.specs.declared.entry.ReserveFault.{ReserveFault}
 use Rattle.budget_core.specs.declared.entry.ReserveFault.TheVariants.{OverBudget, Full, OverShare}
-use Rattle.budget_core.specs.declared.defining.DefineFault.{DefineFault}
-use Rattle.budget_core.specs.declared.defining.DefineFault.TheVariants.{Full as NoRoom, TooMany}
+use Rattle.budget_core.specs.declared.definitions.DefineFault.{DefineFault}
+use Rattle.budget_core.specs.declared.definitions.DefineFault.TheVariants.{Full as NoRoom, TooMany}
 use Rattle.budget_core.specs.Ledger.{Ledger}
 use Rattle.budget_ledger.specs.Account.{Failure, Held, Copy, Copies, Storage, Account, IsHeldCopy, IsBook, count_of}
 use Rattle.budget_ledger.specs.declared.book.AppendFault.{AppendFault}

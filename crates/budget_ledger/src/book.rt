@@ -22,7 +22,7 @@ ghost use Rattle.budget_ledger.specs.Opened.{IsBookFault};
 use crate::failure::Failure;
 use crate::halves::{Store, append, count_faults};
 use budget_core::answers::{Counts, GrantRefusal, Left, Mine, Recall};
-use budget_core::defining::{DefineFault, Definition, Made};
+use budget_core::definitions::{DefineFault, Definition, Made};
 use budget_core::entry::{Ask, Grant, ReserveFault};
 use budget_core::ledger::Ledger;
 use budget_journal::journal::Journal;
@@ -149,7 +149,7 @@ fn undefined_by(fault: DefineFault, failure: &Option<Failure>) -> DefinitionFaul
 impl<D: Disk> Book<D> {
     /// Reserves for an ask, or says why not. After Ok a stop at any moment leaves the reservation.
     pub fn reserve(&mut self, ask: &Ask) -> Result<Grant, BookFault>
-        requires { IsAskOf self.old.ledger.entry ask.now }
+        requires { IsAskOf self.old.ledger.entry self.old.ledger.records ask.now }
         ensures answer { IsReserved self.old ask.now result self.new }
         ensures went { Went self.old.ledger.records self.new.ledger.records self.old.storage self.new.storage }
         ensures kept { IsBook self.new }
@@ -214,14 +214,14 @@ impl<D: Disk> Book<D> {
         ensures went { Went self.old.ledger.records self.new.ledger.records self.old.storage self.new.storage }
         ensures kept { IsBook self.new }
     {
-        if let Some(made) = self.ledger.made(definition) {
+        if let Some(made) = self.ledger.made_before(definition) {
             return Ok(made);
         }
         let made = match self.ledger.definition_verdict(definition) {
             Ok(made) => made,
             Err(fault) => return Err(undefined_by(fault, &self.failure)),
         };
-        let partition = self.ledger.partition_behind(definition);
+        let partition = self.ledger.made_behind(definition);
         let next = Record::Define(partition);
         match append(&mut self.store, &mut self.failure, &next) {
             Ok(()) => {
