@@ -8,6 +8,7 @@ use Rattle.budget_ledger.specs.declared.failure.Failure.{Failure}
 use Rattle.wire_lines.specs.Reply.{reply_text}
 use Rattle.owner_house.specs.House.{House}
 use Rattle.owner_house.proofs.Owners.{in_catalog}
+use Rattle.generated_run.specs.SessionCore.Exchanges.{Exchange}
 use Rattle.generated_run.specs.SessionCore.Gathered.{AreShut, IsGatheredScript}
 use Rattle.generated_run.proofs.SessionCore.Turns.{turns_lines}
 use Rattle.generated_run.proofs.SessionLaws.Whole.{whole_transcript}
