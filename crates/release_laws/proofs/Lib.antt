@@ -3,3 +3,4 @@ pub mod Shapes
 pub mod Programs
 pub mod Outlines
 pub mod Texts
+mod Examples

@@ -4,3 +4,4 @@ pub mod Words
 pub mod Fronts
 pub mod Slices
 pub mod Numbers
+pub mod Texts

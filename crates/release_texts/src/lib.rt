@@ -5,6 +5,7 @@ ghost use Rattle.release_texts.specs.Fronts.{OneAnswerInFront};
 ghost use Rattle.release_texts.specs.Numbers.{NumbersAreSpelled};
 ghost use Rattle.release_texts.specs.Releases.{OneAnswerMore, PlacesChangeNoTerm};
 ghost use Rattle.release_texts.specs.Slices.{SlicesHaveTheirTokens};
+ghost use Rattle.release_texts.specs.Texts.{NoTextHasMoreTokens, NoTextIsLonger, TextsHaveTheirTokens, WidestTextsAreTexts};
 ghost use Rattle.release_texts.specs.Words.{NoTermHasTheseWords};
 
 /// A release's tokens with one answer more in front are the release's term under one name more.
@@ -31,4 +32,13 @@ pub fn a_slice_has_its_tokens()
 /// An answer that is written in a text is read back as that number.
 pub fn numbers_are_spelled()
     ensures { NumbersAreSpelled }
+{}
+
+/// The text of a release is the tokens of its `let`s and then its own; its widest text is that of the least answers, and none is longer or has
+/// more tokens.
+pub fn texts_and_their_widest()
+    ensures tokens { TextsHaveTheirTokens }
+    ensures widest { WidestTextsAreTexts }
+    ensures bytes { NoTextIsLonger }
+    ensures count { NoTextHasMoreTokens }
 {}
