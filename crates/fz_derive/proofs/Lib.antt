@@ -23,6 +23,7 @@ pub mod Finite
 pub mod LeastDerived
 pub mod LeastNames
 pub mod Names
+pub mod NodeSizes
 pub mod OneAnswer
 pub mod Programs
 pub mod Segments
