@@ -3,6 +3,7 @@ pub mod Differences
 pub mod CutLaws
 pub mod Laws
 pub mod SeenLaws
+pub mod Chains
 pub mod Lawful
 pub mod Making
 mod Examples

@@ -4,5 +4,6 @@ pub mod Cuts
 pub mod Seen
 pub mod Holding
 pub mod Divisions
+pub mod MadeParts
 pub mod Laws
 pub mod SeenLaws

@@ -7,6 +7,7 @@ ghost use Rattle.part_views.specs.SeenLaws.{CatalogViewsStay, PartsSeenAreDisjoi
 
 mod dataset;
 mod division;
+pub mod made_parts;
 
 pub use dataset::Dataset;
 
