@@ -10,6 +10,7 @@ pub mod Grants
 pub mod Levelling
 pub mod Machine
 pub mod Opens
+pub mod Partitions
 pub mod SameCost
 pub mod Sides
 pub mod Standing

@@ -1,9 +1,11 @@
 -- What a book answers where an analyst defines a partition, and what it is afterwards.
-use Rattle.std.specs.Prelude.{◌≡◌, ℕ, List, Result, Ok, Err, Option, None, Some}
+use Rattle.std.specs.Prelude.{◌≡◌, ℕ, List, Result, Ok, Err, Option, None, Some, IsSomeAnd}
+use Rattle.journal_records.specs.declared.records.MadePartition.{MadePartition}
 use Rattle.journal_records.specs.declared.records.Record.{Record}
 use Rattle.journal_records.specs.declared.records.Record.TheVariants.{Define}
 use Rattle.budget_core.specs.declared.definitions.Definition.{Definition}
 use Rattle.budget_core.specs.declared.definitions.Made.{Made}
+use Rattle.budget_core.specs.Counts.{definition_of}
 use Rattle.budget_core.specs.Defining.{made_before, made_behind, definition_verdict_with}
 use Rattle.budget_core.specs.Entries.{Entry}
 use Rattle.budget_core.specs.Ledger.{start_of}
@@ -22,6 +24,11 @@ book_definition entry start records closed definition = definition_verdict_with 
 abbrev pub HasDefinitionVerdict : Account → Definition → Result Made DefinitionFault → Type 0
 HasDefinitionVerdict account definition verdict =
     book_definition account.ledger.entry (start_of account.ledger) account.ledger.records account.storage.closed definition ≡ verdict
+
+-- In these records the partition of this number is of the definition's table, with as many keys, by a definition of its digest.
+abbrev pub IsPartitionOf : List Record → (partition : ℕ) → Definition → Type 0
+IsPartitionOf records partition definition = IsSomeAnd (definition_of records partition)
+    (λ (made : MadePartition). (made.table ≡ definition.table) × (made.keys ≡ definition.keys) × (made.digest ≡ definition.digest))
 
 -- Nothing was done where an equal definition had made its partition. Else the record of a new one was written.
 abbrev pub GainsUnlessMade : Option Made → (old : Account) → Record → (new : Account) → Type 0
