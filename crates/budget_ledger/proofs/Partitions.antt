@@ -1,5 +1,5 @@
 -- Where a definition was answered, its partition stands in the records.
-use Rattle.std.proofs.Common.{◌≡◌, ℕ, suc, ◌+◌, ◌≤◌, Bool, true, false, cond, ◌==◌, ◌&&◌, List, [], ◌∷◌, ◌++◌, length, map, find, slice_get, bytes_eq, Option, None, Some, option_map, is_some, IsSomeAnd, Result, Ok, Err, refl, sym, ◌∙◌, ap, subst, arith, eqb-true, eq-eqb}
+use Rattle.std.proofs.Common.{◌≡◌, ℕ, suc, ◌+◌, ◌≤◌, Bool, true, false, cond, ◌==◌, ◌&&◌, nat_lt, nat_le, List, [], ◌∷◌, ◌++◌, length, map, find, slice_get, bytes_eq, Option, None, Some, option_map, is_some, IsSomeAnd, Result, Ok, Err, refl, sym, ◌∙◌, ap, subst, arith, eqb-true, eq-eqb}
 use Rattle.std.specs.Option.{option_or}
 use Rattle.std.specs.List.{range_with_len}
 use Rattle.std.proofs.lemmas.Bool.{and_from}
@@ -7,18 +7,23 @@ use Rattle.std.proofs.lemmas.List.Elements.{filter_map-append}
 use Rattle.std.proofs.lemmas.List.Folds.{find-append}
 use Rattle.std.proofs.lemmas.Slice.Eq.{bytes_eq-Decides}
 use mathlib.Core.List.{IsPrefix}
+use Rattle.partition_charge.specs.Views.{partition_limit}
 use Rattle.journal_records.specs.declared.records.MadePartition.{MadePartition}
 use Rattle.journal_records.specs.declared.records.Record.{Record}
 use Rattle.journal_records.specs.declared.records.Record.TheVariants.{Define}
 use Rattle.journal_records.specs.Records.{define_in}
 use Rattle.budget_core.specs.declared.definitions.Definition.{Definition}
 use Rattle.budget_core.specs.declared.definitions.DefineFault.{DefineFault}
+use Rattle.budget_core.specs.declared.definitions.DefineFault.TheVariants.{Full, TooMany}
 use Rattle.budget_core.specs.declared.definitions.Made.{Made}
 use Rattle.budget_core.specs.Bars.{first_bar}
-use Rattle.budget_core.specs.Counts.{definitions_of, definition_of, made_of, is_made_of, is_partition, partition_number}
-use Rattle.budget_core.specs.Defining.{made_before, made_behind, with_definition, records_defined, before_or, next_partition, next_verdict, definition_verdict}
+use Rattle.budget_core.specs.Counts.{definitions_of, open_from, definition_of, made_of, is_made_of, is_partition, partition_number}
+use Rattle.budget_core.specs.Defining.{made_before, made_behind, with_definition, records_defined, before_or, made_limit, made_next, next_partition, next_verdict, definition_verdict}
 use Rattle.budget_core.specs.Entries.{Entry}
-use Rattle.budget_core.proofs.Partitions.{definition-grows}
+use Rattle.budget_core.specs.Ledger.{Ledger}
+use Rattle.budget_core.specs.Sound.{IsSound}
+use Rattle.budget_core.proofs.Partitions.{definition-grows, made-in-order}
+use Rattle.budget_core.proofs.SoundLemmas.{sound-history}
 use Rattle.budget_ledger.specs.Defined.{IsPartitionOf}
 use Rattle.budget_ledger.specs.Laws.{PartitionsStayOverRuns, DefinitionsAreFoundAgain}
 use Rattle.budget_ledger.proofs.Grants.{runs_begin}
@@ -43,7 +48,9 @@ unbarred false false f g next made is = cc
 
 -- Where nothing bars it a definition is answered with the next partition.
 next-made : (entry : Entry) (start : ℕ) (records : List Record) (made : Made) → next_verdict entry start records ≡ Ok made → next_partition records ≡ made.partition
-next-made entry start records made is = ap (λ (m : Made). m.partition) (unbarred _ _ _ _ _ _ is)
+next-made entry start records made is = ap (λ (m : Made). m.partition)
+    (unbarred (nat_lt entry.capacity (length records + open_from start records + 1)) (nat_le made_limit (length (definitions_of records)))
+    (Full (length records) (open_from start records) entry.capacity) (TooMany (length (definitions_of records))) (made_next records) made is)
 
 -- ---- of one definition
 
@@ -138,6 +145,26 @@ module _ (definition : Definition) where
       subst (λ (p : ℕ). IsPartitionOf records p definition) named
       (subst (λ (o : Option MadePartition).
           IsSomeAnd o (λ (one : MadePartition). (one.table ≡ definition.table) × (one.keys ≡ definition.keys) × (one.digest ≡ definition.digest))) (sym at.0) (terms stands at.2))
+
+-- ---- in a ledger
+
+module _ (ledger : Ledger) (sound : IsSound ledger) (definition : Definition) (made : Made) where
+  partition-stands : Stands definition ledger.records made → IsPartitionOf ledger.records made.partition definition
+  partition-stands stands =
+      stands-numbered definition partition_limit ledger.records made (made-in-order ledger.entry ledger.records (sound-history ledger sound)) stands
+
+  -- What was made before is of its definition,
+  pub partition-before : made_before ledger.records definition ≡ Some made → IsPartitionOf ledger.records made.partition definition
+  partition-before is = partition-stands (stands-before definition ledger.records made is)
+
+  -- and so is what is made.
+  pub partition-new : (records : List Record) (start : ℕ) → ledger.records ≡ with_definition records definition → made_before records definition ≡ None
+      → definition_verdict ledger.entry start records definition ≡ Ok made → IsPartitionOf ledger.records made.partition definition
+  partition-new records start is none said =
+      let next : definition_verdict ledger.entry start records definition ≡ next_verdict ledger.entry start records =
+      ap (λ (found : Option Made). before_or found (next_verdict ledger.entry start records)) none in
+      partition-stands (subst (λ (all : List Record). Stands definition all made) (sym is)
+          (made_behind records definition, made-new definition records none, next-made ledger.entry start records made (sym next ∙ said)))
 
 -- ---- over runs and stops
 
