@@ -27,7 +27,7 @@ use Rattle.budget_core.specs.Sound.{IsSound}
 use Rattle.budget_core.proofs.Histories.{history-nil}
 use Rattle.budget_core.proofs.Numbers.{numbered_in_order, settled_once, outcome_of-append-old}
 use Rattle.budget_core.proofs.SoundLemmas.{sound-history, sound-Reserve, sound-Settle, sound-Grant, sound-Define, sound-found, may-raise}
-use Rattle.budget_core.proofs.Definitions.{may-define}
+use Rattle.budget_core.proofs.Defined.{may-define}
 use Rattle.budget_core.proofs.Partitions.{made-in-order, defines-once}
 use Rattle.budget_core.proofs.LegalLemmas.{settlement-may}
 use Rattle.budget_core.proofs.Costs.{cost_of-nil, budget_of-nil}

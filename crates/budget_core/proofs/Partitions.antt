@@ -123,11 +123,11 @@ made-few entry = made-induction entry (λ all. length all ≤ made_limit) (omega
 -- Each is from another definition.
 none-counts : {X : Type 0} → (p : X → Bool) (xs : List X) → find p xs ≡ None → count_by p xs ≡ 0
 none-counts p [] none = refl
-none-counts p (x ∷ xs) none = by (p x) refl none
+none-counts p (x ∷ xs) none = by (p x) refl (none-counts p xs) none
   where
-    by : (b : Bool) → p x ≡ b → cond b (Some x) (find p xs) ≡ None → count_by p (x ∷ xs) ≡ 0
-    by true is none = absurd cc
-    by false is none = omega (arith, sum_by-cons (λ y. one_if (p y)) x xs, ap one_if is, none-counts p xs none)
+    by : (b : Bool) → p x ≡ b → (find p xs ≡ None → count_by p xs ≡ 0) → cond b (Some x) (find p xs) ≡ None → count_by p (x ∷ xs) ≡ 0
+    by true is rest none = absurd cc
+    by false is rest none = omega (arith, sum_by-cons (λ y. one_if (p y)) x xs, ap one_if is, rest none)
 
 both : (a b : Bool) → (a && b) ≡ true → (a ≡ true) × (b ≡ true)
 both true true is = (refl, refl)

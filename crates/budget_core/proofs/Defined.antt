@@ -59,7 +59,7 @@ verdict-before entry start records definition made is = ap (λ (found : Option M
 none-made : (records : List Record) (definition : Definition) → made_before records definition ≡ None → made_of records definition.table definition.keys definition.digest ≡ None
 none-made records definition first = by (made_of records definition.table definition.keys definition.digest) first
   where
-    by : (found : Option MadePartition) → option_map (λ (made : MadePartition). record { partition = made.partition; seen = length records }) found ≡ None → found ≡ None
+    by : (found : Option MadePartition) → option_map {U = Made} (λ (made : MadePartition). record { partition = made.partition; seen = length records }) found ≡ None → found ≡ None
     by None is = refl
     by (Some made) is = absurd cc
 
