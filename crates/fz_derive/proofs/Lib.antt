@@ -29,6 +29,7 @@ pub mod Programs
 pub mod Segments
 pub mod TableNames
 pub mod Verdicts
+pub mod WalkSteps
 pub mod Walked
 pub mod Whole
 pub mod Making

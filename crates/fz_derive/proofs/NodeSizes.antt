@@ -1,9 +1,10 @@
 -- How many nodes a node of each form has over its parts, and that they are counted.
-use Rattle.std.proofs.Common.{◌≡◌, ℕ, suc, ◌+◌, ◌<◌, arith, refl, List, length, ◌⊎◌, inl, inr}
+use Rattle.std.proofs.Common.{◌≡◌, ℕ, suc, ◌+◌, ◌<◌, ◌≤◌, arith, refl, List, length, ◌⊎◌, inl, inr}
 use Rattle.std.specs.Prelude.{ℤ, min, slice_index}
 use Rattle.fz_frac.specs.declared.sens.Sens.{Sens}
 use Rattle.fz_ast.specs.Parts.{Parts}
 use Rattle.fz_ast.specs.TermNodes.{IsKnown, term_at}
+use Rattle.fz_ast.specs.Terms.{Term}
 use Rattle.fz_ast.specs.declared.name.Name.{Name}
 use Rattle.fz_ast.specs.declared.name.Text.{Text as KeptText}
 use Rattle.fz_ast.specs.declared.span.Span.{Span}
@@ -21,7 +22,7 @@ use Rattle.fz_ast.specs.declared.term.Side.TheVariants.{Inl, Inr}
 use Rattle.fz_ast.specs.declared.term.Unary.{Unary}
 use Rattle.fz_ast.specs.declared.term.Unary.TheVariants.{Fst, Snd, Least, Greatest, Size}
 use Rattle.derivation_rows.specs.Nodes.{nodes_of}
-use Rattle.fz_derive.specs.Walked.{AreSizes, most_counted, node_term}
+use Rattle.fz_derive.specs.Walked.{AreSizes, form_places, most_counted, node_term, three_places, two_places}
 
 -- a form of no part, of one, of two, of three
 abbrev pub OfNone : Form → Type 0
@@ -139,3 +140,44 @@ module _ (N : Parts) (s : Span) (sizes : List ℕ) (are : AreSizes N.terms sizes
       → n ≡ min (suc (slice_index sizes e + (slice_index sizes a + slice_index sizes b))) most_counted → n ≡ min (nodes_of (node_term N s form)) most_counted
   three_counted e a b of l h = counted_three most_counted (nodes_of (term_at N.terms e)) (slice_index sizes e) (nodes_of (term_at N.terms a)) (slice_index sizes a) (nodes_of (term_at N.terms b)) (slice_index sizes b) n (nodes_of (node_term N s form))
       (are.each e l.0) (are.each a l.1) (are.each b l.2) (three_nodes N s form e a b of) h
+
+-- the same, where the last part isn't named
+abbrev pub OfFirst : Form → ℕ → Type 0
+OfFirst form a =
+    ((o : Binary) × (b : ℕ) × (form ≡ Op2 o a b)) ⊎ (((x : Name) × (b : ℕ) × (form ≡ Let x a b)) ⊎ (((x : Name) × (b : ℕ) × (form ≡ LetBang x a b)) ⊎ ((x : Name) × (y : Name) × (b : ℕ) × (form ≡ LetPair x y a b))))
+
+abbrev pub OfFirstTwo : Form → ℕ → ℕ → Type 0
+OfFirstTwo form e a = ((b : ℕ) × (form ≡ If e a b)) ⊎ ((x : Name) × (y : Name) × (b : ℕ) × (form ≡ Case e x a y b))
+
+with_second : (form : Form) (a : ℕ) → OfFirst form a → (b : ℕ) × OfTwo form a b
+with_second form a (inl h) = (h.1, inl (h.0, h.2))
+with_second form a (inr (inl h)) = (h.1, inr (inl (h.0, h.2)))
+with_second form a (inr (inr (inl h))) = (h.1, inr (inr (inl (h.0, h.2))))
+with_second form a (inr (inr (inr h))) = (h.2, inr (inr (inr (h.0, h.1, h.3))))
+
+with_third : (form : Form) (e a : ℕ) → OfFirstTwo form e a → (b : ℕ) × OfThree form e a b
+with_third form e a (inl h) = (h.0, inl h.1)
+with_third form e a (inr h) = (h.2, inr (h.0, h.1, h.3))
+
+pub first_places : (part : ℕ → Term) (form : Form) (a k : ℕ) → OfFirst form a → two_places k (part a) ≡ form_places part form k
+first_places part form a k (inl h) = rw h.2 refl
+first_places part form a k (inr (inl h)) = rw h.2 refl
+first_places part form a k (inr (inr (inl h))) = rw h.2 refl
+first_places part form a k (inr (inr (inr h))) = rw h.3 refl
+
+pub first_two_places : (part : ℕ → Term) (form : Form) (e a k : ℕ) → OfFirstTwo form e a → three_places k (part e) (part a) ≡ form_places part form k
+first_two_places part form e a k (inl h) = rw h.1 refl
+first_two_places part form e a k (inr h) = rw h.3 refl
+
+pub first_below : (m n : ℕ) (form : Form) (a : ℕ) → OfFirst form a → IsKnown m n form → a < n
+first_below m n form a of k = let w = with_second form a of in (two_below m n form a w.0 w.1 k).0
+
+pub first_two_below : (m n : ℕ) (form : Form) (e a : ℕ) → OfFirstTwo form e a → IsKnown m n form → (e < n) × (a < n)
+first_two_below m n form e a of k = let w = with_third form e a of in let l = three_below m n form e a w.0 w.1 k in (l.0, l.1)
+
+module _ (N : Parts) (s : Span) (form : Form) (k n : ℕ) (fits : k + nodes_of (node_term N s form) ≤ n) where
+  pub first_fits : (a : ℕ) → OfFirst form a → k + 1 + nodes_of (term_at N.terms a) ≤ n
+  first_fits a of = let w = with_second form a of in let e = two_nodes N s form a w.0 w.1 in omega (arith, e, fits)
+
+  pub first_two_fit : (e a : ℕ) → OfFirstTwo form e a → k + 1 + nodes_of (term_at N.terms e) + nodes_of (term_at N.terms a) ≤ n
+  first_two_fit e a of = let w = with_third form e a of in let q = three_nodes N s form e a w.0 w.1 in omega (arith, q, fits)
