@@ -4,5 +4,6 @@ pub mod Kept
 pub mod Widths
 pub mod Reaches
 pub mod Programs
+pub mod Functions
 pub mod Worked
 mod Examples

@@ -2,7 +2,7 @@
 #![tactic(auto)]
 
 ghost use Rattle.metric_law.specs.Worked.{span, counted, filtered_and_mapped};
-ghost use Rattle.shape_law.specs.Law.{Planned, PlansAreWithinLimits, ShapedProgramsRun, WalksHaveHeights};
+ghost use Rattle.shape_law.specs.Law.{FunctionPlansAreWithinLimits, Planned, PlansAreWithinLimits, ShapedFunctionsRun, ShapedProgramsRun, WalksHaveHeights};
 ghost use Rattle.shape_law.specs.Walk.{TooWide};
 ghost use Rattle.shape_law.specs.Worked.{PassesLimit, Plans, WalksTooMuch, doubled, doubled_and_nested, nested, nested_and_doubled, united};
 
@@ -17,6 +17,13 @@ pub fn walks_are_high_enough()
     ensures heights { WalksHaveHeights }
     ensures limits { PlansAreWithinLimits }
     ensures runs { ShapedProgramsRun }
+{}
+
+/// A function of rows that has a shape when it is applied to a row, without data, passes no limit, and gives each row its text by
+/// derivations no higher than the depth that is told.
+pub fn functions_are_planned()
+    ensures limits { FunctionPlansAreWithinLimits }
+    ensures runs { ShapedFunctionsRun }
 {}
 
 /// Plans of worked programs: a count, a filter over a map, a bag doubled six times, and one doubled seven times, which is too wide;
