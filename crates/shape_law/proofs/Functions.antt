@@ -16,14 +16,14 @@ use Rattle.metric_law.specs.Near.{TypedText, typed_bang, typed_text}
 use Rattle.metric_values.specs.Typed.{TypedFlat}
 use Rattle.metric_values.specs.Values.{BangV, Empty, Flat, TextV, Value, value_of}
 use Rattle.row_functions.proofs.Texts.{text_computed}
-use Rattle.row_functions.specs.RowFunctions.{GivesTextIn, IsRowFunction, depth_limit, row_text}
+use Rattle.row_functions.specs.RowFunctions.{IsRowFunction, RunsOnRows, depth_limit, row_text}
 use Rattle.shape_law.proofs.Fits.{Fits, fits_ground, fits_nothing, ground_typed}
 use Rattle.shape_law.proofs.Kept.{entered, next_is, walk_keeps}
 use Rattle.shape_law.proofs.Programs.{depth_limit_is, told_is}
 use Rattle.shape_law.proofs.Reaches as reaches
-use Rattle.shape_law.proofs.Runs.{enters_run, flat_ground, run}
+use Rattle.shape_law.proofs.Runs.{Runs, enters_run, flat_ground, run}
 use Rattle.shape_law.proofs.Widths as widths
-use Rattle.shape_law.specs.Law.{FunctionPlansAreWithinLimits, ShapedFunctionsRun}
+use Rattle.shape_law.specs.Law.{FunctionPlansAreWithinLimits}
 use Rattle.shape_law.specs.ShapeIn.{Enters, ShapeIn}
 use Rattle.shape_law.specs.Shapes.{Nothing, Shape, Wide}
 use Rattle.shape_law.specs.Walk.{Shaped, Tally, WalkOutcome, applied_shape, enters, next, start, turn_limit, walk}
@@ -83,16 +83,30 @@ ground_row row t g l f =
     let p = sound t Closed l (UnlimitedT row TextT) f.0 f.1 in
     flat_ground row (flat_of row g (bang_parts Inf row (arrow_parts (BangT Inf row) TextT (written tt p)).0).1.limits)
 
-pub function_runs : ShapedFunctionsRun
-function_runs row t g l f s k h x typed =
-    let w = shapes t s k h in
-    let n = k.depth in
-    let p = sound t Closed l (UnlimitedT row TextT) f.0 f.1 in
-    let c = run n Closed tt t (UnlimitedT row TextT) f.0 p Nothing Empty w.function fits_nothing w.term in
-    let a : Fits (Wide 0 0 0) (BangT Inf row) (BangV (value_of x)) = fits_ground (ground_row row t g l f) (typed_bang (typed_flat row x typed)) in
-    let r = enters_run w.function (Wide 0 0 0) s (BangT Inf row) TextT c.value (BangV (value_of x)) (run (n - 1)) w.body c.fits a in
-    let u = text_value r.0 (ground_typed TextT s r.0 tt r.2) in
-    let up = applies_up (MeansIn (n - 1)) (MeansIn n) (raise (n - 1) n (omega arith)) (subst (λ v. Applies (MeansIn (n - 1)) c.value (BangV (value_of x)) v) u.1 r.1) in
-    let gives : GivesTextIn n t x u.0 = (c.value, c.does, up) in
-    let is = text_computed n t x u.0 w.deep gives in
-    rw is (gives, u.2)
+module _ (row : Ty) (t : Term) (g : is_flat row ≡ true) (l : TermLimits t) (f : IsRowFunction row t) (s : Shape) (k : Tally) (h : applied_shape t ≡ Shaped s k) where
+  as_shaped : HasShapes t s k
+  as_shaped = shapes t s k h
+
+  function : Runs k.depth Empty t as_shaped.function (UnlimitedT row TextT)
+  function = run k.depth Closed tt t (UnlimitedT row TextT) f.0 (sound t Closed l (UnlimitedT row TextT) f.0 f.1) Nothing Empty as_shaped.function fits_nothing as_shaped.term
+
+  -- the text for a row
+  text : (x : Flat) → TypedFlat row x → (u : List ℕ) × Applies (MeansIn k.depth) function.value (BangV (value_of x)) (TextV u) × IsText u
+  text x typed =
+      let a : Fits (Wide 0 0 0) (BangT Inf row) (BangV (value_of x)) = fits_ground (ground_row row t g l f) (typed_bang (typed_flat row x typed)) in
+      let r = enters_run as_shaped.function (Wide 0 0 0) s (BangT Inf row) TextT function.value (BangV (value_of x)) (run (k.depth - 1)) as_shaped.body function.fits a in
+      let u = text_value r.0 (ground_typed TextT s r.0 tt r.2) in
+      let i = subst (λ v. Applies (MeansIn (k.depth - 1)) function.value (BangV (value_of x)) v) u.1 r.1 in
+      (u.0, applies_up (MeansIn (k.depth - 1)) (MeansIn k.depth) (raise (k.depth - 1) k.depth (omega arith)) i, u.2)
+
+  -- it is the one that is computed
+  text_is : (x : Flat) (typed : TypedFlat row x) → row_text t x ≡ (text x typed).0
+  text_is x typed = let u = text x typed in text_computed k.depth t x u.0 as_shaped.deep (function.value, function.does, u.1)
+
+  pub function_runs : RunsOnRows k.depth row t
+  function_runs = record {
+    function = function.value;
+    does = function.does;
+    gives = λ x typed. rw (text_is x typed) (text x typed).1;
+    texts = λ x typed. rw (text_is x typed) (text x typed).2;
+  }

@@ -6,4 +6,5 @@ pub mod Reaches
 pub mod Programs
 pub mod Functions
 pub mod Worked
+pub mod WorkedFunctions
 mod Examples

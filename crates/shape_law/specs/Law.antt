@@ -1,7 +1,7 @@
 -- What is proved of the run without data.
 use Rattle.std.specs.Prelude.{true, ℕ, ◌≤◌, ◌≡◌}
 use Rattle.fz_frac.specs.Distance.{Distance}
-use Rattle.fz_ast.specs.Limits.{IsText, TermLimits}
+use Rattle.fz_ast.specs.Limits.{TermLimits}
 use Rattle.fz_ast.specs.Signature.{IsSignature, Signature}
 use Rattle.fz_ast.specs.Terms.{Term}
 use Rattle.fz_ast.specs.Types.{Ty, is_flat}
@@ -9,9 +9,7 @@ use Rattle.linear_types.specs.Program.{Accepted, sensitivity_of}
 use Rattle.linear_types.specs.Sensitivities.{Sensitivities}
 use Rattle.metric_law.specs.Means.{HasNumber}
 use Rattle.metric_values.specs.Tables.{Dataset, IsDataset, rows_of}
-use Rattle.metric_values.specs.Typed.{TypedFlat}
-use Rattle.metric_values.specs.Values.{Flat}
-use Rattle.row_functions.specs.RowFunctions.{GivesTextIn, IsRowFunction, row_text}
+use Rattle.row_functions.specs.RowFunctions.{IsRowFunction, RunsOnRows}
 use Rattle.shape_law.specs.Shapes.{Shape, Shapes, table_shapes}
 use Rattle.shape_law.specs.ShapeIn.{ShapeIn}
 use Rattle.shape_law.specs.Walk.{Shaped, Tally, applied_shape, depth_limit, reach_limit, shape, start, turn_limit, walk, width_limit}
@@ -49,8 +47,8 @@ ShapedProgramsRun =
 abbrev pub FunctionPlansAreWithinLimits : Type 0
 FunctionPlansAreWithinLimits = (t : Term) (s : Shape) (k : Tally) → applied_shape t ≡ Shaped s k → IsWithinLimits k.depth k.turns k.width k.reach
 
--- a function of rows with a shape when it is applied gives each row its text, by derivations no higher than the depth that is told
+-- a function of rows with a shape when it is applied runs on rows, by derivations no higher than the depth that is told
 abbrev pub ShapedFunctionsRun : Type 0
 ShapedFunctionsRun =
     (row : Ty) (t : Term) → is_flat row ≡ true → TermLimits t → IsRowFunction row t → (s : Shape) (k : Tally) → applied_shape t ≡ Shaped s k
-    → (x : Flat) → TypedFlat row x → GivesTextIn k.depth t x (row_text t x) × IsText (row_text t x)
+    → RunsOnRows k.depth row t

@@ -4,11 +4,9 @@ use Rattle.fz_ast.specs.declared.span.Span.{Span}
 use Rattle.fz_ast.specs.Signature.{Signature}
 use Rattle.fz_ast.specs.Terms.{AppE, BangE, CaseE, ClipE, EqE, FilterE, FnE, FstE, FunE, GreatestE, IfE, InlE, InrE, LeE, LeastE, LetBangE, LetE, LetPairE}
 use Rattle.fz_ast.specs.Terms.{MapE, MinusE, NumE, PairE, PlusE, SizeE, SndE, SplitE, SumE, Term, TextE, TimesE, UnionE, UnitE, VarE, WithE, at, span_of}
+unfoldable pub use Rattle.row_functions.specs.RowFunctions.{depth_limit}
 use Rattle.shape_law.specs.Shapes.{Shape, Wide, FunS, FnS, Shapes, Also, shape_of, width_of, wider, pair_shape, first_half, second_half, bang_shape, in_bang}
 use Rattle.shape_law.specs.Shapes.{Nothing, height_of, side_shape, table_shapes, walks_of}
-
--- how deep a run may be
-pub use Rattle.row_functions.specs.RowFunctions.{depth_limit}
 
 abbrev pub turn_limit : ℕ
 turn_limit = 20000

@@ -25,5 +25,5 @@ module _ (n : ℕ) (u : Term) where
   pub body_then : (c : Shape) (j : Tally) → walk n 1 Nothing u start ≡ Shaped c j → applied_in n u ≡ told (enters (walk (n - 1) 2) c (Wide 0 0 0) j)
   body_then c j h = ap (λ o. told (next o (λ c. enters (walk (n - 1) 2) c (Wide 0 0 0)))) h
 
-  pub body_stops : (m : ℕ) (c : Shape) (j : Tally) (x : ShapeFault) → m ≡ n → walk n 1 Nothing u start ≡ Shaped c j → StopsAt x (enters (walk (m - 1) 2) c (Wide 0 0 0) j) → StopsAt x (applied_in n u)
-  body_stops m c j x e h s = to (StopsAt x) _ _ (body_then c j h) (told_stops x (enters (walk (n - 1) 2) c (Wide 0 0 0) j) (rw (← e) s))
+  pub body_stops : (c : Shape) (j : Tally) (x : ShapeFault) → walk n 1 Nothing u start ≡ Shaped c j → StopsAt x (enters (walk (n - 1) 2) c (Wide 0 0 0) j) → StopsAt x (applied_in n u)
+  body_stops c j x h s = to (StopsAt x) _ _ (body_then c j h) (told_stops x (enters (walk (n - 1) 2) c (Wide 0 0 0) j) s)

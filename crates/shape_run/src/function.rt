@@ -1,10 +1,8 @@
 //! The plan of a function of rows, which is applied to a row.
 ghost use Rattle.std.specs.Prelude.{◌≡◌, ◌+◌, ◌<◌, IfErr, IfOk, length, true};
-ghost use Rattle.fz_ast.specs.Limits.{IsText, TermLimits};
+ghost use Rattle.fz_ast.specs.Limits.{TermLimits};
 ghost use Rattle.fz_ast.specs.Types.{Ty, is_flat};
-ghost use Rattle.metric_values.specs.Typed.{TypedFlat};
-ghost use Rattle.metric_values.specs.Values.{Flat};
-ghost use Rattle.row_functions.specs.RowFunctions.{GivesTextIn, IsRowFunction, row_text};
+ghost use Rattle.row_functions.specs.RowFunctions.{IsRowFunction, RunsOnRows};
 ghost use Rattle.shape_law.specs.Law.{IsWithinLimits};
 ghost use Rattle.shape_law.specs.Shapes.{Shape};
 ghost use Rattle.shape_law.specs.Walk.{enters, walk};
@@ -50,8 +48,7 @@ pub fn shape_fun(alloc: Global, term: &Term) -> Result<Plan, ShapeFault>
     ensures planned { IfOk result (IsFunctionPlanOf term.now) }
     ensures stopped { IfErr result (IsFunctionStopOf term.now) }
     ensures limits { IfOk result (λ plan. IsWithinLimits plan.depth plan.turns plan.width plan.reach) }
-    ensures runs { (row : Ty) → is_flat row ≡ true → TermLimits term.now → IsRowFunction row term.now → IfOk result
-        (λ plan. (x : Flat) → TypedFlat row x → GivesTextIn plan.depth term.now x (row_text term.now x) × IsText (row_text term.now x)) }
+    ensures runs { (row : Ty) → is_flat row ≡ true → TermLimits term.now → IsRowFunction row term.now → IfOk result (λ plan. RunsOnRows plan.depth row term.now) }
 {
     let (nodes, root) = term.parts();
     let mut store = Store::new(alloc);
