@@ -4,6 +4,7 @@ pub mod BothOpens
 mod Examples
 mod ExamplesOfBoth
 mod ExamplesOfCopies
+mod ExamplesOfDefinitions
 pub mod Forks
 pub mod Definitions
 pub mod Grants

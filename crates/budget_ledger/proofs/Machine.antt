@@ -12,7 +12,7 @@ use Rattle.budget_core.specs.Entries.{budget_limit}
 use Rattle.budget_core.specs.Granting.{IsAmount, grant_behind}
 use Rattle.budget_core.specs.Events.{World, is_ask_of, is_unsettled, is_amount, is_definition}
 use Rattle.budget_core.specs.Ledger.{Ledger, start_of, reservation_for, money_verdict, records_after, settlement_for, IsUnsettled}
-use Rattle.budget_core.proofs.Asks.{ask-test}
+use Rattle.budget_core.proofs.Asks.{ask-test, definition-test}
 use Rattle.budget_core.proofs.EventLemmas.{if-left, reserved-step, granted-step, refused-step}
 use Rattle.budget_ledger.specs.Account.{Account}
 use Rattle.budget_ledger.specs.Defined.{GainsUnlessMade}
