@@ -1,10 +1,3 @@
-use Rattle.owner_history.proofs.Examples.{three}
-use Rattle.owner_history.proofs.ExamplesOfRecords
-use Rattle.owner_history.proofs.ExamplesOfParts
-use Rattle.owner_history.proofs.Sound.{well_backed}
-use Rattle.owner_history.proofs.Steps.{step}
-use Rattle.owner_history.proofs.Recalls.{recall_borne}
-use Rattle.owner_history.proofs.Shares.{shares_are_kept}
 use Rattle.owner_history.proofs.OneShown.{share_once, shown_once}
 use Rattle.owner_history.proofs.laws.records_show_one_displacement.Goals as goal
 
