@@ -12,6 +12,7 @@ use Rattle.derivation_lines.specs.declared.line.JudgeFault.{JudgeFault}
 use Rattle.derivation_lines.specs.declared.line.JudgeFault.TheVariants.{NoMemory}
 use Rattle.fz_derive.specs.Bound.{HasBound}
 use Rattle.fz_derive.specs.Judged.{IsJudged}
+use Rattle.fz_derive.proofs.Walked.{nodes_above}
 use Rattle.fz_derive.proofs.judge.judge_in.Goals as goal
 
 pub returns-in_err-lines-clause-fault : goal.returns-in_err-lines-clause-fault
@@ -122,3 +123,12 @@ sizes-requires c = c.parts-root.ensures.known
 
 pub verdict-requires-clause-known : goal.verdict-requires-clause-known
 verdict-requires-clause-known c = rw c.deref-4.ensures.value (let h = c.in_ok-sizes.ensures.all in omega (arith, h))
+
+pub read_lines-requires : goal.read_lines-requires
+read_lines-requires c = let h = c.requires in omega (arith, h)
+
+pub verdict-requires-clause-some : goal.verdict-requires-clause-some
+verdict-requires-clause-some c =
+    let t = term_at c.parts-root.result.0.now.terms c.parts-root.result.1 in
+    let counted = all_lines c.args.bytes.now c.read_lines.new.arena c.in_ok-lines.lines.items (nodes_of t) c.requires c.in_ok-lines.ensures.lines (c.in_ok-lines.ensures.count ∙ c.count.ensures) in
+    rw c.deref-3.ensures.value (let e = counted.0 in let m = nodes_above t in omega (arith, e, m))
