@@ -31,7 +31,7 @@ returns-in_err-apply_to_row-clause-stopped c =
     let a = c.in_ok-function.ensures.is Nothing no_names in
     let stops : StopsAt c.in_err-apply_to_row.field-0.0 (applied_shape c.args.term.now) =
     to (StopsAt c.in_err-apply_to_row.field-0.0) _ _ w (body_stops c.limit-depths.result u a.0 _ c.in_err-apply_to_row.field-0.0 a.2 (c.in_err-apply_to_row.ensures a.0 a.1)) in
-    let e = err_from_is_err_and c.from_residual-2.result c.from_residual-2.ensures.1 in rw (e.1, e.2) stops
+    let e = err_from_is_err_and c.from_residual-in_err-apply_to_row.result c.from_residual-in_err-apply_to_row.ensures.1 in rw (e.1, e.2) stops
 
 pub returns-then-count-clause-stopped : goal.returns-then-count-clause-stopped
 returns-then-count-clause-stopped c =
