@@ -1,5 +1,5 @@
 -- What a book answers to a definition, on both sides of each choice.
-use Rattle.std.proofs.Common.{◌≡◌, ℕ, zero, suc, ◌++◌, List, [], ◌∷◌, refl, Option, Some, None, Ok, Err}
+use Rattle.std.proofs.Common.{◌≡◌, ℕ, zero, suc, ◌++◌, List, [], ◌∷◌, refl, arith, Option, Some, None, Ok, Err}
 use Rattle.outside_disks.specs.Disks.{Trace}
 use Rattle.journal_records.specs.declared.records.Header.{Header}
 use Rattle.journal_records.specs.declared.records.MadePartition.{MadePartition}
@@ -98,19 +98,19 @@ module _ (header : Header) (trace : Option Trace) where
 -- ---- whose a partition is
 
 its_own : IsPartitionOf (with_definition (with_definition [] young_old) old_young) 9 old_young
-its_own = (refl, refl, refl)
+its_own = record { behind = omega arith; made = record { table = refl; keys = refl; digest = refl } }
 
 by_another : IsPartitionOf (with_definition [] young_old) 8 (record young_old { analyst = 1 })
-by_another = (refl, refl, refl)
+by_another = record { behind = omega arith; made = record { table = refl; keys = refl; digest = refl } }
 
 not_anothers : IsPartitionOf (with_definition (with_definition [] young_old) old_young) 8 old_young → ⊥
-not_anothers (table, keys, digest) = absurd cc
+not_anothers is = let same : 1 ∷ [] ≡ 2 ∷ [] = is.made.digest in absurd cc
 
 not_of_other_keys : IsPartitionOf (with_definition [] young_old) 8 (record young_old { keys = 3 }) → ⊥
-not_of_other_keys (table, keys, digest) = absurd cc
+not_of_other_keys is = omega (arith, is.made.keys)
 
 not_of_another_table : IsPartitionOf (with_definition [] young_old) 8 (record young_old { table = 1 }) → ⊥
-not_of_another_table (table, keys, digest) = absurd cc
+not_of_another_table is = omega (arith, is.made.table)
 
 not_made_yet : IsPartitionOf (with_definition [] young_old) 9 old_young → ⊥
-not_made_yet none = none
+not_made_yet is = is.made

@@ -1,13 +1,15 @@
 -- Where a definition was answered, its partition stands in the records.
-use Rattle.std.proofs.Common.{◌≡◌, ℕ, suc, ◌+◌, ◌≤◌, Bool, true, false, cond, ◌==◌, ◌&&◌, nat_lt, nat_le, List, [], ◌∷◌, ◌++◌, length, map, find, slice_get, bytes_eq, Option, None, Some, option_map, is_some, IsSomeAnd, Result, Ok, Err, refl, sym, ◌∙◌, ap, subst, arith, eqb-true, eq-eqb}
+use Rattle.std.proofs.Common.{◌≡◌, ℕ, suc, ◌+◌, ◌<◌, ◌≤◌, Bool, true, false, cond, ◌==◌, ◌&&◌, nat_lt, nat_le, List, [], ◌∷◌, ◌++◌, length, map, find, slice_get, bytes_eq, Option, None, Some, option_map, is_some, IsSomeAnd, Result, Ok, Err, refl, sym, ◌∙◌, ap, subst, arith, eqb-true, eq-eqb}
 use Rattle.std.specs.Option.{option_or}
 use Rattle.std.specs.List.{range_with_len}
 use Rattle.std.proofs.lemmas.Bool.{and_from}
 use Rattle.std.proofs.lemmas.List.Elements.{filter_map-append}
 use Rattle.std.proofs.lemmas.List.Folds.{find-append}
+use Rattle.std.proofs.lemmas.Option.{slice_get_within}
 use Rattle.std.proofs.lemmas.Slice.Eq.{bytes_eq-Decides}
 use mathlib.Core.List.{IsPrefix}
 use Rattle.partition_charge.specs.Views.{partition_limit}
+use Rattle.partition_charge.specs.declared.view.View.TheVariants.{Part}
 use Rattle.journal_records.specs.declared.records.MadePartition.{MadePartition}
 use Rattle.journal_records.specs.declared.records.Record.{Record}
 use Rattle.journal_records.specs.declared.records.Record.TheVariants.{Define}
@@ -19,12 +21,12 @@ use Rattle.budget_core.specs.declared.definitions.Made.{Made}
 use Rattle.budget_core.specs.Bars.{first_bar}
 use Rattle.budget_core.specs.Counts.{definitions_of, open_from, definition_of, made_of, is_made_of, is_partition, partition_number}
 use Rattle.budget_core.specs.Defining.{made_before, made_behind, with_definition, records_defined, before_or, made_limit, made_next, next_partition, next_verdict, definition_verdict}
-use Rattle.budget_core.specs.Entries.{Entry}
+use Rattle.budget_core.specs.Entries.{Entry, IsEntry, HasView}
 use Rattle.budget_core.specs.Ledger.{Ledger}
 use Rattle.budget_core.specs.Sound.{IsSound}
 use Rattle.budget_core.proofs.Partitions.{definition-grows, made-in-order}
 use Rattle.budget_core.proofs.SoundLemmas.{sound-history}
-use Rattle.budget_ledger.specs.Defined.{IsPartitionOf}
+use Rattle.budget_ledger.specs.Defined.{IsMadeAs, IsPartitionOf}
 use Rattle.budget_ledger.specs.Laws.{PartitionsStayOverRuns, DefinitionsAreFoundAgain}
 use Rattle.budget_ledger.proofs.Grants.{runs_begin}
 
@@ -61,11 +63,15 @@ module _ (definition : Definition) where
   abbrev made_in : List Record → Option MadePartition
   made_in records = made_of records definition.table definition.keys definition.digest
 
-  terms : (made : MadePartition) → fits made ≡ true → (made.table ≡ definition.table) × (made.keys ≡ definition.keys) × (made.digest ≡ definition.digest)
+  terms : (made : MadePartition) → fits made ≡ true → IsMadeAs definition made
   terms made holds =
       let outer = both ((made.table == definition.table) && (made.keys == definition.keys)) (bytes_eq made.digest definition.digest) holds in
       let inner = both (made.table == definition.table) (made.keys == definition.keys) outer.0 in
-      (eqb-true made.table definition.table inner.0, eqb-true made.keys definition.keys inner.1, (bytes_eq-Decides made.digest definition.digest).0 outer.1)
+      record {
+        table = eqb-true made.table definition.table inner.0;
+        keys = eqb-true made.keys definition.keys inner.1;
+        digest = (bytes_eq-Decides made.digest definition.digest).0 outer.1;
+      }
 
   fits-itself : (records : List Record) → fits (made_behind records definition) ≡ true
   fits-itself records = and_from _ _ (and_from _ _ (eq-eqb definition.table definition.table refl) (eq-eqb definition.keys definition.keys refl))
@@ -138,20 +144,49 @@ module _ (definition : Definition) where
           (past (made.partition == x.partition) refl rest.1 rest.0, omega (arith, rest.1), rest.2)
 
   -- In records whose made partitions are numbered in order it is found by its number.
-  pub stands-numbered : (k : ℕ) (records : List Record) (made : Made) → map partition_number (definitions_of records) ≡ range_with_len k (length (definitions_of records))
+  pub stands-numbered : (records : List Record) (made : Made)
+      → map partition_number (definitions_of records) ≡ range_with_len partition_limit (length (definitions_of records))
       → Stands records made → IsPartitionOf records made.partition definition
-  stands-numbered k records made order (stands, found, named) =
-      let at = numbered-at k (definitions_of records) stands order found in
+  stands-numbered records made order (stands, found, named) =
+      let at = numbered-at partition_limit (definitions_of records) stands order found in
       subst (λ (p : ℕ). IsPartitionOf records p definition) named
-      (subst (λ (o : Option MadePartition).
-          IsSomeAnd o (λ (one : MadePartition). (one.table ≡ definition.table) × (one.keys ≡ definition.keys) × (one.digest ≡ definition.digest))) (sym at.0) (terms stands at.2))
+      (record { behind = at.1; made = subst (λ (o : Option MadePartition). IsSomeAnd o (IsMadeAs definition)) (sym at.0) (terms stands at.2) })
+
+-- A definition's partition stays its own as records grow,
+pub partition-grows : (records later : List Record) (partition : ℕ) (definition : Definition) → IsPrefix records later → IsPartitionOf records partition definition
+    → IsPartitionOf later partition definition
+partition-grows records later partition definition begins is =
+    record { behind = is.behind; made = by (definition_of records partition) refl is.made }
+  where
+    by : (found : Option MadePartition) → definition_of records partition ≡ found → IsSomeAnd found (IsMadeAs definition)
+        → IsSomeAnd (definition_of later partition) (IsMadeAs definition)
+    by None at as = absurd as
+    by (Some one) at as =
+        let there : definition_of later partition ≡ Some one =
+        subst (λ (all : List Record). definition_of all partition ≡ Some one) begins.1 (definition-grows records begins.0 partition one at) in
+        subst (λ (o : Option MadePartition). IsSomeAnd o (IsMadeAs definition)) (sym there) as
+
+-- and each of its parts is a view that there is.
+pub partition-view : (entry : Entry) (records : List Record) (partition part : ℕ) (definition : Definition) → IsEntry entry → IsPartitionOf records partition definition
+    → part < definition.keys → HasView entry records (Part partition part)
+partition-view entry records partition part definition valid is below =
+    own (slice_get entry.keys partition) refl
+  where
+    by : (found : Option MadePartition) → IsSomeAnd found (IsMadeAs definition) → IsSomeAnd (option_map (λ (made : MadePartition). made.keys) found) (λ keys. part < keys)
+    by None as = absurd as
+    by (Some one) as = omega (arith, below, as.keys)
+
+    own : (found : Option ℕ) → slice_get entry.keys partition ≡ found
+        → IsSomeAnd (option_or found (option_map (λ (made : MadePartition). made.keys) (definition_of records partition))) (λ keys. part < keys)
+    own None at = by (definition_of records partition) is.made
+    own (Some keys) at = absurd (omega (arith, slice_get_within entry.keys partition keys at, valid.partitions, is.behind))
 
 -- ---- in a ledger
 
 module _ (ledger : Ledger) (sound : IsSound ledger) (definition : Definition) (made : Made) where
   partition-stands : Stands definition ledger.records made → IsPartitionOf ledger.records made.partition definition
   partition-stands stands =
-      stands-numbered definition partition_limit ledger.records made (made-in-order ledger.entry ledger.records (sound-history ledger sound)) stands
+      stands-numbered definition ledger.records made (made-in-order ledger.entry ledger.records (sound-history ledger sound)) stands
 
   -- What was made before is of its definition,
   pub partition-before : made_before ledger.records definition ≡ Some made → IsPartitionOf ledger.records made.partition definition

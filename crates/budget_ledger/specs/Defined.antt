@@ -1,5 +1,6 @@
 -- What a book answers where an analyst defines a partition, and what it is afterwards.
-use Rattle.std.specs.Prelude.{◌≡◌, ℕ, List, Result, Ok, Err, Option, None, Some, IsSomeAnd}
+use Rattle.std.specs.Prelude.{◌≡◌, ℕ, ◌≤◌, List, Result, Ok, Err, Option, None, Some, IsSomeAnd}
+use Rattle.partition_charge.specs.Views.{partition_limit}
 use Rattle.journal_records.specs.declared.records.MadePartition.{MadePartition}
 use Rattle.journal_records.specs.declared.records.Record.{Record}
 use Rattle.journal_records.specs.declared.records.Record.TheVariants.{Define}
@@ -25,10 +26,16 @@ abbrev pub HasDefinitionVerdict : Account → Definition → Result Made Definit
 HasDefinitionVerdict account definition verdict =
     book_definition account.ledger.entry (start_of account.ledger) account.ledger.records account.storage.closed definition ≡ verdict
 
--- In these records the partition of this number is of the definition's table, with as many keys, by a definition of its digest.
-abbrev pub IsPartitionOf : List Record → (partition : ℕ) → Definition → Type 0
-IsPartitionOf records partition definition = IsSomeAnd (definition_of records partition)
-    (λ (made : MadePartition). (made.table ≡ definition.table) × (made.keys ≡ definition.keys) × (made.digest ≡ definition.digest))
+-- The partition was made by an equal definition: of the same table, with as many keys, and of the same digest.
+pub record IsMadeAs (definition : Definition) (made : MadePartition) : Type 0 where
+  pub table : made.table ≡ definition.table
+  pub keys : made.keys ≡ definition.keys
+  pub digest : made.digest ≡ definition.digest
+
+-- In these records the partition of this number, which is behind a catalog's, is the definition's.
+pub record IsPartitionOf (records : List Record) (partition : ℕ) (definition : Definition) : Type 0 where
+  pub behind : partition_limit ≤ partition
+  pub made : IsSomeAnd (definition_of records partition) (IsMadeAs definition)
 
 -- Nothing was done where an equal definition had made its partition. Else the record of a new one was written.
 abbrev pub GainsUnlessMade : Option Made → (old : Account) → Record → (new : Account) → Type 0
