@@ -8,7 +8,7 @@ use Rattle.std.proofs.lemmas.List.Elements.{All-from_recursion}
 use Rattle.std.proofs.lemmas.Str.Parse.{IsNumeralModel, numerals_by_value, IsDigitsTest, digits_value_short, digit_at, digits_value-take-le}
 use Rattle.std.proofs.lemmas.Str.{digit_value_digit}
 use Rattle.std.proofs.lemmas.Int.Digits.{digits_value_more}
-use Rattle.wire_lines.specs.Number.{IsNumeral, is_numeral, IsNumberText, is_number}
+use Rattle.wire_lines.specs.Number.{IsNumeral, is_numeral, IsNumberText, IsPartitionText, is_number, is_partition}
 
 tells_digits : IsDigitsTest (λ ds. list_all is_ascii_digit ds ≡ true)
 tells_digits = search rules
@@ -63,3 +63,6 @@ is_number_from text h =
 
 pub is_number_to : (text : List ℕ) (n : ℕ) → IsNumberText text n → is_number text ≡ true
 is_number_to text n (numeral, same, small) = and_from _ _ (numeral_to 10 text numeral) (lt-ltb (digits_value 10 text) (2 ^ 32) (omega arith))
+
+pub is_partition_to : (text : List ℕ) (n : ℕ) → IsPartitionText text n → is_partition text ≡ true
+is_partition_to text n (numeral, same) = numeral_to 3 text numeral

@@ -14,10 +14,10 @@ use Rattle.std.proofs.lemmas.List.Splits.{length-slice_split, slice_split_none, 
 use Rattle.wire_lines.specs.Lines.{lf, space, words_of, pieces_of}
 use Rattle.fz_frac.specs.Distance.{Distance, Fin, Inf}
 use Rattle.wire_lines.specs.Refusal.{ProgramRefusal, no_token, no_term, too_nested, ill_typed, too_sensitive, out_of_range, unbounded, no_number, too_deep, too_long, too_wide, Refusal, by_line, by_program, by_money, by_disk, by_number, no_memory}
-use Rattle.wire_lines.specs.Reply.{Replied, greeted, answered, recalled, remaining, spending, ended, refused, Datum, number, signed, text, ratio, datum_text, sensitivity_text, limit_word, reply_words, refusal_words, reply_text, HasSize, IsReply, type_fault_text}
+use Rattle.wire_lines.specs.Reply.{Replied, greeted, answered, defined, recalled, remaining, spending, ended, refused, Datum, number, signed, text, ratio, datum_text, sensitivity_text, limit_word, reply_words, refusal_words, reply_text, HasSize, IsReply, type_fault_text}
 use Rattle.wire_lines.specs.declared.refusal.LineRefusal.{LineRefusal}
 use Rattle.wire_lines.specs.declared.refusal.LineRefusal.TheVariants.{Malformed, TooLong, Unknown, NoEpsilon, NoHello}
-use Rattle.wire_lines.specs.declared.refusal.MoneyRefusal.TheVariants.{OverBudget, JournalFull, OverShare}
+use Rattle.wire_lines.specs.declared.refusal.MoneyRefusal.TheVariants.{OverBudget, JournalFull, OverShare, TooMany}
 use Rattle.journal_records.specs.declared.records.Outcome.{Outcome}
 use Rattle.journal_records.specs.declared.records.Outcome.TheVariants.{Answered, Exhausted, Lost}
 use Rattle.wire_lines.specs.declared.refusal.DiskRefusal.TheVariants.{Closed, Fault as DiskFault}
@@ -151,6 +151,7 @@ abbrev rows : List (List ℕ × (List (List ℕ) → Replied))
 rows =
     (codes "hello", λ ws. greeted (nth ws 0))
     ∷ (codes "answer", λ ws. answered (num ws 0) (signed_value (nth ws 1)) (num ws 2))
+    ∷ (codes "part", λ ws. defined (num ws 0) (num ws 1))
     ∷ (codes "recall", λ ws. recalled_value ws)
     ∷ (codes "left", λ ws. remaining (num ws 0) (num ws 1) (num ws 2))
     ∷ (codes "mine", λ ws. spending (num ws 0) (limit_value (nth ws 1)) (num ws 2))
@@ -174,6 +175,7 @@ rows =
     ∷ (codes "40", λ ws. refused (by_money (OverBudget (num ws 0) (num ws 1) (num ws 2) (num ws 3))))
     ∷ (codes "41", λ ws. refused (by_money (JournalFull (num ws 0) (num ws 1) (num ws 2))))
     ∷ (codes "43", λ ws. refused (by_money (OverShare (num ws 0) (num ws 1) (num ws 2) (num ws 3))))
+    ∷ (codes "44", λ ws. refused (by_money (TooMany (num ws 0))))
     ∷ (codes "42", λ ws. refused (by_disk (Closed (num ws 0))))
     ∷ (codes "50", λ ws. refused (by_number (NoNoise (num ws 0))))
     ∷ (codes "51", λ ws. refused (by_number (NoAnswer (num ws 0))))
@@ -244,6 +246,7 @@ ratio_is (Fin p q) (first, second) =
 read_back_is : (reply : Replied) → IsReply reply → read_back (words_in reply) ≡ reply
 read_back_is (greeted analyst) h = refl
 read_back_is (answered n z taken) h = rw (value_is n h.0, signed_is z h.1.0, value_is taken h.1.1.0) refl
+read_back_is (defined partition seen) h = rw (value_is partition h.0, value_is seen h.1.0) refl
 read_back_is (recalled n (Some (Answered z)) seen) h = rw (value_is n h.0, signed_is z h.1.1.0, value_is seen h.1.1.1.0) refl
 read_back_is (recalled n None seen) h = rw (value_is n h.0, value_is seen h.1.1.0) refl
 read_back_is (recalled n (Some Lost) seen) h = rw (value_is n h.0, value_is seen h.1.1.0) refl
@@ -269,6 +272,7 @@ read_back_is (refused (by_program (too_long from to))) h = rw (value_is from h.0
 read_back_is (refused (by_program (too_wide from to width))) h = rw (value_is from h.0, value_is to h.1.0, value_is width h.1.1.0) refl
 read_back_is (refused (by_money (OverBudget spent after budget seen))) h = rw (value_is spent h.0, value_is after h.1.0, value_is budget h.1.1.0, value_is seen h.1.1.1.0) refl
 read_back_is (refused (by_money (OverShare spent after limit seen))) h = rw (value_is spent h.0, value_is after h.1.0, value_is limit h.1.1.0, value_is seen h.1.1.1.0) refl
+read_back_is (refused (by_money (TooMany made))) h = rw (value_is made h.0) refl
 read_back_is (refused (by_money (JournalFull used unsettled capacity))) h = rw (value_is used h.0, value_is unsettled h.1.0, value_is capacity h.1.1.0) refl
 read_back_is (refused (by_disk (Closed failed_at))) h = rw (value_is failed_at h.0) refl
 read_back_is (refused (by_disk DiskFault)) h = refl
@@ -311,6 +315,7 @@ refusal_no_lf (by_program refusal) = program_no_lf refusal
 refusal_no_lf (by_money (OverBudget spent after budget seen)) = refl
 refusal_no_lf (by_money (JournalFull used unsettled capacity)) = refl
 refusal_no_lf (by_money (OverShare spent after limit seen)) = refl
+refusal_no_lf (by_money (TooMany made)) = refl
 refusal_no_lf (by_disk (Closed failed_at)) = refl
 refusal_no_lf (by_disk DiskFault) = refl
 refusal_no_lf (by_number (NoNoise n)) = refl
@@ -323,6 +328,7 @@ kind_no_lf : (reply : Replied) → no_lf (reply_words reply).0 ≡ true
 unfolding no_lf
 kind_no_lf (greeted analyst) = refl
 kind_no_lf (answered n z taken) = refl
+kind_no_lf (defined partition seen) = refl
 kind_no_lf (recalled n outcome seen) = refl
 kind_no_lf (remaining spent budget seen) = refl
 kind_no_lf (spending spent limit seen) = refl

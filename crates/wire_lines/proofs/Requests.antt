@@ -9,15 +9,17 @@ use Rattle.std.proofs.lemmas.List.Splits.{slice_split_at, slice_split_none, join
 use Rattle.std.proofs.lemmas.Option.{none-some, same_Some}
 use Rattle.std.proofs.lemmas.Slice.Eq.{bytes_eq-Decides}
 use Rattle.wire_lines.specs.Lines.{space, words_of, joined}
-use Rattle.wire_lines.specs.Number.{IsNumberText, is_number}
+use Rattle.wire_lines.specs.Definition.{IsDefinition, IsKeyList, IsWord, is_key_list}
+use Rattle.wire_lines.specs.Number.{IsNumberText, IsPartitionText, is_number, is_partition}
 use Rattle.wire_lines.specs.Epsilon.{epsilon_of}
-use Rattle.wire_lines.specs.Request.{Asked, hello, ask, askpart, recall, left, mine, bye, IsWord, IsAmount, IsRequest, line_limit, one_word, one_number, all_rest, fault_from, fault_among, fault_of, word_at, rest_at, end_at, hello_from, ask_from, askpart_from, recall_from, left_from, mine_from, bye_from, request_from, request_of, asked, reading, HasEpsilonInRange}
+use Rattle.wire_lines.specs.Request.{Asked, hello, ask, askpart, part, askmade, recall, left, mine, bye, IsAmount, IsRequest, line_limit, one_word, one_number, one_partition, one_list, all_rest, fault_from, fault_among, fault_of, word_at, rest_at, end_at, hello_from, ask_from, askpart_from, part_from, askmade_from, recall_from, left_from, mine_from, bye_from, request_from, request_of, asked, reading, HasEpsilonInRange, ◌>>=◌}
 use Rattle.wire_lines.specs.declared.request.Request.{Request}
-use Rattle.wire_lines.specs.declared.request.Request.TheVariants.{Hello, Ask, AskPart, Recall, Left, Mine, Bye}
+use Rattle.wire_lines.specs.declared.request.Request.TheVariants.{Hello, Ask, AskPart, Part, AskMade, Recall, Left, Mine, Bye}
 use Rattle.wire_lines.specs.declared.refusal.LineRefusal.{LineRefusal}
 use Rattle.wire_lines.specs.declared.refusal.LineRefusal.TheVariants.{Malformed, TooLong, Unknown, NoEpsilon, NoHello}
 use Rattle.wire_lines.specs.Refusal.{IsFormRefusal}
-use Rattle.wire_lines.proofs.Numerals.{is_number_from, is_number_to, digits_apart}
+use Rattle.wire_lines.proofs.Numerals.{is_number_from, is_number_to, is_partition_to, numeral_from, digits_apart}
+use Rattle.wire_lines.proofs.Keys.{list_from, list_to, list_word}
 use Rattle.wire_lines.proofs.Epsilons.{epsilon_from, epsilon_to}
 
 apart_tests : (line : List ℕ) → All (λ b. b ≢ space) line → All (λ b. eqb b space ≡ false) line
@@ -42,6 +44,9 @@ some_word (b ∷ bytes) = let (word, words, e) = some_word bytes in elim (cases_
 pub rest_is : (n : ℕ) (line : List ℕ) → rest_at n (words_of line) ≡ Ok line
 rest_is n line = let (word, words, e) = some_word line in
     ap (rest_at n) e ∙ ap (λ bytes. Ok bytes) (sym (ap joined e) ∙ join_with_byte-slice_split space line)
+
+pub joined_is : (line : List ℕ) → joined (words_of line) ≡ line
+joined_is line = join_with_byte-slice_split space line
 
 pub word_there : (n : ℕ) (word : List ℕ) (words : List (List ℕ)) → 0 < length word → word_at n (word ∷ words) ≡ Ok (word, words)
 word_there n [] words some = absurd (omega arith)
@@ -134,6 +139,71 @@ askpart_found ((b ∷ bytes) ∷ (p ∷ partition) ∷ (k ∷ key) ∷ (c ∷ am
       ap (λ ys. codes "askpart " ++ ys) (sym (regrouped (b ∷ bytes) (space ∷ p ∷ partition) (space ∷ k ∷ key) (space ∷ c ∷ amount) (space ∷ joined (w ∷ words)))),
     )
 
+part_found : (words : List (List ℕ)) (r : Asked) → AllByRecursion HasNoSpace words → part_from words ≡ Ok r → IsRequest (joined (codes "part" ∷ words)) r
+part_found [] r apart h = absurd cc
+part_found ([] ∷ words) r apart h = absurd cc
+part_found ((b ∷ bytes) ∷ []) r apart h = absurd cc
+part_found ((b ∷ bytes) ∷ [] ∷ words) r apart h = absurd cc
+part_found ((b ∷ bytes) ∷ (t ∷ table) ∷ []) r apart h = absurd cc
+part_found ((b ∷ bytes) ∷ (t ∷ table) ∷ [] ∷ words) r apart h = absurd cc
+part_found ((b ∷ bytes) ∷ (t ∷ table) ∷ (k ∷ keys) ∷ []) r apart h = elim (cases_Bool (is_key_list (k ∷ keys))) [
+  | inl list ↦ let none : Err (Malformed 4) ≡ Ok r = rw list at h in absurd cc
+  | inr other ↦ let none : Err (Malformed 3) ≡ Ok r = rw other at h in absurd cc
+]
+part_found ((b ∷ bytes) ∷ (t ∷ table) ∷ (k ∷ keys) ∷ w ∷ words) r apart h = elim (cases_Bool (is_key_list (k ∷ keys))) [
+  | inl list ↦
+      let definition : List ℕ = joined ((t ∷ table) ∷ (k ∷ keys) ∷ w ∷ words) in
+      let read : Ok (part (b ∷ bytes) definition) ≡ Ok r = rw list at h in
+      let same : part (b ∷ bytes) definition ≡ r = cc in
+      let is : IsDefinition definition = (t ∷ table, k ∷ keys, joined (w ∷ words), a_word (t ∷ table) (omega arith) apart.1.0, list_from (k ∷ keys) list, sym (append_assoc (t ∷ table) (space ∷ k ∷ keys) (space ∷ joined (w ∷ words)))) in
+      subst (λ q. IsRequest (joined (codes "part" ∷ (b ∷ bytes) ∷ (t ∷ table) ∷ (k ∷ keys) ∷ w ∷ words)) q) same (a_word (b ∷ bytes) (omega arith) apart.0, is, refl)
+  | inr other ↦ let none : Err (Malformed 3) ≡ Ok r = rw other at h in absurd cc
+]
+
+-- what stands behind a partition's number
+abbrev behind_partition : (owner : List ℕ) (partition : ℕ) → List (List ℕ) → Result Asked LineRefusal
+behind_partition owner partition words = do
+  key ← word_at 3 words
+  amount ← word_at 4 key.1
+  program ← rest_at 5 amount.1
+  Ok (askmade owner partition key.0 (epsilon_of amount.0) program)
+
+askmade_behind : (owner digits : List ℕ) (words : List (List ℕ)) (r : Asked) → IsWord owner → IsPartitionText digits (digits_value 10 digits) → AllByRecursion HasNoSpace words
+    → behind_partition owner (digits_value 10 digits) words ≡ Ok r → IsRequest (codes "askmade " ++ (owner ++ (space ∷ digits ++ (space ∷ joined words)))) r
+askmade_behind owner digits [] r word text apart h = absurd cc
+askmade_behind owner digits ([] ∷ words) r word text apart h = absurd cc
+askmade_behind owner digits ((k ∷ key) ∷ []) r word text apart h = absurd cc
+askmade_behind owner digits ((k ∷ key) ∷ [] ∷ words) r word text apart h = absurd cc
+askmade_behind owner digits ((k ∷ key) ∷ (c ∷ amount) ∷ []) r word text apart h = absurd cc
+askmade_behind owner digits ((k ∷ key) ∷ (c ∷ amount) ∷ w ∷ words) r word text apart h =
+    let same : askmade owner (digits_value 10 digits) (k ∷ key) (epsilon_of (c ∷ amount)) (joined (w ∷ words)) ≡ r = cc in
+    subst (λ q. IsRequest (codes "askmade " ++ (owner ++ (space ∷ digits ++ (space ∷ joined ((k ∷ key) ∷ (c ∷ amount) ∷ w ∷ words))))) q) same (
+      digits,
+      c ∷ amount,
+      word,
+      text,
+      a_word (k ∷ key) (omega arith) apart.0,
+      a_word (c ∷ amount) (omega arith) apart.1.0,
+      amount_is (c ∷ amount),
+      ap (λ ys. codes "askmade " ++ ys) (sym (regrouped owner (space ∷ digits) (space ∷ k ∷ key) (space ∷ c ∷ amount) (space ∷ joined (w ∷ words)))),
+    )
+
+askmade_found : (words : List (List ℕ)) (r : Asked) → AllByRecursion HasNoSpace words → askmade_from words ≡ Ok r → IsRequest (joined (codes "askmade" ∷ words)) r
+askmade_found [] r apart h = absurd cc
+askmade_found ([] ∷ words) r apart h = absurd cc
+askmade_found ((b ∷ bytes) ∷ []) r apart h = absurd cc
+askmade_found ((b ∷ bytes) ∷ [] ∷ words) r apart h = absurd cc
+askmade_found ((b ∷ bytes) ∷ (c ∷ digits) ∷ []) r apart h = elim (cases_Bool (is_partition (c ∷ digits))) [
+  | inl yes ↦ let none : Err (Malformed 3) ≡ Ok r = rw yes at h in absurd cc
+  | inr other ↦ let none : Err (Malformed 2) ≡ Ok r = rw other at h in absurd cc
+]
+askmade_found ((b ∷ bytes) ∷ (c ∷ digits) ∷ w ∷ words) r apart h = elim (cases_Bool (is_partition (c ∷ digits))) [
+  | inl yes ↦
+      let read : behind_partition (b ∷ bytes) (digits_value 10 (c ∷ digits)) (w ∷ words) ≡ Ok r = rw yes at h in
+      askmade_behind (b ∷ bytes) (c ∷ digits) (w ∷ words) r (a_word (b ∷ bytes) (omega arith) apart.0) (numeral_from 3 (c ∷ digits) yes, refl) apart.1.1 read
+  | inr other ↦ let none : Err (Malformed 2) ≡ Ok r = rw other at h in absurd cc
+]
+
 recall_found : (words : List (List ℕ)) (r : Asked) → AllByRecursion HasNoSpace words → recall_from words ≡ Ok r → IsRequest (joined (codes "recall" ∷ words)) r
 recall_found [] r apart h = absurd cc
 recall_found ([] ∷ words) r apart h = absurd cc
@@ -187,19 +257,27 @@ from_found (kind ∷ words) r apart h = elim (cases_Bool (bytes_eq kind (codes "
     | inr not_ask ↦ elim (cases_Bool (bytes_eq kind (codes "askpart"))) [
       | inl is_askpart ↦
           subst (λ k. IsRequest (joined (k ∷ words)) r) (sym (kind_is kind (codes "askpart") is_askpart)) (askpart_found words r apart.1 (rw (not_hello, not_ask, is_askpart) at h))
-      | inr not_askpart ↦ elim (cases_Bool (bytes_eq kind (codes "recall"))) [
-        | inl is_recall ↦
-            subst (λ k. IsRequest (joined (k ∷ words)) r) (sym (kind_is kind (codes "recall") is_recall)) (recall_found words r apart.1 (rw (not_hello, not_ask, not_askpart, is_recall) at h))
-        | inr not_recall ↦ elim (cases_Bool (bytes_eq kind (codes "left"))) [
-          | inl is_left ↦
-              subst (λ k. IsRequest (joined (k ∷ words)) r) (sym (kind_is kind (codes "left") is_left)) (left_found words r apart.1 (rw (not_hello, not_ask, not_askpart, not_recall, is_left) at h))
-          | inr not_left ↦ elim (cases_Bool (bytes_eq kind (codes "mine"))) [
-            | inl is_mine ↦
-                subst (λ k. IsRequest (joined (k ∷ words)) r) (sym (kind_is kind (codes "mine") is_mine)) (mine_found words r apart.1 (rw (not_hello, not_ask, not_askpart, not_recall, not_left, is_mine) at h))
-            | inr not_mine ↦ elim (cases_Bool (bytes_eq kind (codes "bye"))) [
-              | inl is_bye ↦
-                  subst (λ k. IsRequest (joined (k ∷ words)) r) (sym (kind_is kind (codes "bye") is_bye)) (bye_found words r (rw (not_hello, not_ask, not_askpart, not_recall, not_left, not_mine, is_bye) at h))
-              | inr not_bye ↦ let none : Err (Malformed 0) ≡ Ok r = rw (not_hello, not_ask, not_askpart, not_recall, not_left, not_mine, not_bye) at h in absurd cc
+      | inr not_askpart ↦ elim (cases_Bool (bytes_eq kind (codes "part"))) [
+        | inl is_part ↦
+            subst (λ k. IsRequest (joined (k ∷ words)) r) (sym (kind_is kind (codes "part") is_part)) (part_found words r apart.1 (rw (not_hello, not_ask, not_askpart, is_part) at h))
+        | inr not_part ↦ elim (cases_Bool (bytes_eq kind (codes "askmade"))) [
+          | inl is_askmade ↦
+              subst (λ k. IsRequest (joined (k ∷ words)) r) (sym (kind_is kind (codes "askmade") is_askmade)) (askmade_found words r apart.1 (rw (not_hello, not_ask, not_askpart, not_part, is_askmade) at h))
+          | inr not_askmade ↦ elim (cases_Bool (bytes_eq kind (codes "recall"))) [
+            | inl is_recall ↦
+                subst (λ k. IsRequest (joined (k ∷ words)) r) (sym (kind_is kind (codes "recall") is_recall)) (recall_found words r apart.1 (rw (not_hello, not_ask, not_askpart, not_part, not_askmade, is_recall) at h))
+            | inr not_recall ↦ elim (cases_Bool (bytes_eq kind (codes "left"))) [
+              | inl is_left ↦
+                  subst (λ k. IsRequest (joined (k ∷ words)) r) (sym (kind_is kind (codes "left") is_left)) (left_found words r apart.1 (rw (not_hello, not_ask, not_askpart, not_part, not_askmade, not_recall, is_left) at h))
+              | inr not_left ↦ elim (cases_Bool (bytes_eq kind (codes "mine"))) [
+                | inl is_mine ↦
+                    subst (λ k. IsRequest (joined (k ∷ words)) r) (sym (kind_is kind (codes "mine") is_mine)) (mine_found words r apart.1 (rw (not_hello, not_ask, not_askpart, not_part, not_askmade, not_recall, not_left, is_mine) at h))
+                | inr not_mine ↦ elim (cases_Bool (bytes_eq kind (codes "bye"))) [
+                  | inl is_bye ↦
+                      subst (λ k. IsRequest (joined (k ∷ words)) r) (sym (kind_is kind (codes "bye") is_bye)) (bye_found words r (rw (not_hello, not_ask, not_askpart, not_part, not_askmade, not_recall, not_left, not_mine, is_bye) at h))
+                  | inr not_bye ↦ let none : Err (Malformed 0) ≡ Ok r = rw (not_hello, not_ask, not_askpart, not_part, not_askmade, not_recall, not_left, not_mine, not_bye) at h in absurd cc
+                ]
+              ]
             ]
           ]
         ]
@@ -236,6 +314,22 @@ askpart_taken (b ∷ bytes) [] key amount word words first second third fourth =
 askpart_taken (b ∷ bytes) (p ∷ partition) [] amount word words first second third fourth = absurd (omega arith)
 askpart_taken (b ∷ bytes) (p ∷ partition) (k ∷ key) [] word words first second third fourth = absurd (omega arith)
 askpart_taken (b ∷ bytes) (p ∷ partition) (k ∷ key) (c ∷ amount) word words first second third fourth = refl
+
+part_taken : (owner table keys word : List ℕ) (words : List (List ℕ)) → 0 < length owner → 0 < length table → 0 < length keys → is_key_list keys ≡ true
+    → part_from (owner ∷ table ∷ keys ∷ word ∷ words) ≡ Ok (part owner (joined (table ∷ keys ∷ word ∷ words)))
+part_taken [] table keys word words first second third list = absurd (omega arith)
+part_taken (b ∷ bytes) [] keys word words first second third list = absurd (omega arith)
+part_taken (b ∷ bytes) (t ∷ table) [] word words first second third list = absurd (omega arith)
+part_taken (b ∷ bytes) (t ∷ table) (k ∷ keys) word words first second third list = rw list refl
+
+askmade_taken : (owner digits key amount word : List ℕ) (words : List (List ℕ)) (n : ℕ) → 0 < length owner → IsPartitionText digits n → 0 < length key → 0 < length amount
+    → askmade_from (owner ∷ digits ∷ key ∷ amount ∷ word ∷ words) ≡ Ok (askmade owner n key (epsilon_of amount) (joined (word ∷ words)))
+askmade_taken [] digits key amount word words n first text third fourth = absurd (omega arith)
+askmade_taken (b ∷ bytes) [] key amount word words n first ((there, short, all), same) third fourth = absurd (omega arith)
+askmade_taken (b ∷ bytes) (c ∷ digits) [] amount word words n first text third fourth = absurd (omega arith)
+askmade_taken (b ∷ bytes) (c ∷ digits) (k ∷ key) [] word words n first text third fourth = absurd (omega arith)
+askmade_taken (b ∷ bytes) (c ∷ digits) (k ∷ key) (d ∷ amount) word words n first text third fourth =
+    rw (is_partition_to (c ∷ digits) n text) (ap (λ p. Ok (askmade (b ∷ bytes) p (k ∷ key) (epsilon_of (d ∷ amount)) (joined (word ∷ words)))) (sym text.1))
 
 recall_taken : (owner digits : List ℕ) (n : ℕ) → 0 < length owner → IsNumberText digits n → recall_from (owner ∷ digits ∷ []) ≡ Ok (recall owner n)
 recall_taken [] digits n some written = absurd (omega arith)
@@ -275,6 +369,29 @@ request_taken line (askpart owner partition key epsilon program) (amount, first,
     ∙ ap askpart_from behind ∙ askpart_taken owner partition key amount word words first.0 second.0 third.0 fourth.0
     ∙ ap (λ e. Ok (askpart owner partition key e (joined (word ∷ words)))) (epsilon_is amount epsilon written)
     ∙ ap (λ bytes. Ok (askpart owner partition key epsilon bytes)) (sym (ap joined e) ∙ join_with_byte-slice_split space program)
+request_taken line (part owner definition) (first, (table, keys, function, second, list, is), spelled) =
+    let (word, words, e) = some_word function in
+    let third = list_word keys list in
+    let behind : words_of definition ≡ table ∷ keys ∷ word ∷ words =
+    words_cut definition table (keys ++ (space ∷ function)) second.1 (is ∙ append_assoc table (space ∷ keys) (space ∷ function))
+    ∙ ap (λ ws. table ∷ ws) (words_cut _ keys function third.1 refl ∙ ap (λ ws. keys ∷ ws) e) in
+    ap request_from (words_cut line (codes "part") (owner ++ (space ∷ definition)) (literal_word (codes "part") refl) spelled)
+    ∙ ap part_from (words_cut _ owner definition first.1 refl ∙ ap (λ ws. owner ∷ ws) behind)
+    ∙ part_taken owner table keys word words first.0 second.0 third.0 (list_to keys list)
+    ∙ ap (λ bytes. Ok (part owner bytes)) (sym (ap joined behind) ∙ join_with_byte-slice_split space definition)
+request_taken line (askmade owner partition key epsilon program) (digits, amount, first, text, third, fourth, written, spelled) =
+    let (word, words, e) = some_word program in
+    let from_amount : List ℕ = amount ++ (space ∷ program) in
+    let from_key : List ℕ = key ++ (space ∷ from_amount) in
+    let from_partition : List ℕ = digits ++ (space ∷ from_key) in
+    let behind : words_of (owner ++ (space ∷ from_partition)) ≡ owner ∷ digits ∷ key ∷ amount ∷ word ∷ words =
+    words_cut _ owner from_partition first.1 refl ∙ ap (λ ws. owner ∷ ws) (words_cut _ digits from_key (digits_apart space refl digits text.0.2) refl
+    ∙ ap (λ ws. digits ∷ ws) (words_cut _ key from_amount third.1 refl ∙ ap (λ ws. key ∷ ws) (words_cut _ amount program fourth.1 refl ∙ ap (λ ws. amount ∷ ws) e))) in
+    ap request_from (words_cut line (codes "askmade") (owner ++ (space ∷ from_partition)) (literal_word (codes "askmade") refl)
+    (spelled ∙ ap (λ ys. codes "askmade " ++ ys) (regrouped owner (space ∷ digits) (space ∷ key) (space ∷ amount) (space ∷ program))))
+    ∙ ap askmade_from behind ∙ askmade_taken owner digits key amount word words partition first.0 text third.0 fourth.0
+    ∙ ap (λ e. Ok (askmade owner partition key e (joined (word ∷ words)))) (epsilon_is amount epsilon written)
+    ∙ ap (λ bytes. Ok (askmade owner partition key epsilon bytes)) (sym (ap joined e) ∙ join_with_byte-slice_split space program)
 request_taken line (recall owner number) (digits, word, written, spelled) =
     ap request_from (words_cut line (codes "recall") (owner ++ (space ∷ digits)) (literal_word (codes "recall") refl) spelled)
     ∙ ap recall_from (words_cut _ owner digits word.1 refl ∙ ap (λ ws. owner ∷ ws) (words_one digits (digits_apart space refl digits written.0.2)))
@@ -309,7 +426,11 @@ ask_agrees ((b ∷ bytes) ∷ [] ∷ words) = (refl, omega arith)
 ask_agrees ((b ∷ bytes) ∷ (c ∷ amount) ∷ []) = (refl, omega arith)
 ask_agrees ((b ∷ bytes) ∷ (c ∷ amount) ∷ w ∷ words) = tt
 
-askpart_agrees : (words : List (List ℕ)) → Agree (askpart_from words) (fault_from 1 (one_word ∷ one_word ∷ one_word ∷ one_word ∷ all_rest ∷ []) words)
+askno_list : is_key_list [] ≡ false
+unfolding is_key_list
+no_list = refl
+
+part_agrees : (words : List (List ℕ)) → Agree (askpart_from words) (fault_from 1 (one_word ∷ one_word ∷ one_word ∷ one_word ∷ all_rest ∷ []) words)
 unfolding Agree
 askpart_agrees [] = (refl, omega arith)
 askpart_agrees ([] ∷ words) = (refl, omega arith)
@@ -321,6 +442,43 @@ askpart_agrees ((b ∷ bytes) ∷ (p ∷ partition) ∷ (k ∷ key) ∷ []) = (r
 askpart_agrees ((b ∷ bytes) ∷ (p ∷ partition) ∷ (k ∷ key) ∷ [] ∷ words) = (refl, omega arith)
 askpart_agrees ((b ∷ bytes) ∷ (p ∷ partition) ∷ (k ∷ key) ∷ (c ∷ amount) ∷ []) = (refl, omega arith)
 askpart_agrees ((b ∷ bytes) ∷ (p ∷ partition) ∷ (k ∷ key) ∷ (c ∷ amount) ∷ w ∷ words) = tt
+
+part_agrees : (words : List (List ℕ)) → Agree (part_from words) (fault_from 1 (one_word ∷ one_word ∷ one_list ∷ all_rest ∷ []) words)
+unfolding Agree
+part_agrees [] = (refl, omega arith)
+part_agrees ([] ∷ words) = (refl, omega arith)
+part_agrees ((b ∷ bytes) ∷ []) = (refl, omega arith)
+part_agrees ((b ∷ bytes) ∷ [] ∷ words) = (refl, omega arith)
+part_agrees ((b ∷ bytes) ∷ (t ∷ table) ∷ []) = (refl, omega arith)
+part_agrees ((b ∷ bytes) ∷ (t ∷ table) ∷ [] ∷ words) = rw no_list (refl, omega arith)
+part_agrees ((b ∷ bytes) ∷ (t ∷ table) ∷ (k ∷ keys) ∷ []) = elim (cases_Bool (is_key_list (k ∷ keys))) [
+  | inl list ↦ rw list (refl, omega arith)
+  | inr other ↦ rw other (refl, omega arith)
+]
+part_agrees ((b ∷ bytes) ∷ (t ∷ table) ∷ (k ∷ keys) ∷ w ∷ words) = elim (cases_Bool (is_key_list (k ∷ keys))) [
+  | inl list ↦ rw list tt
+  | inr other ↦ rw other (refl, omega arith)
+]
+
+askmade_agrees : (words : List (List ℕ)) → Agree (askmade_from words) (fault_from 1 (one_word ∷ one_partition ∷ one_word ∷ one_word ∷ all_rest ∷ []) words)
+unfolding Agree
+askmade_agrees [] = (refl, omega arith)
+askmade_agrees ([] ∷ words) = (refl, omega arith)
+askmade_agrees ((b ∷ bytes) ∷ []) = (refl, omega arith)
+askmade_agrees ((b ∷ bytes) ∷ [] ∷ words) = (refl, omega arith)
+askmade_agrees ((b ∷ bytes) ∷ (c ∷ digits) ∷ words) = elim (cases_Bool (is_partition (c ∷ digits))) [
+  | inl yes ↦ rw yes (behind_agrees (b ∷ bytes) (digits_value 10 (c ∷ digits)) words)
+  | inr other ↦ rw other (refl, omega arith)
+]
+  where
+    behind_agrees : (owner : List ℕ) (n : ℕ) (words : List (List ℕ)) → Agree (behind_partition owner n words) (fault_from 3 (one_word ∷ one_word ∷ all_rest ∷ []) words)
+    unfolding Agree
+    behind_agrees owner n [] = (refl, omega arith)
+    behind_agrees owner n ([] ∷ words) = (refl, omega arith)
+    behind_agrees owner n ((k ∷ key) ∷ []) = (refl, omega arith)
+    behind_agrees owner n ((k ∷ key) ∷ [] ∷ words) = (refl, omega arith)
+    behind_agrees owner n ((k ∷ key) ∷ (d ∷ amount) ∷ []) = (refl, omega arith)
+    behind_agrees owner n ((k ∷ key) ∷ (d ∷ amount) ∷ w ∷ words) = tt
 
 recall_agrees : (words : List (List ℕ)) → Agree (recall_from words) (fault_from 1 (one_word ∷ one_number ∷ []) words)
 unfolding Agree
@@ -365,15 +523,21 @@ agree (kind ∷ words) = elim (cases_Bool (bytes_eq kind (codes "hello"))) [
     | inl is_ask ↦ rw (not_hello, is_ask) (ask_agrees words)
     | inr not_ask ↦ elim (cases_Bool (bytes_eq kind (codes "askpart"))) [
       | inl is_askpart ↦ rw (not_hello, not_ask, is_askpart) (askpart_agrees words)
-      | inr not_askpart ↦ elim (cases_Bool (bytes_eq kind (codes "recall"))) [
-        | inl is_recall ↦ rw (not_hello, not_ask, not_askpart, is_recall) (recall_agrees words)
-        | inr not_recall ↦ elim (cases_Bool (bytes_eq kind (codes "left"))) [
-          | inl is_left ↦ rw (not_hello, not_ask, not_askpart, not_recall, is_left) (left_agrees words)
-          | inr not_left ↦ elim (cases_Bool (bytes_eq kind (codes "mine"))) [
-            | inl is_mine ↦ rw (not_hello, not_ask, not_askpart, not_recall, not_left, is_mine) (mine_agrees words)
-            | inr not_mine ↦ elim (cases_Bool (bytes_eq kind (codes "bye"))) [
-              | inl is_bye ↦ rw (not_hello, not_ask, not_askpart, not_recall, not_left, not_mine, is_bye) (bye_agrees words)
-              | inr not_bye ↦ rw (not_hello, not_ask, not_askpart, not_recall, not_left, not_mine, not_bye) (refl, omega arith)
+      | inr not_askpart ↦ elim (cases_Bool (bytes_eq kind (codes "part"))) [
+        | inl is_part ↦ rw (not_hello, not_ask, not_askpart, is_part) (part_agrees words)
+        | inr not_part ↦ elim (cases_Bool (bytes_eq kind (codes "askmade"))) [
+          | inl is_askmade ↦ rw (not_hello, not_ask, not_askpart, not_part, is_askmade) (askmade_agrees words)
+          | inr not_askmade ↦ elim (cases_Bool (bytes_eq kind (codes "recall"))) [
+            | inl is_recall ↦ rw (not_hello, not_ask, not_askpart, not_part, not_askmade, is_recall) (recall_agrees words)
+            | inr not_recall ↦ elim (cases_Bool (bytes_eq kind (codes "left"))) [
+              | inl is_left ↦ rw (not_hello, not_ask, not_askpart, not_part, not_askmade, not_recall, is_left) (left_agrees words)
+              | inr not_left ↦ elim (cases_Bool (bytes_eq kind (codes "mine"))) [
+                | inl is_mine ↦ rw (not_hello, not_ask, not_askpart, not_part, not_askmade, not_recall, not_left, is_mine) (mine_agrees words)
+                | inr not_mine ↦ elim (cases_Bool (bytes_eq kind (codes "bye"))) [
+                  | inl is_bye ↦ rw (not_hello, not_ask, not_askpart, not_part, not_askmade, not_recall, not_left, not_mine, is_bye) (bye_agrees words)
+                  | inr not_bye ↦ rw (not_hello, not_ask, not_askpart, not_part, not_askmade, not_recall, not_left, not_mine, not_bye) (refl, omega arith)
+                ]
+              ]
             ]
           ]
         ]
@@ -475,6 +639,9 @@ result_epsilon line (Ok (Ask owner None program)) h = tt
 result_epsilon line (Ok (Ask owner (Some n) program)) h = let (amount, first, second, (whole, fraction, numeral, written, value, low, high), spelled) = (grammar_from line (ask owner.now (Some n) program.now) (sym h)).1 in (low, high)
 result_epsilon line (Ok (AskPart owner partition key None program)) h = tt
 result_epsilon line (Ok (AskPart owner partition key (Some n) program)) h = let (amount, first, second, third, fourth, (whole, fraction, numeral, written, value, low, high), spelled) = (grammar_from line (askpart owner.now partition.now key.now (Some n) program.now) (sym h)).1 in (low, high)
+result_epsilon line (Ok (Part owner definition)) h = tt
+result_epsilon line (Ok (AskMade owner partition key None program)) h = tt
+result_epsilon line (Ok (AskMade owner partition key (Some n) program)) h = let (digits, amount, first, text, third, fourth, (whole, fraction, numeral, written, value, low, high), spelled) = (grammar_from line (askmade owner.now partition key.now (Some n) program.now) (sym h)).1 in (low, high)
 result_epsilon line (Ok (Recall owner number)) h = tt
 result_epsilon line (Ok (Left owner)) h = tt
 result_epsilon line (Ok (Mine owner)) h = tt

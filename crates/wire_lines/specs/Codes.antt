@@ -5,7 +5,7 @@ use Rattle.wire_lines.specs.Refusal.{too_long, too_wide, Refusal, by_line, by_pr
 use Rattle.wire_lines.specs.declared.refusal.LineRefusal.{LineRefusal}
 use Rattle.wire_lines.specs.declared.refusal.LineRefusal.TheVariants.{Malformed, TooLong, Unknown, NoEpsilon, NoHello}
 use Rattle.wire_lines.specs.declared.refusal.MoneyRefusal.{MoneyRefusal}
-use Rattle.wire_lines.specs.declared.refusal.MoneyRefusal.TheVariants.{OverBudget, JournalFull, OverShare}
+use Rattle.wire_lines.specs.declared.refusal.MoneyRefusal.TheVariants.{OverBudget, JournalFull, OverShare, TooMany}
 use Rattle.wire_lines.specs.declared.refusal.DiskRefusal.{DiskRefusal}
 use Rattle.wire_lines.specs.declared.refusal.DiskRefusal.TheVariants.{Closed, Fault as DiskFault}
 use Rattle.wire_lines.specs.declared.refusal.NumberRefusal.{NumberRefusal}
@@ -38,6 +38,7 @@ abbrev pub money_code : MoneyRefusal → ℕ
 money_code (OverBudget spent after budget seen) = 40
 money_code (JournalFull used unsettled capacity) = 41
 money_code (OverShare spent after limit seen) = 43
+money_code (TooMany made) = 44
 
 abbrev pub disk_code : DiskRefusal → ℕ
 disk_code (Closed failed_at) = 42

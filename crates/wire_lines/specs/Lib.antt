@@ -1,6 +1,7 @@
 pub mod Lines
 pub mod Number
 pub mod Epsilon
+pub mod Definition
 pub mod Request
 pub mod Name
 pub mod Refusal

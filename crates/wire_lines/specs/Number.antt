@@ -1,4 +1,4 @@
--- Numerals, and the number of a reservation as an analyst writes it.
+-- Numerals, and the numbers of reservations and partitions as an analyst writes them.
 use Rattle.std.specs.Prelude.{◌≡◌, ℕ, ◌^◌, ◌<◌, ◌≤◌, ◌&&◌, nat_le, nat_lt, if◌then◌else◌, Bool, IsTrue, List, length, Option, Some, None}
 use Rattle.std.specs.List.{list_all}
 use Rattle.std.specs.Char.{is_ascii_digit}
@@ -26,3 +26,17 @@ is_number text = is_numeral NUMBER_DIGITS text && nat_lt (digits_value 10 text) 
 
 abbrev pub number_of : List ℕ → Option ℕ
 number_of text = if is_number text then Some (digits_value 10 text) else None
+
+-- the most digits of a partition's number
+abbrev pub PARTITION_DIGITS : ℕ
+PARTITION_DIGITS = 3
+
+-- 1 to 3 digits, perhaps with zeros before them
+abbrev pub IsPartitionText : List ℕ → ℕ → Type 0
+IsPartitionText text n = IsNumeral PARTITION_DIGITS text × (n ≡ digits_value 10 text)
+
+abbrev pub is_partition : List ℕ → Bool
+is_partition text = is_numeral PARTITION_DIGITS text
+
+abbrev pub partition_of : List ℕ → Option ℕ
+partition_of text = if is_partition text then Some (digits_value 10 text) else None

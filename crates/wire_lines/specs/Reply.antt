@@ -11,7 +11,7 @@ use Rattle.wire_lines.specs.Codes.{code_of, code_text}
 use Rattle.wire_lines.specs.Refusal.{ProgramRefusal, no_token, no_term, too_nested, ill_typed, too_sensitive, out_of_range, unbounded, no_number, too_deep}
 use Rattle.wire_lines.specs.Refusal.{too_long, too_wide, Refusal, by_line, by_program, by_money, by_disk, by_number, no_memory, refusal_at}
 use Rattle.wire_lines.specs.declared.reply.Reply.{Reply}
-use Rattle.wire_lines.specs.declared.reply.Reply.TheVariants.{Hello, Answer, Recalled, Left, Mine, Bye, Refused}
+use Rattle.wire_lines.specs.declared.reply.Reply.TheVariants.{Hello, Answer, Part, Recalled, Left, Mine, Bye, Refused}
 use Rattle.journal_records.specs.declared.records.Outcome.{Outcome}
 use Rattle.journal_records.specs.declared.records.Outcome.TheVariants.{Answered, Exhausted, Lost}
 use Rattle.wire_lines.specs.declared.reply.Field.{Field}
@@ -19,7 +19,7 @@ use Rattle.wire_lines.specs.declared.reply.Field.TheVariants.{Number, Amount, Si
 use Rattle.wire_lines.specs.declared.refusal.LineRefusal.{LineRefusal}
 use Rattle.wire_lines.specs.declared.refusal.LineRefusal.TheVariants.{Malformed, Unknown}
 use Rattle.wire_lines.specs.declared.refusal.MoneyRefusal.{MoneyRefusal}
-use Rattle.wire_lines.specs.declared.refusal.MoneyRefusal.TheVariants.{OverBudget, JournalFull, OverShare}
+use Rattle.wire_lines.specs.declared.refusal.MoneyRefusal.TheVariants.{OverBudget, JournalFull, OverShare, TooMany}
 use Rattle.wire_lines.specs.declared.refusal.DiskRefusal.{DiskRefusal}
 use Rattle.wire_lines.specs.declared.refusal.DiskRefusal.TheVariants.{Closed, Fault as DiskFault}
 use Rattle.wire_lines.specs.declared.refusal.NumberRefusal.{NumberRefusal}
@@ -31,6 +31,7 @@ use Rattle.wire_lines.specs.declared.refusal.TypeFault.TheVariants.{Unbound, Mis
 pub data Replied : Type 0 where
   greeted : List ℕ → Replied
   answered : ℕ → ℤ → ℕ → Replied
+  defined : (partition seen : ℕ) → Replied
   recalled : ℕ → Option Outcome → ℕ → Replied
   remaining : (spent budget seen : ℕ) → Replied
   spending : (spent : ℕ) (limit : Option ℕ) (seen : ℕ) → Replied
@@ -88,6 +89,7 @@ abbrev pub money_data : MoneyRefusal → List Datum
 money_data (OverBudget spent after budget seen) = number spent ∷ number after ∷ number budget ∷ number seen ∷ []
 money_data (JournalFull used unsettled capacity) = number used ∷ number unsettled ∷ number capacity ∷ []
 money_data (OverShare spent after limit seen) = number spent ∷ number after ∷ number limit ∷ number seen ∷ []
+money_data (TooMany made) = number made ∷ []
 
 abbrev pub disk_data : DiskRefusal → List Datum
 disk_data (Closed failed_at) = number failed_at ∷ []
@@ -129,6 +131,7 @@ limit_word None = text (codes "none")
 abbrev pub reply_words : Replied → List ℕ × List Datum
 reply_words (greeted analyst) = (codes "hello", text analyst ∷ [])
 reply_words (answered n value taken) = (codes "answer", number n ∷ signed value ∷ number taken ∷ [])
+reply_words (defined partition seen) = (codes "part", number partition ∷ number seen ∷ [])
 reply_words (recalled n outcome seen) = (codes "recall", number n ∷ outcome_words outcome ++ (number seen ∷ []))
 reply_words (remaining spent budget seen) = (codes "left", number spent ∷ number budget ∷ number seen ∷ [])
 reply_words (spending spent limit seen) = (codes "mine", number spent ∷ limit_word limit ∷ number seen ∷ [])
@@ -154,6 +157,7 @@ IsReply reply = AllByRecursion HasSize (reply_words reply).1
 abbrev pub replied : Reply → Replied
 replied (Hello analyst) = greeted analyst.bytes.now
 replied (Answer n value taken) = answered n value taken
+replied (Part partition seen) = defined partition seen
 replied (Recalled n outcome seen) = recalled n outcome seen
 replied (Left spent budget seen) = remaining spent budget seen
 replied (Mine spent limit seen) = spending spent limit seen

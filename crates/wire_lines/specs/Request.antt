@@ -1,14 +1,15 @@
 -- The grammar of a request line, and how one is read.
-use Rattle.std.specs.Prelude.{◌≡◌, ◌≢◌, ℕ, ◌+◌, ◌<◌, ◌≤◌, nat_lt, if◌then◌else◌, List, [], ◌∷◌, ◌++◌}
-use Rattle.std.specs.Prelude.{length, codes, bytes_eq, All, Option, Some, None, ok_or, Result, Ok, Err, ⊤}
+use Rattle.std.specs.Prelude.{◌≡◌, ℕ, ◌+◌, ◌<◌, ◌≤◌, nat_lt, if◌then◌else◌, List, [], ◌∷◌, ◌++◌}
+use Rattle.std.specs.Prelude.{length, codes, bytes_eq, Option, Some, None, ok_or, Result, Ok, Err, ⊤}
 use Rattle.std.specs.Borrow.{Bor}
 use Rattle.std.specs.Result.{result_map_both}
 use Rattle.journal_records.specs.Encoding.{epsilon_limit}
 use Rattle.wire_lines.specs.Lines.{space, words_of, joined}
-use Rattle.wire_lines.specs.Number.{IsNumberText, is_number, number_of}
+use Rattle.wire_lines.specs.Definition.{IsDefinition, IsWord, is_key_list}
+use Rattle.wire_lines.specs.Number.{IsNumberText, IsPartitionText, is_number, is_partition, number_of, partition_of}
 use Rattle.wire_lines.specs.Epsilon.{IsEpsilonText, epsilon_of}
 use Rattle.wire_lines.specs.declared.request.Request.{Request}
-use Rattle.wire_lines.specs.declared.request.Request.TheVariants.{Hello, Ask, AskPart, Recall, Left, Mine, Bye}
+use Rattle.wire_lines.specs.declared.request.Request.TheVariants.{Hello, Ask, AskPart, Part, AskMade, Recall, Left, Mine, Bye}
 use Rattle.wire_lines.specs.declared.refusal.LineRefusal.{LineRefusal}
 use Rattle.wire_lines.specs.declared.refusal.LineRefusal.TheVariants.{Malformed, TooLong}
 
@@ -21,14 +22,12 @@ pub data Asked : Type 0 where
   hello : List ℕ → Asked
   ask : List ℕ → Option ℕ → List ℕ → Asked
   askpart : (owner partition key : List ℕ) → Option ℕ → (program : List ℕ) → Asked
+  part : (owner definition : List ℕ) → Asked
+  askmade : (owner : List ℕ) (partition : ℕ) (key : List ℕ) → Option ℕ → (program : List ℕ) → Asked
   recall : (owner : List ℕ) (number : ℕ) → Asked
   left : (owner : List ℕ) → Asked
   mine : (owner : List ℕ) → Asked
   bye : Asked
-
--- a word has a byte, and no space
-abbrev pub IsWord : List ℕ → Type 0
-IsWord word = (0 < length word) × All (λ b. b ≢ space) word
 
 -- a text is written for this epsilon, or is no epsilon
 abbrev pub IsAmount : List ℕ → Option ℕ → Type 0
@@ -44,6 +43,11 @@ IsRequest line (ask owner epsilon program) =
 IsRequest line (askpart owner partition key epsilon program) =
     (amount : List ℕ) × IsWord owner × IsWord partition × IsWord key × IsWord amount × IsAmount amount epsilon
     × (line ≡ codes "askpart " ++ owner ++ (space ∷ partition) ++ (space ∷ key) ++ (space ∷ amount) ++ (space ∷ program))
+IsRequest line (part owner definition) =
+    IsWord owner × IsDefinition definition × (line ≡ codes "part " ++ owner ++ (space ∷ definition))
+IsRequest line (askmade owner partition key epsilon program) =
+    (digits : List ℕ) × (amount : List ℕ) × IsWord owner × IsPartitionText digits partition × IsWord key × IsWord amount × IsAmount amount epsilon
+    × (line ≡ codes "askmade " ++ owner ++ (space ∷ digits) ++ (space ∷ key) ++ (space ∷ amount) ++ (space ∷ program))
 IsRequest line (recall owner number) =
     (digits : List ℕ) × IsWord owner × IsNumberText digits number
     × (line ≡ codes "recall " ++ owner ++ (space ∷ digits))
@@ -51,10 +55,12 @@ IsRequest line (left owner) = IsWord owner × (line ≡ codes "left " ++ owner)
 IsRequest line (mine owner) = IsWord owner × (line ≡ codes "mine " ++ owner)
 IsRequest line bye = line ≡ codes "bye"
 
--- What stands at a place of a line: a word, a word that is a number, or the rest of the line.
+-- What stands at a place of a line: a word, one that is a number, a partition's number or a list of keys, or the rest of the line.
 pub data Slot : Type 0 where
   one_word : Slot
   one_number : Slot
+  one_partition : Slot
+  one_list : Slot
   all_rest : Slot
 
 -- the kinds of lines, each with what follows its first word
@@ -63,10 +69,12 @@ slots_of kind =
     if bytes_eq kind (codes "hello") then Some (one_word ∷ [])
     else (if bytes_eq kind (codes "ask") then Some (one_word ∷ one_word ∷ all_rest ∷ [])
     else (if bytes_eq kind (codes "askpart") then Some (one_word ∷ one_word ∷ one_word ∷ one_word ∷ all_rest ∷ [])
+    else (if bytes_eq kind (codes "part") then Some (one_word ∷ one_word ∷ one_list ∷ all_rest ∷ [])
+    else (if bytes_eq kind (codes "askmade") then Some (one_word ∷ one_partition ∷ one_word ∷ one_word ∷ all_rest ∷ [])
     else (if bytes_eq kind (codes "recall") then Some (one_word ∷ one_number ∷ [])
     else (if bytes_eq kind (codes "left") then Some (one_word ∷ [])
     else (if bytes_eq kind (codes "mine") then Some (one_word ∷ [])
-    else (if bytes_eq kind (codes "bye") then Some [] else None))))))
+    else (if bytes_eq kind (codes "bye") then Some [] else None))))))))
 
 -- from word number n on, the first word that is missing, empty, too many or no number where one is due
 abbrev pub fault_from : ℕ → List Slot → List (List ℕ) → Option ℕ
@@ -79,6 +87,10 @@ fault_from n (one_word ∷ parts) ([] ∷ words) = Some n
 fault_from n (one_word ∷ parts) ((_ ∷ _) ∷ words) = fault_from (n + 1) parts words
 fault_from n (one_number ∷ parts) [] = Some n
 fault_from n (one_number ∷ parts) (word ∷ words) = if is_number word then fault_from (n + 1) parts words else Some n
+fault_from n (one_partition ∷ parts) [] = Some n
+fault_from n (one_partition ∷ parts) (word ∷ words) = if is_partition word then fault_from (n + 1) parts words else Some n
+fault_from n (one_list ∷ parts) [] = Some n
+fault_from n (one_list ∷ parts) (word ∷ words) = if is_key_list word then fault_from (n + 1) parts words else Some n
 
 abbrev pub fault_behind : Option (List Slot) → List (List ℕ) → Option ℕ
 fault_behind None words = Some 0
@@ -110,6 +122,19 @@ number_at n words = do
   digits ← word_at n words
   number ← ok_or (number_of digits.0) (Malformed n)
   Ok (number, digits.1)
+
+-- word number n, which is a partition's number, and the words behind it
+abbrev pub partition_at : ℕ → List (List ℕ) → Result (ℕ × List (List ℕ)) LineRefusal
+partition_at n words = do
+  digits ← word_at n words
+  partition ← ok_or (partition_of digits.0) (Malformed n)
+  Ok (partition, digits.1)
+
+-- word number n, which lists keys, and the words behind it
+abbrev pub keys_at : ℕ → List (List ℕ) → Result (List ℕ × List (List ℕ)) LineRefusal
+keys_at n words = do
+  keys ← word_at n words
+  if is_key_list keys.0 then Ok keys else Err (Malformed n)
 
 -- the rest of the line from word number n on, which is there and may be empty
 abbrev pub rest_at : ℕ → List (List ℕ) → Result (List ℕ) LineRefusal
@@ -150,6 +175,24 @@ askpart_from words = do
   program ← rest_at 5 amount.1
   Ok (askpart owner.0 partition.0 key.0 (epsilon_of amount.0) program)
 
+-- the definition is all that stands behind the owner
+abbrev pub part_from : List (List ℕ) → Result Asked LineRefusal
+part_from words = do
+  owner ← word_at 1 words
+  table ← word_at 2 owner.1
+  keys ← keys_at 3 table.1
+  _ ← rest_at 4 keys.1
+  Ok (part owner.0 (joined owner.1))
+
+abbrev pub askmade_from : List (List ℕ) → Result Asked LineRefusal
+askmade_from words = do
+  owner ← word_at 1 words
+  partition ← partition_at 2 owner.1
+  key ← word_at 3 partition.1
+  amount ← word_at 4 key.1
+  program ← rest_at 5 amount.1
+  Ok (askmade owner.0 partition.0 key.0 (epsilon_of amount.0) program)
+
 abbrev pub recall_from : List (List ℕ) → Result Asked LineRefusal
 recall_from words = do
   owner ← word_at 1 words
@@ -178,10 +221,12 @@ request_from (kind ∷ words) =
     if bytes_eq kind (codes "hello") then hello_from words
     else (if bytes_eq kind (codes "ask") then ask_from words
     else (if bytes_eq kind (codes "askpart") then askpart_from words
+    else (if bytes_eq kind (codes "part") then part_from words
+    else (if bytes_eq kind (codes "askmade") then askmade_from words
     else (if bytes_eq kind (codes "recall") then recall_from words
     else (if bytes_eq kind (codes "left") then left_from words
     else (if bytes_eq kind (codes "mine") then mine_from words
-    else (if bytes_eq kind (codes "bye") then bye_from words else Err (Malformed 0)))))))
+    else (if bytes_eq kind (codes "bye") then bye_from words else Err (Malformed 0)))))))))
 
 -- A line over the limit isn't looked at.
 unfoldable pub request_of : List ℕ → Result Asked LineRefusal
@@ -192,6 +237,8 @@ abbrev pub asked : Request → Asked
 asked (Hello analyst) = hello analyst.now
 asked (Ask owner epsilon program) = ask owner.now epsilon program.now
 asked (AskPart owner partition key epsilon program) = askpart owner.now partition.now key.now epsilon program.now
+asked (Part owner definition) = part owner.now definition.bytes.now
+asked (AskMade owner partition key epsilon program) = askmade owner.now partition key.now epsilon program.now
 asked (Recall owner number) = recall owner.now number
 asked (Left owner) = left owner.now
 asked (Mine owner) = mine owner.now
@@ -220,6 +267,9 @@ HasEpsilonInRange (Ask owner None program) = ⊤
 HasEpsilonInRange (Ask owner (Some n) program) = (0 < n) × (n ≤ epsilon_limit)
 HasEpsilonInRange (AskPart owner partition key None program) = ⊤
 HasEpsilonInRange (AskPart owner partition key (Some n) program) = (0 < n) × (n ≤ epsilon_limit)
+HasEpsilonInRange (Part owner definition) = ⊤
+HasEpsilonInRange (AskMade owner partition key None program) = ⊤
+HasEpsilonInRange (AskMade owner partition key (Some n) program) = (0 < n) × (n ≤ epsilon_limit)
 HasEpsilonInRange (Recall owner number) = ⊤
 HasEpsilonInRange (Left owner) = ⊤
 HasEpsilonInRange (Mine owner) = ⊤

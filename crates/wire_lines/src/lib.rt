@@ -3,6 +3,7 @@
 #![tactic(auto)]
 
 mod cut;
+mod definition;
 mod digits;
 mod epsilon;
 mod laws;
@@ -13,6 +14,7 @@ mod refusal;
 mod reply;
 mod request;
 
+pub use crate::definition::Definition;
 pub use crate::laws::{
     epsilons_are_read_by_the_grammar, lines_are_read_by_the_grammar, replies_differ_in_their_texts,
 };

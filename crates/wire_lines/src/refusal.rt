@@ -105,6 +105,10 @@ pub enum MoneyRefusal {
         limit: u64,
         seen: u32,
     },
+    /// 44: how many partitions analysts have made, which are as many as may be.
+    TooMany {
+        made: u32,
+    },
 }
 
 /// What is refused for the disk of the owner's journal.
@@ -136,7 +140,7 @@ pub enum Refusal<'a> {
     Line(LineRefusal),
     /// 20 to 37
     Program(ProgramRefusal<'a>),
-    /// 40 and 41
+    /// 40, 41, 43 and 44
     Money(MoneyRefusal),
     /// 42 and 52
     Disk(DiskRefusal),

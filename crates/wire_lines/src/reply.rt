@@ -34,6 +34,11 @@ pub enum Reply<'a> {
         value: i64,
         taken: u64,
     },
+    /// The number of the partition that has this definition, and the records seen.
+    Part {
+        partition: u32,
+        seen: u32,
+    },
     /// The number of a reservation, how it was settled, which is none where it was made in this run and isn't
     /// settled yet, and the records seen.
     Recalled {
@@ -258,6 +263,7 @@ fn write_money_refusal(refusal: MoneyRefusal, out: &mut [u8; REPLY_LIMIT]) -> us
                 &[Amount(spent), Amount(after), Amount(limit), Number(seen)],
             )
         }
+        MoneyRefusal::TooMany { made } => put_line(out, b"no 44", &[Number(made)]),
     }
 }
 
@@ -378,6 +384,9 @@ fn write_line(reply: &Reply<'_>, out: &mut [u8; REPLY_LIMIT]) -> usize
                 b"answer",
                 &[Number(number), Field::Signed(value), Amount(taken)],
             )
+        }
+        Reply::Part { partition, seen } => {
+            put_line(out, b"part", &[Number(partition), Number(seen)])
         }
         Reply::Recalled {
             number,

@@ -2,15 +2,16 @@
 
 ghost use Rattle.std.specs.Prelude.{◌≡◌, ◌≤◌, ◌<◌, ◌↔◌, ℕ, length, IfOk, IfErr, Ok, Err, Some, ◌∷◌};
 ghost use Rattle.wire_lines.specs.Request.{Asked, IsRequest, HasEpsilonInRange, line_limit, request_of, fault_of, reading};
-ghost use Rattle.wire_lines.specs.Request.{asked, word_at, number_at, end_at, hello_from, ask_from, askpart_from};
+ghost use Rattle.wire_lines.specs.Request.{asked, word_at, number_at, partition_at, keys_at, end_at, hello_from, ask_from, askpart_from, part_from, askmade_from};
 ghost use Rattle.wire_lines.specs.Request.{recall_from, left_from, mine_from, bye_from, words_behind, word_and_words, number_and_words};
 ghost use Rattle.wire_lines.specs.Lines.{words_of};
 ghost use Rattle.wire_lines.specs.Refusal.{IsFormRefusal};
 ghost use Rattle.std.specs.Result.{result_map_both};
 
 use crate::cut::cut_at;
+use crate::definition::{Definition, is_key_list};
 use crate::epsilon::read_epsilon;
-use crate::number::read_number;
+use crate::number::{read_number, read_partition};
 use crate::refusal::LineRefusal;
 
 /// The most bytes of a line, without its end.
@@ -38,6 +39,19 @@ pub enum Request<'a> {
         epsilon: Option<u32>,
         program: &'a [u8],
     },
+    /// `part OWNER TABLE KEYS FUNCTION`: a partition is defined, by all that stands behind the owner.
+    Part {
+        owner: &'a [u8],
+        definition: Definition<'a>,
+    },
+    /// `askmade OWNER P KEY EPS PROGRAM`: the same as `askpart` of one part of a partition that was defined so.
+    AskMade {
+        owner: &'a [u8],
+        partition: u32,
+        key: &'a [u8],
+        epsilon: Option<u32>,
+        program: &'a [u8],
+    },
     /// `recall OWNER N`
     Recall {
         owner: &'a [u8],
@@ -57,7 +71,7 @@ pub enum Request<'a> {
 
 /// The first word of a line, and what is left behind it and a space.
 #[tactic(auto, using(crate::proofs::Requests::words_one, crate::proofs::Requests::words_cut))]
-fn split_word(line: &[u8]) -> (&[u8], Option<&[u8]>)
+pub(crate) fn split_word(line: &[u8]) -> (&[u8], Option<&[u8]>)
     ensures { words_of line.now ≡ result.0.now ∷ words_behind result.1 }
 {
     match cut_at(line, b' ') {
@@ -87,6 +101,27 @@ fn next_number(rest: Option<&[u8]>, word: u32) -> Result<(u32, Option<&[u8]>), L
     let (digits, rest) = next_word(rest, word)?;
     let number = read_number(digits).ok_or(LineRefusal::Malformed { word })?;
     Ok((number, rest))
+}
+
+/// Word number `word`, which is a partition's number, and what is left behind it.
+fn next_partition(rest: Option<&[u8]>, word: u32) -> Result<(u32, Option<&[u8]>), LineRefusal>
+    ensures { result_map_both number_and_words (λ fault. fault) result ≡ partition_at word (words_behind rest.entry) }
+{
+    let (digits, rest) = next_word(rest, word)?;
+    let partition = read_partition(digits).ok_or(LineRefusal::Malformed { word })?;
+    Ok((partition, rest))
+}
+
+/// Word number `word`, which lists keys, and what is left behind it.
+fn next_keys(rest: Option<&[u8]>, word: u32) -> Result<(&[u8], Option<&[u8]>), LineRefusal>
+    ensures { result_map_both word_and_words (λ fault. fault) result ≡ keys_at word (words_behind rest.entry) }
+{
+    let (keys, rest) = next_word(rest, word)?;
+    if is_key_list(keys) {
+        Ok((keys, rest))
+    } else {
+        Err(LineRefusal::Malformed { word })
+    }
 }
 
 /// There is no word number `word`.
@@ -135,6 +170,41 @@ fn read_askpart(rest: Option<&[u8]>) -> Result<Request<'_>, LineRefusal>
     let (amount, rest) = next_word(rest, 4)?;
     let program = rest.ok_or(LineRefusal::Malformed { word: 5 })?;
     Ok(Request::AskPart {
+        owner,
+        partition,
+        key,
+        epsilon: read_epsilon(amount),
+        program,
+    })
+}
+
+/// Reads what is left of a line behind `part`.
+#[tactic(auto, using(crate::proofs::Requests::rest_is, crate::proofs::Requests::joined_is))]
+fn read_part(rest: Option<&[u8]>) -> Result<Request<'_>, LineRefusal>
+    ensures { reading result ≡ part_from (words_behind rest.entry) }
+{
+    let (owner, rest) = next_word(rest, 1)?;
+    let bytes = rest.ok_or(LineRefusal::Malformed { word: 2 })?;
+    let (_, rest) = next_word(Some(bytes), 2)?;
+    let (_, rest) = next_keys(rest, 3)?;
+    rest.ok_or(LineRefusal::Malformed { word: 4 })?;
+    Ok(Request::Part {
+        owner,
+        definition: Definition { bytes },
+    })
+}
+
+/// Reads what is left of a line behind `askmade`.
+#[tactic(auto, using(crate::proofs::Requests::rest_is))]
+fn read_askmade(rest: Option<&[u8]>) -> Result<Request<'_>, LineRefusal>
+    ensures { reading result ≡ askmade_from (words_behind rest.entry) }
+{
+    let (owner, rest) = next_word(rest, 1)?;
+    let (partition, rest) = next_partition(rest, 2)?;
+    let (key, rest) = next_word(rest, 3)?;
+    let (amount, rest) = next_word(rest, 4)?;
+    let program = rest.ok_or(LineRefusal::Malformed { word: 5 })?;
+    Ok(Request::AskMade {
         owner,
         partition,
         key,
@@ -194,6 +264,10 @@ fn read_line(line: &[u8]) -> Result<Request<'_>, LineRefusal>
         read_ask(rest)
     } else if kind == b"askpart".as_slice() {
         read_askpart(rest)
+    } else if kind == b"part".as_slice() {
+        read_part(rest)
+    } else if kind == b"askmade".as_slice() {
+        read_askmade(rest)
     } else if kind == b"recall".as_slice() {
         read_recall(rest)
     } else if kind == b"left".as_slice() {
