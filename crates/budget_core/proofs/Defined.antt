@@ -8,7 +8,7 @@ use Rattle.budget_core.specs.declared.definitions.Definition.{Definition}
 use Rattle.budget_core.specs.declared.definitions.Made.{Made}
 use Rattle.budget_core.specs.declared.definitions.DefineFault.{DefineFault}
 use Rattle.budget_core.specs.declared.definitions.DefineFault.TheVariants.{Full, TooMany}
-use Rattle.budget_core.specs.Counts.{definitions_of, made_of, open_from}
+use Rattle.budget_core.specs.Counts.{definitions_of, made_of, partition_number, open_from}
 use Rattle.budget_core.specs.Defining.{IsDefinition, MayDefine, made_limit, made_behind, made_before, made_next, before_or, next_verdict, definition_verdict}
 use Rattle.budget_core.specs.Entries.{Entry}
 use Rattle.budget_core.specs.Ledger.{Ledger, start_of}
@@ -55,6 +55,26 @@ verdict-next entry start records definition first = ap (λ (found : Option Made)
 pub verdict-before : (entry : Entry) (start : ℕ) (records : List Record) (definition : Definition) (made : Made) → made_before records definition ≡ Some made
     → definition_verdict entry start records definition ≡ Ok made
 verdict-before entry start records definition made is = ap (λ (found : Option Made). before_or found (next_verdict entry start records)) is
+
+-- What was made before goes by the number that is found.
+pub before-none : (records : List Record) (definition : Definition) → None ≡ option_map partition_number (made_of records definition.table definition.keys definition.digest)
+    → None ≡ made_before records definition
+before-none records definition is = by (made_of records definition.table definition.keys definition.digest) is
+  where
+    by : (found : Option MadePartition) → None ≡ option_map partition_number found
+        → None ≡ option_map {U = Made} (λ (made : MadePartition). record { partition = made.partition; seen = length records }) found
+    by None said = refl
+    by (Some made) said = absurd cc
+
+pub before-some : (records : List Record) (definition : Definition) (partition seen : ℕ)
+    → Some partition ≡ option_map partition_number (made_of records definition.table definition.keys definition.digest) → seen ≡ length records
+    → Some (record { partition = partition; seen = seen }) ≡ made_before records definition
+before-some records definition partition seen is count = by (made_of records definition.table definition.keys definition.digest) is
+  where
+    by : (found : Option MadePartition) → Some partition ≡ option_map partition_number found
+        → Some (record { partition = partition; seen = seen }) ≡ option_map {U = Made} (λ (made : MadePartition). record { partition = made.partition; seen = length records }) found
+    by None said = absurd cc
+    by (Some made) said = let number : partition ≡ made.partition = cc said in λ i. Some (record { partition = number i; seen = count i })
 
 none-made : (records : List Record) (definition : Definition) → made_before records definition ≡ None → made_of records definition.table definition.keys definition.digest ≡ None
 none-made records definition first = by (made_of records definition.table definition.keys definition.digest) first

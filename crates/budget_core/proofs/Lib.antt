@@ -24,3 +24,4 @@ mod EventExamples
 mod AnswerExamples
 mod GrantExamples
 mod MineExamples
+mod DefinitionExamples

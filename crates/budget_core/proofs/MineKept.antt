@@ -160,7 +160,8 @@ share-settled entry records number returned outcome row costs new h open_before 
 -- There is room for all parts, or for as many as records may come.
 pub room-new : (entry : Entry) (costs : Costs) (most : ℕ) → most ≤ part_limit → All (λ (keys : ℕ). keys ≤ most) entry.keys → HasPlaces costs (min most part_limit) entry.capacity
     → HasPartRoom entry [] costs
-room-new entry costs most limited keys places = (most, subst (λ (n : ℕ). HasPlaces costs n entry.capacity) (omega (arith, limited)) places, keys)
+room-new entry costs most limited keys places =
+    (most, subst (HasPlaces costs most) (omega arith) (subst (λ (n : ℕ). HasPlaces costs n entry.capacity) (omega (arith, limited)) places), keys)
 
 -- an analyst's of no records
 pub share-new : (entry : Entry) (costs : Costs) (most : ℕ) → most ≤ part_limit → All (λ (keys : ℕ). keys ≤ most) entry.keys

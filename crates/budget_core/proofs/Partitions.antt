@@ -1,5 +1,5 @@
 -- Made partitions: what is made stays as records grow, and a history's are in order, each from another definition.
-use Rattle.std.proofs.Common.{◌≡◌, ℕ, zero, suc, ◌+◌, ◌-◌, ◌<◌, ◌≤◌, ◌==◌, ◌&&◌, Bool, true, false, cond, List, [], ◌∷◌, ◌++◌, length, length-append, append-nil, map, sum_by, count_by, slice_get, find, bytes_eq, Option, Some, None, option_map, IsSomeAnd, refl, sym, ◌∙◌, ap, subst, arith, add-zero}
+use Rattle.std.proofs.Common.{◌≡◌, ℕ, zero, suc, ◌+◌, ◌-◌, ◌<◌, ◌≤◌, ◌==◌, ◌&&◌, Bool, true, false, cond, List, [], ◌∷◌, ◌++◌, length, length-append, append-nil, map, count_by, get_or, slice_get, find, bytes_eq, Option, Some, None, option_map, IsSomeAnd, refl, sym, ◌∙◌, ap, subst, arith, add-zero}
 use Rattle.std.specs.Option.{option_or}
 use Rattle.std.specs.List.{range_with_len}
 use Rattle.std.proofs.lemmas.Bool.{cases_eq, cases_lt, eqb-true, eq-eqb, ne_eqb}
@@ -205,3 +205,24 @@ definition-terms entry records p made h is = elim (cases_lt p partition_limit) [
       let known = made-numbered entry records h (p - partition_limit) made at in
       (omega (arith, known.0, behind), known.1)
 ]
+
+-- ---- by what it was made of
+
+-- any made partition
+abbrev pub no_made : MadePartition
+no_made = record { partition = 0; table = 0; keys = 0; analyst = 0; digest = [] }
+
+-- The first that passes is found,
+pub find-first : {X : Type 0} → (p : X → Bool) (d : X) (xs : List X) (k : ℕ) → k < length xs → ((i : ℕ) → i < k → p (get_or xs i d) ≡ false) → p (get_or xs k d) ≡ true
+    → find p xs ≡ Some (get_or xs k d)
+find-first p d [] k lt before here = absurd (omega (arith, lt))
+find-first p d (x ∷ xs) zero lt before here = ap (λ (b : Bool). cond b (Some x) (find p xs)) here
+find-first p d (x ∷ xs) (suc k) lt before here =
+    ap (λ (b : Bool). cond b (Some x) (find p xs)) (before 0 (omega arith))
+    ∙ find-first p d xs k (omega (arith, lt)) (λ i less. before (suc i) (omega (arith, less))) here
+
+-- and none where none passes.
+pub find-none : {X : Type 0} → (p : X → Bool) (d : X) (xs : List X) → ((i : ℕ) → i < length xs → p (get_or xs i d) ≡ false) → find p xs ≡ None
+find-none p d [] none = refl
+find-none p d (x ∷ xs) none =
+    ap (λ (b : Bool). cond b (Some x) (find p xs)) (none 0 (omega arith)) ∙ find-none p d xs (λ i less. none (suc i) (omega (arith, less)))

@@ -33,7 +33,7 @@ part_there owner partition key p j named keyed =
     let within = (position-Some (λ (other : PartitionEntry). bytes_eq partition other.name) owner.partitions p no_partition named).0 in
     (partition_at owner p, slice_get-get_or owner.partitions p no_partition within, (position-Some (λ (other : List ℕ). bytes_eq key other) (partition_at owner p).keys j [] keyed).0)
 
--- a view of an owner's partitions is a view of its entry
+-- a view of an owner's partitions is a view of its entry, whatever the records are
 pub part_has_view : (owner : Owner) → HasData owner → (view : View) → HasPart owner.partitions view → HasView owner.entry [] view
 part_has_view owner of Whole there = tt
 part_has_view owner of (Part p j) (partition, at, within) =

@@ -7,6 +7,16 @@ use Rattle.budget_core.proofs.MineKept.{share-at, share-charging, share-added, s
 use Rattle.budget_core.proofs.Standings.{reservations-within}
 use Rattle.budget_core.proofs.totals.Totals.count_reservation.Goals as goal
 
+pub add-requires-clause-view : goal.add-requires-clause-view
+add-requires-clause-view c =
+    let may = c.requires.follows in
+    view-valid c.args.entry.now may.0 c.args.reservation.now.view may.1.valid may.1.history may.2.looks_at
+
+pub add-requires-2-clause-view : goal.add-requires-2-clause-view
+add-requires-2-clause-view c =
+    let may = c.requires.follows in
+    view-valid c.args.entry.now may.0 c.args.reservation.now.view may.1.valid may.1.history may.2.looks_at
+
 pub add-requires-clause-room : goal.add-requires-clause-room
 add-requires-clause-room c =
     let may = c.requires.follows in
