@@ -327,6 +327,7 @@ module _ (house : House) (draws : ℕ → ℕ → ℕ → ℕ) (spoken : List Tu
       λ t is. let same : s ≡ t = cc (is) in subst (λ (z : Settlement). WasSettled owner (draws o) start explaining (take k records) z) same (settled_so k s past at),
       refl,
       refl,
+      refl,
     )
     came_at k (Granted g) past at = absurd (none_granted k g past at)
     came_at k (Define m) past at = absurd (none_made k m past at)
