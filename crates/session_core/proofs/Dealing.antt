@@ -10,7 +10,7 @@ use Rattle.session_core.specs.Turns.{Turn, is_bye, blocks_of, turns_from, who_be
 use Rattle.session_core.specs.Blocks.{AreDealt, behind_block, crew_of, first_block, own_blocks, script_blocks}
 use Rattle.session_core.specs.Gathered.{part_of}
 use Rattle.session_core.proofs.FirstBlocks.{blocks_cut}
-use Rattle.session_core.proofs.Turning.{behind_bye}
+use Rattle.session_core.proofs.Turning.{behind_bye, turn_by}
 use Rattle.session_core.proofs.Turns.{block_lines}
 
 module _ {X : Type 0} (crew : ℕ → ℕ) (i : ℕ) where
@@ -144,8 +144,8 @@ module _ (house : House) (crew : ℕ → ℕ) (i : ℕ) where
       → mine ≡ own_speaker own who → who_behind house who line reply ≡ next → turns ≡ turns_from house (own_speaker own next) lines replies
       → (if own then record { who = who; line = line } ∷ turns else turns) ≡ turns_from house mine (if own then line ∷ lines else lines) (if own then reply ∷ replies else replies)
   one_dealt who mine next line reply turns lines replies true is leads rest =
-      ap (λ (ts : List Turn). ◌∷◌ {A = Turn} (record { who = who; line = line }) ts) (rest ∙ ap (λ (w : Speaker). turns_from house w lines replies) (sym leads))
-      ∙ ap (λ (w : Speaker). ◌∷◌ {A = Turn} (record { who = w; line = line }) (turns_from house (who_behind house w line reply) lines replies)) (sym is)
+      ap (λ (ts : List Turn). turn_by who line ∷ ts) (rest ∙ ap (λ (w : Speaker). turns_from house w lines replies) (sym leads))
+      ∙ ap (λ (w : Speaker). turn_by w line ∷ turns_from house (who_behind house w line reply) lines replies) (sym is)
   one_dealt who mine next line reply turns lines replies false is leads rest = rest ∙ ap (λ (w : Speaker). turns_from house w lines replies) (sym is)
 
   -- the same where no replies are left
@@ -153,8 +153,8 @@ module _ (house : House) (crew : ℕ → ℕ) (i : ℕ) where
       → mine ≡ own_speaker own who → who_behind house who line ended ≡ next → turns ≡ turns_from house (own_speaker own next) lines []
       → (if own then record { who = who; line = line } ∷ turns else turns) ≡ turns_from house mine (if own then line ∷ lines else lines) []
   last_dealt who mine next line turns lines true is leads rest =
-      ap (λ (ts : List Turn). ◌∷◌ {A = Turn} (record { who = who; line = line }) ts) (rest ∙ ap (λ (w : Speaker). turns_from house w lines []) (sym leads))
-      ∙ ap (λ (w : Speaker). ◌∷◌ {A = Turn} (record { who = w; line = line }) (turns_from house (who_behind house w line ended) lines [])) (sym is)
+      ap (λ (ts : List Turn). turn_by who line ∷ ts) (rest ∙ ap (λ (w : Speaker). turns_from house w lines []) (sym leads))
+      ∙ ap (λ (w : Speaker). turn_by w line ∷ turns_from house (who_behind house w line ended) lines []) (sym is)
   last_dealt who mine next line turns lines false is leads rest = rest ∙ ap (λ (w : Speaker). turns_from house w lines []) (sym is)
 
   -- who speaks next, by the line's worker and by the next line's

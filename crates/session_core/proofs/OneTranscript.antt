@@ -23,8 +23,8 @@ record AreBoth (house : House) (draws : ℕ → ℕ → ℕ → ℕ) (o start : 
   second : LeadExactly house draws o start seen ys end
 
 -- a first turn, and those behind it
-cut_turn : (a b : Turn) (as bs : List Turn) → ◌≡◌ {A = List Turn} (a ∷ as) (b ∷ bs) → (a ≡ b) × (as ≡ bs)
-cut_turn a b as bs is = (cc (is), cc (is))
+cut_turn : (a b : Turn) (xs ys : List Turn) → ◌≡◌ {A = List Turn} (a ∷ xs) (b ∷ ys) → (a ≡ b) × (xs ≡ ys)
+cut_turn a b xs ys is = (cc (is), cc (is))
 
 module _ (house : House) (draws : ℕ → ℕ → ℕ → ℕ) (start : ℕ → ℕ) (last end : Journals) where
   abbrev Both : List Exchange → List Exchange → Type 0

@@ -21,7 +21,7 @@ use Rattle.session_core.specs.Exchanges.{Exchange, IsPlain, TurnLeads, Lead, is_
 use Rattle.session_core.specs.Served.{MeetsOnSome, AnswersOn, ShutsFor}
 use Rattle.session_core.specs.Code.{no_pass, pass_at, ArePasses, GoesOn, AreServed, HasServed, room_for_line, room_for_lines}
 use Rattle.session_core.proofs.Exchanges.{all_append, lead_append}
-use Rattle.session_core.proofs.Turning.{lines_append, of_length, who_append}
+use Rattle.session_core.proofs.Turning.{lines_append, of_length, turn_by, who_append}
 
 -- room for a line's reply, and for those of the lines behind it
 pub room_next : (line : List ℕ) (lines : List (List ℕ)) → room_for_lines (line ∷ lines) ≡ room_for_line (length line) + room_for_lines lines
@@ -175,7 +175,7 @@ module _ (house : House) (draws : ℕ → ℕ → ℕ → ℕ) (block : List (Li
         served = record {
           exchanges = up.served.exchanges ++ x ∷ [];
           turns_are = lines_append house no_speaker up.done (x.turn.line ∷ []) up.served.exchanges (x ∷ []) up.served.turns_are
-              (ap (λ (w : Speaker). ◌∷◌ {A = Turn} (record { who = w; line = x.turn.line }) []) up.speaks);
+              (ap (λ (w : Speaker). turn_by w x.turn.line ∷ []) up.speaks);
           written = ap (λ (t : List ℕ). t ++ reply_text x.reply) up.served.written
               ∙ ap (λ (t : List ℕ). flat_map reply_text replies ++ t) (sym (append-nil (reply_text x.reply)))
               ∙ sym (flat_map-append reply_text replies (x.reply ∷ []))

@@ -13,6 +13,10 @@ use Rattle.session_core.specs.declared.speaker.Next.{Next}
 use Rattle.session_core.specs.declared.speaker.Next.TheVariants.{Same, Analyst, Nobody}
 use Rattle.session_core.proofs.Wants.{line_cases}
 
+-- the turn of a line
+abbrev pub turn_by : Speaker → List ℕ → Turn
+turn_by who line = record { who = who; line = line }
+
 abbrev says_bye : Meant → Bool
 says_bye (says reply next) = is_ended reply
 says_bye (wants n owner demand) = false

@@ -11,7 +11,7 @@ use Rattle.session_core.specs.Turns.{Turn, session_turns, blocks_of, turns_alone
 use Rattle.session_core.specs.Exchanges.{Exchange, AreOfLines, AreOfScript}
 use Rattle.session_core.specs.Blocks.{AreOfBlocks, script_blocks}
 use Rattle.session_core.specs.Code.{IsAnalyst}
-use Rattle.session_core.proofs.Turning.{after_bye, behind_bye, lines_append}
+use Rattle.session_core.proofs.Turning.{after_bye, behind_bye, lines_append, turn_by}
 use Rattle.session_core.proofs.Wants.{line_cases}
 
 lines_here : (house : House) (who : Speaker) (lines : List (List ℕ)) (replies : List Replied) → map (λ (t : Turn). t.line) (turns_from house who lines replies) ≡ lines
@@ -129,10 +129,10 @@ module _ (house : House) (who : Speaker) (line : List ℕ) where
       → alone_from house who (cond b ((line ∷ []) ∷ blocks) (onto_first line blocks)) ≡ record { who = who; line = line } ∷ alone_from house next blocks
   alone_step next [] true ends goes = refl
   alone_step next (block ∷ blocks) true ends goes =
-      ap (λ (w : Speaker). ◌∷◌ {A = Turn} (record { who = who; line = line }) (session_turns house w block ++ flat_map (session_turns house no_speaker) blocks)) (sym (ends refl))
+      ap (λ (w : Speaker). turn_by who line ∷ session_turns house w block ++ flat_map (session_turns house no_speaker) blocks) (sym (ends refl))
   alone_step next [] false ends goes = refl
   alone_step next (block ∷ blocks) false ends goes =
-      ap (λ (w : Speaker). ◌∷◌ {A = Turn} (record { who = who; line = line }) (session_turns house w block ++ flat_map (session_turns house no_speaker) blocks)) (sym goes)
+      ap (λ (w : Speaker). turn_by who line ∷ session_turns house w block ++ flat_map (session_turns house no_speaker) blocks) (sym goes)
 
   alone_line : (lines : List (List ℕ)) (reply : Replied) → alone_from house who (blocks_of (line ∷ lines)) ≡ record { who = who; line = line } ∷ alone_from house (who_behind house who line reply) (blocks_of lines)
   alone_line lines reply = here (is_bye line) refl
