@@ -245,9 +245,9 @@ not_without_definition h =
     let other : None ≡ Some (codes "d") = ap (λ (s : Source). s.made) same in
     cc (other)
 
-not_by_another_definition : IsBorneOut (record of_size { made = Some (codes "e") } ∷ []) (settled_as (Answered (pos 2))) made_query (answered 0 (pos 2) 1000000) → ⊥
+not_by_another_definition : IsBorneOut (record of_size { made = Some [] } ∷ []) (settled_as (Answered (pos 2))) made_query (answered 0 (pos 2) 1000000) → ⊥
 not_by_another_definition h =
-    let both : Some (record of_size { made = Some (codes "e") }) ≡ Some (source_of made_query) = (h 0 (Answered (pos 2)) refl).source in
-    let same : record of_size { made = Some (codes "e") } ≡ source_of made_query = cc (both) in
-    let other : Some (codes "e") ≡ Some (codes "d") = ap (λ (s : Source). s.made) same in
+    let both : Some (record of_size { made = Some [] }) ≡ Some (source_of made_query) = (h 0 (Answered (pos 2)) refl).source in
+    let same : record of_size { made = Some [] } ≡ source_of made_query = cc (both) in
+    let other : Some [] ≡ Some (codes "d") = ap (λ (s : Source). s.made) same in
     cc (other)
