@@ -2,6 +2,7 @@ pub mod Costs
 pub mod Charging
 pub mod Histories
 pub mod Numbers
+pub mod Partitions
 pub mod Standings
 pub mod Backs
 pub mod MineLemmas

@@ -1,7 +1,7 @@
 use Rattle.std.proofs.Common.{ap, arith}
 use Rattle.journal_records.specs.Encoding.{IsByteList}
 use Rattle.budget_core.specs.Entries.{Entry}
-use Rattle.budget_core.proofs.entry.Entry.has_ask.Goals as goal
+use Rattle.budget_core.proofs.ledger.Ledger.has_ask.Goals as goal
 
 pub returns : goal.returns
 returns c =
