@@ -5,6 +5,7 @@ mod Examples
 mod ExamplesOfBoth
 mod ExamplesOfCopies
 pub mod Forks
+pub mod Definitions
 pub mod Grants
 pub mod Levelling
 pub mod Machine
