@@ -24,7 +24,7 @@ use Rattle.part_views.specs.Partitions.{HasPart, IsPartitionOf, cell_type}
 use Rattle.part_views.specs.Views.{rows_in, rows_with_key, signature_in}
 use Rattle.part_views.specs.declared.division.Division.{Division}
 use Rattle.part_views.proofs.Lawful.{owner_partitions}
-use Rattle.part_views.proofs.Laws.{rows_at}
+use Rattle.part_views.proofs.CutLaws.{rows_at}
 
 -- ---- groups of rows
 
