@@ -50,7 +50,7 @@ use Rattle.generated_run.specs.Tally.{noise_of_seed}
 
 -- what the analyst asks
 abbrev the_query : (analyst : ℕ) → Query
-the_query analyst = record { analyst = analyst; view = Whole; e = price; program = size_people }
+the_query analyst = record { analyst = analyst; view = Whole; e = price; program = size_people; made = None }
 
 module _ (seed many : ℕ) where
   abbrev house : House

@@ -75,7 +75,7 @@ abbrev clinic : Owner
 clinic = owner_at (house_of two_owners) 0
 
 abbrev part : (p j e : ℕ) → Query
-part p j e = record { analyst = 0; view = Part p j; e = e; program = size_people }
+part p j e = record { analyst = 0; view = Part p j; e = e; program = size_people; made = None }
 
 -- what an owner holds are the partitions that the catalog says, and no others
 not_other_partitions : IsHeldBy clinic_entry (record { tables = townsfolk ∷ []; rows = rows ∷ []; partitions = coast ∷ area ∷ [] }) → ⊥
@@ -98,7 +98,7 @@ unfolding meant_by request_of
 second_partition = refl
 
 -- the same line without a part asks the whole
-the_whole : meant_by (house_of two_owners) (Some 0) (codes "ask clinic 1 size people") ≡ wants 0 clinic (asks (record { analyst = 0; view = Whole; e = 1000000; program = size_people }))
+the_whole : meant_by (house_of two_owners) (Some 0) (codes "ask clinic 1 size people") ≡ wants 0 clinic (asks (record { analyst = 0; view = Whole; e = 1000000; program = size_people; made = None }))
 unfolding meant_by request_of
 the_whole = refl
 
@@ -169,7 +169,7 @@ abbrev asking : (p j e : ℕ) → Ask
 asking p j e = record { analyst = 0; view = Part p j; e = e; p = 1; q = 1; digest = sha256 size_people }
 
 abbrev whole_query : Query
-whole_query = record { analyst = 0; view = Whole; e = 1; program = size_people }
+whole_query = record { analyst = 0; view = Whole; e = 1; program = size_people; made = None }
 
 -- what each is answered, where the noise of its number is this: two rows are of A, and one of B
 abbrev added_first : Option ℤ → List Record

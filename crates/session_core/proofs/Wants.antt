@@ -71,7 +71,7 @@ module _ (house : House) (line : List ℕ) (P : Meant → Type 0) where
   ask_case (Some analyst) c (Ok subject) (Some e) program there written other =
       let of = there subject refl in
       let writes = written e refl in
-      let made : Query = record { analyst = analyst; view = subject.view; e = e; program = program } in
+      let made : Query = record { analyst = analyst; view = subject.view; e = e; program = program; made = None } in
       let of_made : IsAnalyst house (Some analyst) → IsAskOf house line subject.number subject.owner made
       = λ known. record { stands = of.stands; part = of.part; analyst = known; epsilon = writes.0; written = writes.1 } in
       c.demands subject.number subject.owner (asks made)

@@ -49,7 +49,7 @@ meant_by_ask who (Ok subject) None program = says (refused (by_line NoEpsilon)) 
 meant_by_ask None (Ok subject) (Some e) program = says (refused (by_line NoHello)) None
 meant_by_ask (Some analyst) (Ok subject) (Some e) program =
     wants subject.number subject.owner
-    (asks (record { analyst = analyst; view = subject.view; e = e; program = program }))
+    (asks (record { analyst = analyst; view = subject.view; e = e; program = program; made = None }))
 
 -- An analyst recalls its own numbers, so a hello comes first.
 abbrev pub meant_by_recall : Option ℕ → Option (ℕ × Owner) → ℕ → Meant

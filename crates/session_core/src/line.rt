@@ -155,6 +155,7 @@ fn read_ask<'a>(
                 view: subject.view,
                 epsilon,
                 program,
+                made: None,
             }),
         },
     }

@@ -268,7 +268,7 @@ module _ (start : ℕ → ℕ) (records : ℕ → List Record) where
     the_question = question_for (Ok subject) (Some e) program
 
     abbrev the_query : Query
-    the_query = record { analyst = analyst; view = subject.view; e = e; program = program }
+    the_query = record { analyst = analyst; view = subject.view; e = e; program = program; made = None }
 
     abbrev tables : Signature
     tables = signature_of_view subject.owner subject.view

@@ -88,7 +88,7 @@ pub record IsAsking (who : Option ℕ) (question : Question) (subject : Subject)
   pub speaks : who ≡ Some analyst
   pub epsilon : question.epsilon ≡ Some e
   pub charged : IsCharged (signature_of_view subject.owner subject.view) question.program p q
-  pub is : asking ≡ ask_for (record { analyst = analyst; view = subject.view; e = e; program = question.program }) p q
+  pub is : asking ≡ ask_for (record { analyst = analyst; view = subject.view; e = e; program = question.program; made = None }) p q
 
 -- 40: the cost would be over the budget. 41: there is no room for what is open and for two records more. 43: what the analyst would have
 -- spent is over its limit.

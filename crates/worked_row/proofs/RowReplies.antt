@@ -60,7 +60,7 @@ abbrev pub owner : Owner
 owner = owner_of catalog ((census, loaded_owner.holding), 3)
 
 abbrev query : Query
-query = record { analyst = 0; view = Whole; e = 1000000; program = size_people }
+query = record { analyst = 0; view = Whole; e = 1000000; program = size_people; made = None }
 
 abbrev asking : Ask
 asking = record { analyst = 0; view = Whole; e = 1000000; p = 1; q = 1; digest = sha256 size_people }
