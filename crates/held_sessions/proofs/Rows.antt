@@ -49,7 +49,7 @@ module _ (house : House) (draws : ℕ → ℕ → ℕ → ℕ) where
   pub row_known : (sittings : List (Sitting house draws)) → AreKnown house (all_turns house draws sittings)
   row_known [] = tt
   row_known (s ∷ sittings) =
-      all_append (λ (t : Turn). IsAnalyst house t.who) (turns_in house draws s) (all_turns house draws sittings) (turns_known house s.session.answered) (row_known sittings)
+      all_append (λ (t : Turn). IsAnalyst house t.who) (turns_in house draws s) (all_turns house draws sittings) (turns_known house s.session.answered (map (λ (x : Exchange). x.reply) (mine s))) (row_known sittings)
 
   module _ (o : ℕ) (owner : Owner) (here : slice_get house.owners o ≡ Some owner) (found : List Record) (sources : List Source) (records : List Record) where
     abbrev Kept : Sitting house draws → Type 0

@@ -223,7 +223,7 @@ OneWorkerWritesTheTranscript = (words : List (List ℕ)) (reads : ReadsToCome) (
     → ((place : ℕ) (x : Exchange) → slice_get a.answered.exchanges place ≡ Some x
     → HadMemoryFor (WantsTooManyWalks (meant_at (house_in a.loading a.versions) x.turn)) x.reply)
     → (replies : List Replied) (last : Journals) → IsScriptRun (house_in a.loading a.versions) (draws_of a.key) a.found script replies last
-    → NothingFailedAt (house_in a.loading a.versions) (turns_of (house_in a.loading a.versions) script) replies
+    → NothingFailedAt (house_in a.loading a.versions) (turns_of (house_in a.loading a.versions) script replies) replies
     → (written ≡ flat_map reply_text replies)
     × ((o : ℕ) (owner : Owner) → slice_get (house_in a.loading a.versions).owners o ≡ Some owner → a.answered.records o ≡ last o)
 

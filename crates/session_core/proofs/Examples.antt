@@ -50,6 +50,7 @@ use Rattle.owner_history.proofs.AnswerPath.Told.{planned_walks_little}
 use Rattle.owner_history.specs.Granted.{told_settlement}
 use Rattle.owner_history.specs.OwnerHouse.House.{Register, house_of, owner_at}
 use Rattle.session_core.specs.Code.{WantsTooManyWalks}
+use Rattle.session_core.specs.Speakers.{plain_speaker}
 use Rattle.session_core.specs.Meant.{Meant, meant_by, wants}
 use Rattle.session_core.specs.Turns.{Turn, turns_of}
 use Rattle.session_core.specs.Exchanges.{Exchange, told_of}
@@ -157,7 +158,7 @@ abbrev one_ask_script : List ℕ
 one_ask_script = codes "hello ann\nask clinic 1 size people\nbye\n"
 
 abbrev pub turn : Option ℕ → List ℕ → Turn
-turn who line = record { who = who; line = line }
+turn who line = record { who = plain_speaker who; line = line }
 
 abbrev pub quiet : Option ℕ → List ℕ → Replied → Exchange
 quiet who line reply = record { turn = turn who line; reply = reply; told = [] }
@@ -172,9 +173,9 @@ abbrev one_ask : Outcome → List Exchange
 one_ask outcome = quiet None (codes "hello ann") (greeted (codes "ann")) ∷ asked outcome ∷ quiet (Some 0) (codes "bye") ended ∷ []
 
 -- its turns, and its transcript, whatever the noise ..
-one_ask_turns : turns_of (house_of three_rows) one_ask_script ≡ turn None (codes "hello ann") ∷ turn (Some 0) ask_line ∷ turn (Some 0) (codes "bye") ∷ []
+one_ask_turns : (outcome : Outcome) → turns_of (house_of three_rows) one_ask_script (map (λ (x : Exchange). x.reply) (one_ask outcome)) ≡ turn None (codes "hello ann") ∷ turn (Some 0) ask_line ∷ turn (Some 0) (codes "bye") ∷ []
 unfolding lines_of meant_by request_of
-one_ask_turns = refl
+one_ask_turns outcome = refl
 
 pub one_owner : (register : Register) → (house_of register).owners ≡ the_owner register ∷ [] → (draws : ℕ → ℕ → ℕ → ℕ) (xs : List Exchange) (records : List Record) → LeadExactly (house_of register) draws 0 0 [] xs records
     → (o : ℕ) (owner : Owner) → slice_get (house_of register).owners o ≡ Some owner → LeadExactly (house_of register) draws o 0 [] xs (only records o)

@@ -27,7 +27,7 @@ use Rattle.session_core.specs.OwnerHouse.House.{House, IsOwnerIn}
 use Rattle.session_core.specs.AnswerPath.Demand.{Demand, asks}
 use Rattle.session_core.specs.Meant.{wants}
 use Rattle.session_core.specs.Turns.{Turn, meant_at, turns_of}
-use Rattle.session_core.specs.Exchanges.{Exchange}
+use Rattle.session_core.specs.Exchanges.{Exchange, AreOfScript}
 use Rattle.session_core.specs.Transcript.{first_new}
 use Rattle.session_core.proofs.Exactly.{outcome_said}
 use Rattle.session_core.proofs.Turns.{turns_known}
@@ -43,7 +43,7 @@ use Rattle.session_core.specs.OwnerDesk.Passes.{Told}
 use Rattle.session_core.specs.OwnerDesk.Answers.{Has}
 use Rattle.session_core.specs.AnswerPath.Answered.{granted_record}
 use Rattle.session_core.specs.Served.{Sources, IsAskFor, IsAskedAt, AreAskedBy, StandIn, IsBorneOutTo, IsHeldTo, AreHeldTo, SpeaksOf, LeavesOpen, ArePlaced}
-use Rattle.session_core.specs.Gathered.{AreGathered, AreOfScript}
+use Rattle.session_core.specs.Gathered.{AreGathered}
 use Rattle.session_core.specs.Headline.{IsHonoured}
 
 all_stand : (records : List Record) (told : List Told) → ((z : Told) → Has z told → slice_get records z.0 ≡ Some z.1) → StandIn records told
@@ -237,10 +237,12 @@ pub kept : (house : House) (draws : ℕ → ℕ → ℕ → ℕ) (script : List 
     → slice_get house.owners o ≡ Some owner → IsOwnerIn house owner → IsFound owner (draws o) earlier found → AreOfScript house script xs → AreGathered house draws count crew o found xs records
     → IsHonoured house draws script count crew o owner found earlier xs records
 kept house draws script count crew o owner found earlier xs records here inside found_so turns all =
-    let h = lines_kept house draws (turns_of house script) count crew o owner found earlier xs records here inside found_so (turns_known house script) turns all in
+    let h = lines_kept house draws (turns_of house script (map (λ (x : Exchange). x.reply) xs)) count crew o owner found earlier xs records here inside found_so
+    (turns_known house script (map (λ (x : Exchange). x.reply) xs)) turns all in
     record { sources = h.sources; accounted = record { backed = h.backed; asked = h.asked }; replied = h.replied }
 
 pub owed : (house : House) (draws : ℕ → ℕ → ℕ → ℕ) (script : List ℕ) (count : ℕ) (crew : ℕ → ℕ) (o : ℕ) (owner : Owner) (found : List Record) (xs : List Exchange) (records : List Record)
     → slice_get house.owners o ≡ Some owner → IsOwnerIn house owner → MayBeFound owner found → AreOfScript house script xs → AreGathered house draws count crew o found xs records → IsOwed owner found records
 owed house draws script count crew o owner found xs records here inside may turns all =
-    lines_owed house draws (turns_of house script) count crew o owner found xs records here inside may (turns_known house script) turns all
+    lines_owed house draws (turns_of house script (map (λ (x : Exchange). x.reply) xs)) count crew o owner found xs records here inside may
+    (turns_known house script (map (λ (x : Exchange). x.reply) xs)) turns all

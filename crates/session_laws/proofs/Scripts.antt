@@ -35,7 +35,7 @@ pub headline_of : (house : House) (draws : ℕ → ℕ → ℕ → ℕ) (found :
 headline_of house draws found earlier script count crew xs records owners founds all = record {
   crews = all.crews;
   turns = all.turns;
-  lines = turns_lines house script;
+  lines = turns_lines house script (map (λ (x : Exchange). x.reply) xs);
   plain = all.plain;
   owners = λ o owner here. kept house draws script count crew o owner (found o) (earlier o) xs (records o) here (owners o owner here) (founds o owner here) all.turns (all.owners o owner here);
 }
@@ -141,21 +141,21 @@ lines_gathered house draws xs before after records closed fresh served shut o ow
 nothing_asked : Sources
 nothing_asked = record { behind = []; places = [] }
 
-asked_nothing : (house : House) (o : ℕ) (owner : Owner) (script : List ℕ) → AreAskedBy house o owner (turns_of house script) nothing_asked
+asked_nothing : (house : House) (o : ℕ) (owner : Owner) (script : List ℕ) (replies : List Replied) → AreAskedBy house o owner (turns_of house script replies) nothing_asked
 unfolding nothing_asked
-asked_nothing house o owner script = record { each_has = refl; once = λ m n below within same. absurd (omega arith); asked = λ n place source placed at. absurd (cc (placed)) }
+asked_nothing house o owner script replies = record { each_has = refl; once = λ m n below within same. absurd (omega arith); asked = λ n place source placed at. absurd (cc (placed)) }
 
-found_accounted : (house : House) (draws : ℕ → ℕ → ℕ → ℕ) (script : List ℕ) (o : ℕ) (owner : Owner) (found : List Record) (earlier : List Source) → IsFound owner (draws o) earlier found → IsOwnerIn house owner
-    → IsAccountedFor house draws script o owner found earlier nothing_asked found
+found_accounted : (house : House) (draws : ℕ → ℕ → ℕ → ℕ) (script : List ℕ) (replies : List Replied) (o : ℕ) (owner : Owner) (found : List Record) (earlier : List Source) → IsFound owner (draws o) earlier found → IsOwnerIn house owner
+    → IsAccountedFor house draws script replies o owner found earlier nothing_asked found
 unfolding nothing_asked
-found_accounted house draws script o owner found earlier begun of = record {
+found_accounted house draws script replies o owner found earlier begun of = record {
   backed = well_backed owner (draws o) found (earlier ++ nothing_asked.behind) found of.data_of begun.within
       (subst (λ (ps : List Source). IsWell owner (draws o) found ps found) (sym (append-nil earlier)) (well_found owner (draws o) found earlier begun));
-  asked = asked_nothing house o owner script;
+  asked = asked_nothing house o owner script replies;
 }
 
-pub all_found_accounted : (house : House) (draws : ℕ → ℕ → ℕ → ℕ) (found : Journals) (earlier : Explanations) (script : List ℕ) → AreOwners house → AreFound house draws earlier found → AreAccountedFor house draws found earlier script found
-all_found_accounted house draws found earlier script owners founds = λ o owner at. (nothing_asked, found_accounted house draws script o owner (found o) (earlier o) (founds o owner at) (owners o owner at))
+pub all_found_accounted : (house : House) (draws : ℕ → ℕ → ℕ → ℕ) (found : Journals) (earlier : Explanations) (script : List ℕ) (replies : List Replied) → AreOwners house → AreFound house draws earlier found → AreAccountedFor house draws found earlier script replies found
+all_found_accounted house draws found earlier script replies owners founds = λ o owner at. (nothing_asked, found_accounted house draws script replies o owner (found o) (earlier o) (founds o owner at) (owners o owner at))
 
 -- .. and owed, whatever sources are behind them.
 pub all_found_owed : (house : House) (found : Journals) → AreHistories house found → AreOwed house found found

@@ -16,10 +16,10 @@ ghost use Rattle.session_core.specs.AnswerPath.Query.{Query, Source};
 ghost use Rattle.session_core.specs.AnswerPath.Answered.{granted_record};
 ghost use Rattle.session_core.specs.OwnerHistory.Sound.{IsFound, MayBeFound, IsOwed};
 ghost use Rattle.session_core.specs.Turns.{Turn, meant_at, turns_of};
-ghost use Rattle.session_core.specs.Exchanges.{Exchange};
+ghost use Rattle.session_core.specs.Exchanges.{Exchange, AreOfScript};
 ghost use Rattle.session_core.specs.Transcript.{Journals, first_new, ClosesOn, LeadExactly, IsScriptRun};
 ghost use Rattle.session_core.specs.Served.{Sources, AnswersOn};
-ghost use Rattle.session_core.specs.Gathered.{AreGathered, AreOfScript, AreShut, IsAnsweredOn, IsGatheredScript, one_worker, part_of};
+ghost use Rattle.session_core.specs.Gathered.{AreGathered, AreShut, IsAnsweredOn, IsGatheredScript, one_worker, part_of};
 ghost use Rattle.session_core.specs.Headline.{Explanations, AreAccountedFor, AreFound, AreHistories, AreOwed, Headline, IsHonoured};
 ghost use Rattle.session_core.specs.Said.{NothingFailedAt};
 ghost use Rattle.session_core.specs.Blocks.{AreDealt, crew_of, script_blocks};
@@ -65,7 +65,7 @@ pub fn lines_keep_the_promises()
         slice_get house.owners o ≡ Some owner → IsOwnerIn house owner → IsHistory owner.entry found → length earlier ≡ first_new found →
         AreKnown house turns → AreOfTurns turns xs → AreGathered house draws count crew o found xs records →
         (sources : Sources) × AllCameBy owner (draws o) found (earlier ++ sources.behind) records }
-    ensures scripts { (house : House) (script : List ℕ) → AreKnown house (turns_of house script) }
+    ensures scripts { (house : House) (script : List ℕ) (replies : List Replied) → AreKnown house (turns_of house script replies) }
 {}
 
 /// Whatever records were found, by whatever sources, those after a script are legal and within the budget.
@@ -80,8 +80,8 @@ pub fn every_script_is_owed()
 /// budget, and where sources explain them, these are behind all of them.
 pub fn found_records_are_owed()
     ensures owed { (house : House) (found : Journals) → AreHistories house found → AreOwed house found found }
-    ensures accounted { (house : House) (draws : ℕ → ℕ → ℕ → ℕ) (found : Journals) (earlier : Explanations) (script : List ℕ) →
-        AreOwners house → AreFound house draws earlier found → AreAccountedFor house draws found earlier script found }
+    ensures accounted { (house : House) (draws : ℕ → ℕ → ℕ → ℕ) (found : Journals) (earlier : Explanations) (script : List ℕ) (replies : List Replied) →
+        AreOwners house → AreFound house draws earlier found → AreAccountedFor house draws found earlier script replies found }
 {}
 
 /// Lines that were served by passes on books just opened, and lines that so many workers answered by halves of such passes, each at its own
@@ -125,7 +125,7 @@ pub fn one_transcript()
     ensures { (house : House) (draws : ℕ → ℕ → ℕ → ℕ) (found : Journals) (script : List ℕ) (replies others : List Replied) →
         (last end : Journals) →
         IsScriptRun house draws found script replies last → IsScriptRun house draws found script others end →
-        NothingFailedAt house (turns_of house script) replies → NothingFailedAt house (turns_of house script) others →
+        NothingFailedAt house (turns_of house script replies) replies → NothingFailedAt house (turns_of house script others) others →
         (replies ≡ others) × ((o : ℕ) (owner : Owner) → slice_get house.owners o ≡ Some owner → last o ≡ end o) }
 {}
 
@@ -134,7 +134,7 @@ pub fn one_transcript()
 pub fn scripts_have_transcripts()
     ensures { (house : House) (draws : ℕ → ℕ → ℕ → ℕ) (found : Journals) (script : List ℕ) → AreOwners house →
         (replies : List Replied) × (last : Journals) × IsScriptRun house draws found script replies last ×
-        NothingFailedAt house (turns_of house script) replies }
+        NothingFailedAt house (turns_of house script replies) replies }
 {}
 
 /// Who is told 42 or 52 is told of the failure that shut the owner's book, and one line is told 52 where it is shut.
@@ -210,9 +210,9 @@ pub fn whole_scripts_are_transcribed()
         ((o : ℕ) (owner : Owner) → slice_get house.owners o ≡ Some owner → AreShut house draws 1 crew o xs (closed o)) →
         ((o : ℕ) (owner : Owner) → slice_get house.owners o ≡ Some owner → closed o ≡ None) →
         ((place : ℕ) (x : Exchange) → slice_get xs place ≡ Some x → HadMemoryFor (WantsTooManyWalks (meant_at house x.turn)) x.reply) →
-        NothingFailedAt house (turns_of house script) (map (λ x. x.reply) xs)
+        NothingFailedAt house (turns_of house script (map (λ x. x.reply) xs)) (map (λ x. x.reply) xs)
         × ((replies : List Replied) (last : Journals) → IsScriptRun house draws found script replies last →
-        NothingFailedAt house (turns_of house script) replies →
+        NothingFailedAt house (turns_of house script replies) replies →
         (map (λ x. x.reply) xs ≡ replies) × ((o : ℕ) (owner : Owner) → slice_get house.owners o ≡ Some owner → records o ≡ last o)) }
 {}
 

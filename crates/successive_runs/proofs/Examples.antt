@@ -134,7 +134,7 @@ meant_first outcome = refl
 speaks : (x : Exchange) → x.turn ≡ turn (Some 0) ask_line → (place : ℕ) (y : Exchange) → slice_get (x ∷ []) place ≡ Some y → IsAnalyst house y.turn.who
 speaks x is zero y at =
     let same : x ≡ y = cc (at) in
-    let known : IsAnalyst house (Some 0) = omega arith in
+    let known : IsAnalyst house (turn (Some 0) ask_line).who = omega arith in
     subst (λ (z : Exchange). IsAnalyst house z.turn.who) same (subst (λ (t : Turn). IsAnalyst house t.who) (sym is) known)
 speaks x is (suc place) y at = absurd (cc (at))
 

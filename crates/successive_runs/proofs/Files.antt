@@ -1,5 +1,5 @@
 -- what files a stop leaves, and an answered script as a run
-use Rattle.std.proofs.Common.{◌≡◌, ℕ, ◌+◌, Bool, true, List, [], ◌∷◌, ◌++◌, slice_get, Option, Some, None, refl, sym, ◌∙◌, ap, subst, arith}
+use Rattle.std.proofs.Common.{◌≡◌, ℕ, ◌+◌, Bool, true, List, [], ◌∷◌, ◌++◌, map, slice_get, Option, Some, None, refl, sym, ◌∙◌, ap, subst, arith}
 use Rattle.std.specs.Prelude.{IfSome}
 use Rattle.std.proofs.lemmas.Option.{slice_get_within}
 use mathlib.Core.Logic.{◌⊎◌, inl, inr}
@@ -157,7 +157,7 @@ module _ (loading : Loading) (key : List ℕ) (workers : ℕ) (old new : Shelf) 
   ScriptLeft sent bytes = IsLeftOf loading key workers old new found script text done o owner sent bytes
 
   pub speaker : (place : ℕ) (x : Exchange) → slice_get done.exchanges place ≡ Some x → IsAnalyst script_house x.turn.who
-  speaker place x there = place_of_all (λ (t : Turn). IsAnalyst script_house t.who) (turns_of script_house script) (turns_known script_house script) place x.turn
+  speaker place x there = place_of_all (λ (t : Turn). IsAnalyst script_house t.who) (turns_of script_house script (map (λ (y : Exchange). y.reply) done.exchanges)) (turns_known script_house script (map (λ (y : Exchange). y.reply) done.exchanges)) place x.turn
       (ap (λ (w : List Turn). slice_get w place) (sym done.gathered.turns) ∙ mapped_at (λ (y : Exchange). y.turn) done.exchanges place x there)
 
   pub disk : WentOn owner.entry (header_of loading key o) (found o) (done.records o) (done.closed o) before after

@@ -108,5 +108,5 @@ pub scripts_told : (house : House) (draws : ℕ → ℕ → ℕ → ℕ) (found 
     → (o : ℕ) (owner : Owner) → (here : slice_get house.owners o ≡ Some owner) → AreToldTheirOwn house o (first_new (found o)) (h.owners o owner here).sources xs
 scripts_told house draws found earlier script count crew xs records owners begun g h o owner here =
     let one = h.owners o owner here in
-    told_their_own house draws (turns_of house script) count crew o owner (found o) xs (records o) here (owners o owner here) (begun o owner here).history g.turns (turns_known house script) (g.owners o owner here)
+    told_their_own house draws (turns_of house script (map (λ (x : Exchange). x.reply) xs)) count crew o owner (found o) xs (records o) here (owners o owner here) (begun o owner here).history g.turns (turns_known house script (map (λ (x : Exchange). x.reply) xs)) (g.owners o owner here)
     (earlier o) (begun o owner here).explained.each_has one.sources one.accounted.backed one.accounted.asked one.replied.placed
