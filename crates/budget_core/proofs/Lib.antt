@@ -13,6 +13,7 @@ pub mod BareLemmas
 pub mod LegalLemmas
 pub mod KeptLemmas
 pub mod SoundLemmas
+pub mod Defined
 pub mod RunLemmas
 pub mod Asks
 pub mod Grants
@@ -23,3 +24,4 @@ mod EventExamples
 mod AnswerExamples
 mod GrantExamples
 mod MineExamples
+mod DefinitionExamples

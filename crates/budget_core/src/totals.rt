@@ -154,8 +154,13 @@ impl Totals {
         ensures { (entry : Terms) (records : List Entered) → IsTotalOf entry records self.now
             → result ≡ option_map (λ (made : Defined). made.keys) (definition_of records partition) }
     {
-        let place = (partition as usize).checked_sub(CATALOG_PARTITIONS)?;
-        Some(self.made.get(place)?.keys)
+        if (partition as usize) < CATALOG_PARTITIONS {
+            return None;
+        }
+        match self.made.get(partition as usize - CATALOG_PARTITIONS) {
+            Some(made) => Some(made.keys),
+            None => None,
+        }
     }
 
     // How many keys a partition has, if there is one of this number.

@@ -175,7 +175,7 @@ fn first_reservation(alloc: Global) -> Option<Record>
     ensures { IfSome result IsValid }
 {
     let ledger = Ledger::new(alloc, small_entry(alloc).ok()?).ok()?;
-    if !ledger.entry().has_ask(&FIRST_ASK) {
+    if !ledger.has_ask(&FIRST_ASK) {
         return None;
     }
     let grant = ledger.verdict(&FIRST_ASK).ok()?;

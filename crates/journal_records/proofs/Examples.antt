@@ -226,28 +226,7 @@ grants_by_no_definition = refl
 settled_so : outcome_in (settling 5 (Answered (negsuc 0))) ≡ Some (Answered (negsuc 0))
 settled_so = refl
 
-unmakes_the_first : define_in (Define first_made) ≡ Some first_made
-makes_the_first = refl
-
-makes_by_no_reservation : define_in (Reserve first) ≡ None
-makes_by_no_reservation = refl
-
-makes_by_no_settlement : define_in (settling 5 Lost) ≡ None
-makes_by_no_settlement = refl
-
-makes_by_no_grant : define_in (Grant (record { number = 0; amount = 7 })) ≡ None
-makes_by_no_grant = refl
-
-reserves_by_no_definition : reservation_in (Define first_made) ≡ None
-reserves_by_no_definition = refl
-
-settles_by_no_definition : settlement_in (Define first_made) ≡ None
-settles_by_no_definition = refl
-
-grants_by_no_definition : grant_in (Define first_made) ≡ None
-grants_by_no_definition = refl
-
-settled_so : outcome_in (Reserve first) ≡ None
+unsettled_so : outcome_in (Reserve first) ≡ None
 unsettled_so = refl
 
 passes : is_some_and (λ n. n == 5) (Some 5) ≡ true

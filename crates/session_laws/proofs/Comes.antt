@@ -6,7 +6,7 @@ use Rattle.std.proofs.Math.Seq.{take-append_seam}
 use Rattle.journal_records.specs.declared.records.Record.{Record}
 use Rattle.journal_records.specs.declared.records.Reservation.{Reservation}
 use Rattle.journal_records.specs.declared.records.Settlement.{Settlement}
-use Rattle.journal_records.specs.declared.records.Record.TheVariants.{Reserve, Settle, Grant}
+use Rattle.journal_records.specs.declared.records.Record.TheVariants.{Reserve, Settle, Grant, Define}
 use Rattle.journal_records.specs.Records.{settling_back}
 use Rattle.budget_core.specs.Counts.{reservations_of}
 use Rattle.budget_core.specs.Legal.{IsHistory}
@@ -59,6 +59,7 @@ module _ (owner : Owner) (draws : ℕ → ℕ → ℕ) (found : List Record) (so
   lawful_more done (Reserve r) w came = lawful_reserved done r w (came.0 r refl)
   lawful_more done (Settle s) w came = lawful_settled done s w (came.1 s refl)
   lawful_more done (Grant g) w came = let none = came.2 in cc
+  lawful_more done (Define d) w came = let none = came.3 in cc
 
   well_by_reserve : (done : List Record) (r : Reservation) → Well done → WasReserved owner start sources done r → Well (done ++ Reserve r ∷ [])
   well_by_reserve done r w (query, of, asking, grant, verdict, is, source) =
@@ -85,6 +86,7 @@ module _ (owner : Owner) (draws : ℕ → ℕ → ℕ) (found : List Record) (so
   one_more done (Reserve r) w came = well_by_reserve done r w (came.0 r refl)
   one_more done (Settle s) w came = well_by_settle done s w (came.1 s refl)
   one_more done (Grant g) w came = let none = came.2 in cc
+  one_more done (Define d) w came = let none = came.3 in cc
 
   -- what each next record keeps, all of them keep
   all_more : (W : List Record → Type 0) → ((done : List Record) (next : Record) → W done → CameBy owner draws start sources done next → W (done ++ next ∷ []))

@@ -11,8 +11,9 @@ use Rattle.journal_records.specs.declared.records.Outcome.{Outcome}
 use Rattle.journal_records.specs.declared.records.Reservation.{Reservation}
 use Rattle.journal_records.specs.declared.records.Settlement.{Settlement}
 use Rattle.journal_records.specs.declared.records.BudgetGrant.{BudgetGrant}
+use Rattle.journal_records.specs.declared.records.MadePartition.{MadePartition}
 use Rattle.journal_records.specs.declared.records.Record.{Record}
-use Rattle.journal_records.specs.declared.records.Record.TheVariants.{Reserve, Settle, Grant as Granted}
+use Rattle.journal_records.specs.declared.records.Record.TheVariants.{Reserve, Settle, Grant as Granted, Define}
 use Rattle.journal_records.specs.Records.{settling_back}
 use Rattle.budget_core.specs.declared.entry.Ask.{Ask}
 use Rattle.budget_core.specs.declared.entry.Grant.{Grant}
@@ -81,11 +82,13 @@ abbrev settled_in : Settlement → Record → Settlement
 settled_in other (Reserve r) = other
 settled_in other (Settle s) = s
 settled_in other (Granted g) = other
+settled_in other (Define d) = other
 
 abbrev number_of : Record → ℕ
 number_of (Reserve r) = r.number
 number_of (Settle s) = s.number
 number_of (Granted g) = g.number
+number_of (Define d) = d.partition
 
 module _ (house : House) (draws : ℕ → ℕ → ℕ → ℕ) (spoken : List Turn) (count : ℕ) (crew : ℕ → ℕ) (o : ℕ) (owner : Owner) (found : List Record) (xs : List Exchange) (records : List Record)
     (here : slice_get house.owners o ≡ Some owner) (inside : IsOwnerIn house owner) (begun : IsHistory owner.entry found) (turns : map (λ (x : Exchange). x.turn) xs ≡ spoken) (known : AreKnown house spoken)
@@ -302,15 +305,28 @@ module _ (house : House) (draws : ℕ → ℕ → ℕ → ℕ) (spoken : List Tu
           | inr settled ↦ let both = ap (λ (z : Told). z.1) settled.1 in cc both
         ]
 
+    -- nor a partition
+    none_made : (k : ℕ) (d : MadePartition) → length found ≤ k → slice_get records k ≡ Some (Define d) → ⊥
+    none_made k d past at =
+        let e = once.each k (Define d) past at in
+        let made = made_at e.0 (k, Define d) e.1 in
+        elim (told_by (draws o) owner found records made.query e.1.x made.by (k, Define d) e.1.has) [
+          | inl is ↦ let both : Define d ≡ granted_record made.by.asking made.by.grant = ap (λ (z : Told). z.1) is in cc both
+          | inr settled ↦ let both = ap (λ (z : Told). z.1) settled.1 in cc both
+        ]
+
     pub came_at : (k : ℕ) (next : Record) → length found ≤ k → slice_get records k ≡ Some next → CameBy owner (draws o) start explaining (take k records) next
     came_at k (Reserve r) past at = (
       λ q is. let same : r ≡ q = cc (is) in subst (λ (z : Reservation). WasReserved owner start explaining (take k records) z) same (reserved_at k r past at),
       λ s is. absurd (cc (is)),
+      refl,
       refl,
     )
     came_at k (Settle s) past at = (
       λ q is. absurd (cc (is)),
       λ t is. let same : s ≡ t = cc (is) in subst (λ (z : Settlement). WasSettled owner (draws o) start explaining (take k records) z) same (settled_so k s past at),
       refl,
+      refl,
     )
     came_at k (Granted g) past at = absurd (none_granted k g past at)
+    came_at k (Define d) past at = absurd (none_made k d past at)

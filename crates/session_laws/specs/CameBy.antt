@@ -4,7 +4,7 @@ use Rattle.journal_records.specs.declared.records.Record.{Record}
 use Rattle.journal_records.specs.declared.records.Record.TheVariants.{Reserve}
 use Rattle.journal_records.specs.declared.records.Reservation.{Reservation}
 use Rattle.journal_records.specs.declared.records.Settlement.{Settlement}
-use Rattle.journal_records.specs.Records.{reservation_in, settlement_in, grant_in}
+use Rattle.journal_records.specs.Records.{reservation_in, settlement_in, grant_in, define_in}
 use Rattle.budget_core.specs.declared.entry.Ask.{Ask}
 use Rattle.budget_core.specs.declared.entry.Grant.{Grant}
 use Rattle.budget_core.specs.Counts.{reservations_of, outcome_of}
@@ -32,12 +32,12 @@ WasSettled owner draws start sources before s =
     × (slice_get sources s.number ≡ Some (source_of query)) × (outcome_of before s.number ≡ None) × (start ≤ s.number)
     × (s.returned ≡ returned_by owner.entry before s.number s.outcome)
 
--- A record came about so, whichever it is. No line makes a grant.
+-- A record came about so, whichever it is. No line makes a grant or a partition.
 abbrev pub CameBy : Owner → (ℕ → ℕ → ℕ) → (start : ℕ) → (sources : List Source) → (before : List Record) → Record → Type 0
 CameBy owner draws start sources before next =
     ((r : Reservation) → reservation_in next ≡ Some r → WasReserved owner start sources before r)
     × ((s : Settlement) → settlement_in next ≡ Some s → WasSettled owner draws start sources before s)
-    × (grant_in next ≡ None)
+    × (grant_in next ≡ None) × (define_in next ≡ None)
 
 -- Where each new record came about so, the sources explain all records, and these are legal after the found ones.
 abbrev pub CameAboutIsExplained : Type 0

@@ -10,13 +10,13 @@ use Rattle.journal_records.specs.declared.records.Outcome.{Outcome}
 use Rattle.journal_records.specs.declared.records.Outcome.TheVariants.{Answered}
 use Rattle.journal_records.specs.declared.records.Reservation.{Reservation}
 use Rattle.journal_records.specs.declared.records.Record.{Record}
-use Rattle.journal_records.specs.declared.records.Record.TheVariants.{Reserve, Settle, Grant as Granted}
+use Rattle.journal_records.specs.declared.records.Record.TheVariants.{Reserve, Settle, Grant as Granted, Define}
 use Rattle.journal_records.specs.Records.{reservation_in}
 use Rattle.budget_core.specs.Counts.{reservations_of, reservation_of, outcome_of}
 use Rattle.budget_core.specs.Entries.{Entry}
 use Rattle.budget_core.specs.Legal.{MayFollow, IsHistory}
 use Rattle.budget_core.proofs.Histories.{history-induction, push_cases, slice_get-append-lt, slice_get-append-seam}
-use Rattle.budget_core.proofs.Numbers.{reservation_of-append, reservation_of-append-old, reservation_of-next, option_or-None, reservations-granted, reservations-settled, reservations-with}
+use Rattle.budget_core.proofs.Numbers.{reservation_of-append, reservation_of-append-old, reservation_of-next, option_or-None, reservations-granted, reservations-defined, reservations-settled, reservations-with}
 use Rattle.wire_lines.specs.Reply.{Replied}
 use Rattle.owner_house.specs.Owner.{Owner}
 use Rattle.query_server.specs.OwnerHistory.Explains.{IsNoisedValue, ExplainsOutcome}
@@ -42,6 +42,9 @@ listed_at entry = history-induction entry (λ records. (n : ℕ) (r : Reservatio
     step xs (Granted g) h may before n r is =
         let old : reservation_of xs n ≡ Some r = sym (option_or-None (reservation_of xs n)) ∙ sym (reservation_of-append xs (Granted g ∷ []) n) ∙ is in
         ap (λ (rs : List Reservation). slice_get rs n) (reservations-granted xs g) ∙ before n r old
+    step xs (Define d) h may before n r is =
+        let old : reservation_of xs n ≡ Some r = sym (option_or-None (reservation_of xs n)) ∙ sym (reservation_of-append xs (Define d ∷ []) n) ∙ is in
+        ap (λ (rs : List Reservation). slice_get rs n) (reservations-defined xs d) ∙ before n r old
     step xs (Reserve s) h may before n r is = here (reservation_of xs n) refl (n == s.number) refl (sym (reservation_of-append xs (Reserve s ∷ []) n) ∙ is)
       where
         more : reservations_of (xs ++ Reserve s ∷ []) ≡ reservations_of xs ++ s ∷ []
@@ -84,6 +87,8 @@ numbered_at entry = history-induction entry (λ records. (n : ℕ) (r : Reservat
         reservation_of-append-old xs (Settle s) n r (before n r (ap (λ (rs : List Reservation). slice_get rs n) (sym (reservations-settled xs s)) ∙ is))
     step xs (Granted g) h may before n r is =
         reservation_of-append-old xs (Granted g) n r (before n r (ap (λ (rs : List Reservation). slice_get rs n) (sym (reservations-granted xs g)) ∙ is))
+    step xs (Define d) h may before n r is =
+        reservation_of-append-old xs (Define d) n r (before n r (ap (λ (rs : List Reservation). slice_get rs n) (sym (reservations-defined xs d)) ∙ is))
     step xs (Reserve s) h may before n r is = elim (push_cases (reservations_of xs) s n r (ap (λ (rs : List Reservation). slice_get rs n) (sym (reservations-with xs s)) ∙ is)) [
       | inl known ↦ reservation_of-append-old xs (Reserve s) n r (before n r known.1)
       | inr last ↦ subst (λ (k : ℕ). reservation_of (xs ++ Reserve s ∷ []) k ≡ Some r) (may.numbered ∙ sym last.0)
