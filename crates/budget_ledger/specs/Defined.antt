@@ -1,9 +1,12 @@
 -- What a book answers where an analyst defines a partition, and what it is afterwards.
-use Rattle.std.specs.Prelude.{◌≡◌, ℕ, List, Result, Ok, Err, Option, None, Some}
+use Rattle.std.specs.Prelude.{◌≡◌, ℕ, ◌≤◌, List, Result, Ok, Err, Option, None, Some, IsSomeAnd}
+use Rattle.partition_charge.specs.Views.{partition_limit}
+use Rattle.journal_records.specs.declared.records.MadePartition.{MadePartition}
 use Rattle.journal_records.specs.declared.records.Record.{Record}
 use Rattle.journal_records.specs.declared.records.Record.TheVariants.{Define}
 use Rattle.budget_core.specs.declared.definitions.Definition.{Definition}
 use Rattle.budget_core.specs.declared.definitions.Made.{Made}
+use Rattle.budget_core.specs.Counts.{definition_of}
 use Rattle.budget_core.specs.Defining.{made_before, made_behind, definition_verdict_with}
 use Rattle.budget_core.specs.Entries.{Entry}
 use Rattle.budget_core.specs.Ledger.{start_of}
@@ -22,6 +25,17 @@ book_definition entry start records closed definition = definition_verdict_with 
 abbrev pub HasDefinitionVerdict : Account → Definition → Result Made DefinitionFault → Type 0
 HasDefinitionVerdict account definition verdict =
     book_definition account.ledger.entry (start_of account.ledger) account.ledger.records account.storage.closed definition ≡ verdict
+
+-- The partition was made by an equal definition: of the same table, with as many keys, and of the same digest.
+pub record IsMadeAs (definition : Definition) (made : MadePartition) : Type 0 where
+  pub table : made.table ≡ definition.table
+  pub keys : made.keys ≡ definition.keys
+  pub digest : made.digest ≡ definition.digest
+
+-- In these records the partition of this number, which is behind a catalog's, is the definition's.
+pub record IsPartitionOf (records : List Record) (partition : ℕ) (definition : Definition) : Type 0 where
+  pub behind : partition_limit ≤ partition
+  pub made : IsSomeAnd (definition_of records partition) (IsMadeAs definition)
 
 -- Nothing was done where an equal definition had made its partition. Else the record of a new one was written.
 abbrev pub GainsUnlessMade : Option Made → (old : Account) → Record → (new : Account) → Type 0

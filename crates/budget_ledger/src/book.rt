@@ -15,7 +15,7 @@ ghost use Rattle.budget_core.specs.Sound.{IsSound};
 ghost use Rattle.budget_ledger.specs.Account.{IsKeptNow, IsBook, Went, stored_by};
 ghost use Rattle.budget_ledger.specs.Booked.{IsReserved, IsSettlementOf, IsRaised};
 ghost use Rattle.budget_core.specs.Defining.{IsDefinition};
-ghost use Rattle.budget_ledger.specs.Defined.{IsDefined};
+ghost use Rattle.budget_ledger.specs.Defined.{IsDefined, IsPartitionOf};
 ghost use Rattle.budget_ledger.specs.Kept.{HasWritten, IsUnappended, refusal_with, undefined_with};
 ghost use Rattle.budget_ledger.specs.Opened.{IsBookFault};
 
@@ -211,6 +211,7 @@ impl<D: Disk> Book<D> {
     pub fn define(&mut self, definition: &Definition) -> Result<Made, DefinitionFault>
         requires { IsDefinition definition.now }
         ensures answer { IsDefined self.old definition.now result self.new }
+        ensures made { IfOk result (λ made. IsPartitionOf self.new.ledger.records made.partition definition.now) }
         ensures went { Went self.old.ledger.records self.new.ledger.records self.old.storage self.new.storage }
         ensures kept { IsBook self.new }
     {
