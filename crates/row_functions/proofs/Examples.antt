@@ -7,10 +7,11 @@ use Rattle.fz_frac.specs.Lowest.{gcd, gcd_in, is_out}
 use Rattle.linear_types.specs.Inferred.{Has, TooSensitive, Unbound}
 use Rattle.linear_types.specs.Rule.{rule}
 use Rattle.linear_types.specs.Typing.{Closed}
+use Rattle.metric_law.specs.Worked.{span}
 use Rattle.metric_values.specs.Values.{TextF}
 use Rattle.row_functions.specs.Computed.{computed}
 use Rattle.row_functions.specs.RowFunctions.{IsRowFunction, depth_limit, row_text}
-use Rattle.row_functions.specs.Worked.{HasFault, counts_people, in_town, same_text, span, text_used, thirty, town_and_age, town_once, young_or_old}
+use Rattle.row_functions.specs.Worked.{HasFault, counts_people, in_town, same_text, text_used, thirty, town_and_age, town_once, young_or_old}
 
 pub typed : IsRowFunction town_and_age young_or_old
 unfolding is_out gcd gcd_in

@@ -49,7 +49,7 @@ gives_texts row t x l f k =
 text_inj : (s u : List ℕ) → TextV s ≡ TextV u → s ≡ u
 text_inj s u e = ap text_in e
 
-applies_same : (n m : ℕ) {c u v w : Value} → Applies (MeansIn n) c u v → Applies (MeansIn m) c u w → v ≡ w
+pub applies_same : (n m : ℕ) {c u v w : Value} → Applies (MeansIn n) c u v → Applies (MeansIn m) c u w → v ≡ w
 applies_same n m (apply h) (apply k) = same_value n m _ _ _ _ h k
 applies_same n m (apply_fn h) (apply_fn k) = same_value n m _ _ _ _ h k
 

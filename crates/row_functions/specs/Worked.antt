@@ -1,19 +1,13 @@
 -- Functions of rows with the columns town and age, each as it is parsed.
 use Rattle.std.specs.Prelude.{List, [], codes, pos, ℕ, ℤ, ◌∷◌, ◌≡◌}
-use Rattle.fz_ast.specs.Terms.{EqE, FnE, FunE, IfE, LeE, LetPairE, Name, NumE, SizeE, Term, TextE, VarE, at}
+use Rattle.fz_ast.specs.Terms.{EqE, FnE, FunE, IfE, LeE, LetPairE, NumE, SizeE, Term, TextE, at}
 use Rattle.fz_ast.specs.Types.{NumT, TensorT, TextT, Ty}
-use Rattle.fz_ast.specs.declared.span.Span.{Span}
 use Rattle.linear_types.specs.Inferred.{Fault, Untyped}
 use Rattle.linear_types.specs.Rule.{rule}
 use Rattle.linear_types.specs.Typing.{Closed}
+use Rattle.metric_law.specs.Worked.{name_at, span}
 use Rattle.metric_values.specs.Values.{Flat, NumF, PairF, TextF}
 use Rattle.row_functions.specs.RowFunctions.{IsRowFunction}
-
-abbrev pub span : ℕ → ℕ → Span
-span f t = record { from = f; to = t }
-
-abbrev pub name_at : ℕ → ℕ → Name → Term
-name_at f t x = at (span f t) (VarE x)
 
 abbrev pub quoted_at : ℕ → ℕ → List ℕ → Term
 quoted_at f t s = at (span f t) (TextE s)

@@ -4,9 +4,10 @@
 ghost use Rattle.fz_ast.specs.Types.{TextT};
 ghost use Rattle.fz_frac.specs.Distance.{Fin};
 ghost use Rattle.linear_types.specs.Inferred.{TooSensitive, Unbound};
+ghost use Rattle.metric_law.specs.Worked.{span};
 ghost use Rattle.row_functions.specs.Laws.{FunctionsAreInferred, MeaningsAreComputed, RowFunctionsGiveTexts, TextsAreComputed, TextsAreUnique};
 ghost use Rattle.row_functions.specs.RowFunctions.{IsRowFunction, row_text};
-ghost use Rattle.row_functions.specs.Worked.{HasFault, counts_people, in_town, same_text, span, text_used, thirty, town_and_age, town_once, young_or_old};
+ghost use Rattle.row_functions.specs.Worked.{HasFault, counts_people, in_town, same_text, text_used, thirty, town_and_age, town_once, young_or_old};
 ghost use Rattle.metric_values.specs.Values.{TextF};
 ghost use Rattle.std.specs.Prelude.{codes, pos, replicate, ◌≡◌};
 
