@@ -199,11 +199,11 @@ of_no_other class keys row text number is found distinct k low differ = rw is (b
     clash e =
         let same : get_or keys number [] ≡ get_or keys k [] = found.1 ∙ (bytes_eq-Decides text (get_or keys k [])).0 e in
         let before : number < k → ⊥ = λ b.
-            let apart : bytes_eq (get_or keys number []) (get_or keys k []) ≡ false = apart_from_distinct bytes_eq keys number k [] distinct b low in
-            let equal = (bytes_eq-Decides (get_or keys number []) (get_or keys k [])).1 same in absurd cc in
+        let apart : bytes_eq (get_or keys number []) (get_or keys k []) ≡ false = apart_from_distinct bytes_eq keys number k [] distinct b low in
+        let equal = (bytes_eq-Decides (get_or keys number []) (get_or keys k [])).1 same in absurd cc in
         let after : k < number → ⊥ = λ b.
-            let apart : bytes_eq (get_or keys k []) (get_or keys number []) ≡ false = apart_from_distinct bytes_eq keys k number [] distinct b found.0 in
-            let equal = (bytes_eq-Decides (get_or keys k []) (get_or keys number [])).1 (sym same) in absurd cc in
+        let apart : bytes_eq (get_or keys k []) (get_or keys number []) ≡ false = apart_from_distinct bytes_eq keys k number [] distinct b found.0 in
+        let equal = (bytes_eq-Decides (get_or keys k []) (get_or keys number [])).1 (sym same) in absurd cc in
         differ (omega (arith, before, after))
 
     by : (b : Bool) → bytes_eq text (get_or keys k []) ≡ b → b ≡ false
@@ -268,9 +268,9 @@ number_found borrowed keys text None are is =
     let none : Bor (List ℕ) = record { ref_ptr = (0, 0); now = [] } in
     subst (All (λ (key : List ℕ). bytes_eq text key ≡ false)) are
     (λ k d low.
-      let there : k < length borrowed = omega (arith, low, length-map borrowed (λ (key : Bor (List ℕ)). key.now)) in
-      rw (get_or-map (λ (key : Bor (List ℕ)). key.now) borrowed k none d there)
-      (passes_none (λ (key : Bor (List ℕ)). bytes_eq text key.now) borrowed (found_none (λ (key : Bor (List ℕ)). bytes_eq text key.now) borrowed is) k none there))
+    let there : k < length borrowed = omega (arith, low, length-map borrowed (λ (key : Bor (List ℕ)). key.now)) in
+    rw (get_or-map (λ (key : Bor (List ℕ)). key.now) borrowed k none d there)
+    (passes_none (λ (key : Bor (List ℕ)). bytes_eq text key.now) borrowed (found_none (λ (key : Bor (List ℕ)). bytes_eq text key.now) borrowed is) k none there))
 
 flip : (a b : List ℕ) → bytes_eq b a ≡ false → bytes_eq a b ≡ false
 flip a b h = by (bytes_eq a b) refl
@@ -286,12 +286,12 @@ missing keys i d distinct low =
     let now : Bor (List ℕ) → List ℕ = λ key. key.now in
     list_any_none (λ k. bytes_eq (get_or keys i d).now k.now) (take i keys)
     (λ j e there.
-      let before : j < i = omega (arith, there, length-take i keys) in
-      let apart : bytes_eq (get_or (texts_of keys) j []) (get_or (texts_of keys) i []) ≡ false =
-      apart_from_distinct bytes_eq (texts_of keys) j i [] distinct before (omega (arith, low, length-map keys now)) in
-      let first : get_or (texts_of keys) j [] ≡ (get_or keys j e).now = get_or-map now keys j e [] (omega (arith, before, low)) in
-      let second : get_or (texts_of keys) i [] ≡ (get_or keys i d).now = get_or-map now keys i d [] low in
-      rw (get_or-take i keys j e before) (flip (get_or keys i d).now (get_or keys j e).now (rw (first, second) at apart)))
+    let before : j < i = omega (arith, there, length-take i keys) in
+    let apart : bytes_eq (get_or (texts_of keys) j []) (get_or (texts_of keys) i []) ≡ false =
+    apart_from_distinct bytes_eq (texts_of keys) j i [] distinct before (omega (arith, low, length-map keys now)) in
+    let first : get_or (texts_of keys) j [] ≡ (get_or keys j e).now = get_or-map now keys j e [] (omega (arith, before, low)) in
+    let second : get_or (texts_of keys) i [] ≡ (get_or keys i d).now = get_or-map now keys i d [] low in
+    rw (get_or-take i keys j e before) (flip (get_or keys i d).now (get_or keys j e).now (rw (first, second) at apart)))
 
 if_good : {A E : Type 0} (r : Result A E) {P : Type 0} → is_ok r ≡ true → IfOk r (λ x. P) → P
 if_good (Ok x) e h = h

@@ -7,3 +7,4 @@ pub mod Chains
 pub mod Lawful
 pub mod Making
 mod Examples
+mod MadeExamples

@@ -1,7 +1,8 @@
 -- The laws of views where a partition may be made, and that the catalog's views stay what they are.
-use Rattle.std.proofs.Common.{◌≡◌, ◌<◌, ◌≤◌, ℕ, Bool, true, false, Option, Some, None, List, [], cond, get_or, refl, subst, sym, arith}
+use Rattle.std.proofs.Common.{◌≡◌, ◌<◌, ◌≤◌, ℕ, Bool, true, false, Option, Some, None, List, [], ◌∷◌, cond, get_or, refl, subst, sym, arith}
 use Rattle.std.specs.Prelude.{IfSome, length, nat_lt, option_map, slice_get}
-use Rattle.std.proofs.lemmas.Option.{slice_get_past}
+use Rattle.std.proofs.lemmas.Option.{slice_get-get_or, slice_get_past}
+use Rattle.std.proofs.lemmas.List.{get_or-map}
 use Rattle.fz_ast.specs.Signature.{IsSignature, Signature}
 use Rattle.metric_values.specs.Distances.{bag_distance}
 use Rattle.metric_values.specs.Tables.{Dataset, IsDataset, apart}
@@ -12,11 +13,12 @@ use Rattle.partition_charge.specs.Cost.{total_below}
 use Rattle.partition_charge.specs.Views.{partition_limit}
 use Rattle.partition_charge.specs.declared.view.View.{View}
 use Rattle.partition_charge.specs.declared.view.View.TheVariants.{Part, Whole}
-use Rattle.part_views.specs.Cuts.{Cut, IsCutOf, class_of, cut_at, cut_of}
+use Rattle.part_views.specs.Cuts.{Cut, IsCutOf, class_of, cut_at, cut_of, rows_of_class}
 use Rattle.part_views.specs.Laws.{IsSublist}
+use Rattle.part_views.specs.MadeParts.{parts_by}
 use Rattle.part_views.specs.Seen.{AreCuts, cut_rows, cut_table, rows_seen, signature_seen}
-use Rattle.part_views.specs.SeenLaws.{CatalogViewsStay, IsOfCatalog, PartsSeenAreDisjoint, PartsSeenAreNoFurtherApart, PartsSeenAreNoFurtherThanTheirTable, PartsSeenAreOfTheirKeys, PartsSeenAreSublists, ViewsSeenAreDatasets, ViewsStayWhereNothingIsMade, rows_of_part_seen}
-use Rattle.part_views.specs.Views.{rows_in, signature_in}
+use Rattle.part_views.specs.SeenLaws.{CatalogViewsStay, IsOfCatalog, MadePartsAreSeen, PartsSeenAreDisjoint, PartsSeenAreNoFurtherApart, PartsSeenAreNoFurtherThanTheirTable, PartsSeenAreOfTheirKeys, PartsSeenAreSublists, ViewsSeenAreDatasets, ViewsStayWhereNothingIsMade, rows_of_part_seen}
+use Rattle.part_views.specs.Views.{alone, rows_in, signature_in}
 use Rattle.part_views.proofs.CutLaws.{class_is_sublist, cut_apart, cut_is_dataset, cut_parts_apart, cut_shares_no_row, has_its_key, stands_of_class}
 use Rattle.part_views.proofs.Laws.{lawful_cut, part_is_cut, table_is_cut}
 
@@ -134,3 +136,19 @@ views_stay tables partitions (Part p j) X few = by (nat_lt p partition_limit) re
         let high : partition_limit ≤ p = grind arith in
         let none : slice_get partitions p ≡ None = slice_get_past partitions p (omega (arith, high, few)) in
         same_part tables partitions None p j X (rw (e, none) refl)
+
+-- ---- made parts
+
+made_part : (tables : Signature) (partitions : List PartitionEntry) (cut : Cut) (p j : ℕ) (X : Dataset) → partition_limit ≤ p → j < length cut.keys
+    → (signature_seen tables partitions (Some cut) (Part p j) ≡ alone (slice_get tables cut.table))
+    × (rows_seen partitions (Some cut) (Part p j) X ≡ get_or (parts_by cut.class cut.keys (get_or X cut.table [])) j [])
+unfolding signature_seen rows_seen
+made_part tables partitions cut p j X high low =
+    let all = get_or X cut.table [] in
+    let made = cut_past partitions (Some cut) p high in (
+      rw made refl,
+      rw (made, slice_get-get_or cut.keys j [] low) (sym (get_or-map (λ key. rows_of_class cut.class (Some key) all ∷ []) cut.keys j [] [] low)),
+    )
+
+pub made_parts_are_seen : MadePartsAreSeen
+made_parts_are_seen = made_part

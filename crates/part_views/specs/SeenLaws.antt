@@ -13,7 +13,8 @@ use Rattle.owner_catalog.specs.Entries.{PartitionEntry}
 use Rattle.part_views.specs.Cuts.{Cut, class_of, cut_at}
 use Rattle.part_views.specs.Laws.{IsSublist}
 use Rattle.part_views.specs.Seen.{AreCuts, rows_seen, signature_seen}
-use Rattle.part_views.specs.Views.{rows_in, signature_in}
+use Rattle.part_views.specs.MadeParts.{parts_by}
+use Rattle.part_views.specs.Views.{alone, rows_in, signature_in}
 
 -- a view of a dataset is a dataset of the view's tables
 abbrev pub ViewsSeenAreDatasets : Type 0
@@ -69,3 +70,9 @@ CatalogViewsStay = (tables : Signature) (partitions : List PartitionEntry) (made
 abbrev pub ViewsStayWhereNothingIsMade : Type 0
 ViewsStayWhereNothingIsMade = (tables : Signature) (partitions : List PartitionEntry) (view : View) (X : Dataset) → length partitions ≤ partition_limit
     → (signature_seen tables partitions None view ≡ signature_in tables partitions view) × (rows_seen partitions None view X ≡ rows_in partitions view X)
+
+-- A made partition shows the parts into which its table is divided, each as a dataset of that table alone.
+abbrev pub MadePartsAreSeen : Type 0
+MadePartsAreSeen = (tables : Signature) (partitions : List PartitionEntry) (cut : Cut) (p j : ℕ) (X : Dataset) → partition_limit ≤ p → j < length cut.keys
+    → (signature_seen tables partitions (Some cut) (Part p j) ≡ alone (slice_get tables cut.table))
+    × (rows_seen partitions (Some cut) (Part p j) X ≡ get_or (parts_by cut.class cut.keys (get_or X cut.table [])) j [])

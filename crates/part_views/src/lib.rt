@@ -1,9 +1,9 @@
-//! What a view shows of an owner's tables: the whole, or the rows of one key of a partition.
+//! What a view shows of an owner's tables: the whole, or the rows of one key of a partition, which a catalog has or an analyst made.
 //! The functions here do nothing: the contract of each is a law.
 #![tactic(auto)]
 
 ghost use Rattle.part_views.specs.Laws.{PartsAreDisjoint, PartsAreNoFurtherApart, PartsAreNoFurtherThanTheirTable, PartsAreSublists, ViewsAreDatasets};
-ghost use Rattle.part_views.specs.SeenLaws.{CatalogViewsStay, PartsSeenAreDisjoint, PartsSeenAreNoFurtherApart, PartsSeenAreNoFurtherThanTheirTable, PartsSeenAreOfTheirKeys, PartsSeenAreSublists, ViewsSeenAreDatasets, ViewsStayWhereNothingIsMade};
+ghost use Rattle.part_views.specs.SeenLaws.{CatalogViewsStay, MadePartsAreSeen, PartsSeenAreDisjoint, PartsSeenAreNoFurtherApart, PartsSeenAreNoFurtherThanTheirTable, PartsSeenAreOfTheirKeys, PartsSeenAreSublists, ViewsSeenAreDatasets, ViewsStayWhereNothingIsMade};
 
 mod dataset;
 mod division;
@@ -51,4 +51,9 @@ pub fn parts_seen_are_no_further_apart()
 pub fn catalog_views_stay()
     ensures made { CatalogViewsStay }
     ensures none { ViewsStayWhereNothingIsMade }
+{}
+
+/// A made partition shows the parts into which its table is divided.
+pub fn made_parts_are_seen()
+    ensures { MadePartsAreSeen }
 {}

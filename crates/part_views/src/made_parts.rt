@@ -1,4 +1,4 @@
-//! A table divided by its rows' classes: rows are gone over once, and each is chained to the next one of its part.
+//! A table divided by its rows' classes: its rows are gone over once, and each is chained to the next one of its part.
 
 ghost use Rattle.std.specs.Prelude.{◌≡◌, ◌<◌, ◌≤◌, List, [], All, length, take, bytes_eq, IfOk};
 ghost use Rattle.std.specs.List.{IsDistinct};
@@ -14,9 +14,6 @@ use indexmap::IndexSet;
 use metric_values::{Table, Tables};
 use std::alloc::Global;
 use std::marker::Model;
-
-/// The most bytes of a class.
-pub const CLASS_BYTES: usize = 64;
 
 // The most rows of a table that is divided.
 const ROWS: usize = 1 << 20;
@@ -154,7 +151,10 @@ pub fn divide_by<C: RowClasses>(
     requires rows { C.rows classes.now ≡ table.now }
     ensures { IfOk result (λ made. made ≡ parts_by (C.class classes.now) keys.now table.now) }
 {
-    let DivisionRoom { mut first, mut next } = room;
+    let DivisionRoom {
+        mut first,
+        mut next,
+    } = room;
     if table.len() > next.len() {
         return Err(NoMemory);
     }
