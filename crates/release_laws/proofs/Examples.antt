@@ -1,5 +1,5 @@
 -- Outlines of worked terms.
-use Rattle.std.proofs.Common.{◌≡◌, ◌≢◌, ℕ, pos, negsuc, List, [], ◌∷◌, codes, refl}
+use Rattle.std.proofs.Common.{◌≡◌, ◌+◌, ℕ, pos, negsuc, List, [], ◌∷◌, codes, refl}
 use Rattle.fz_ast.specs.Bare.{nowhere}
 use Rattle.fz_ast.specs.Terms.{ClipE, FunE, LetE, NumE, PlusE, SumE, Term, TextE, TimesE, VarE, at}
 use Rattle.fz_ast.specs.Types.{NumT}
@@ -38,8 +38,8 @@ bounds_of_sum = refl
 texts : outline (at (span 0 3) (TextE (codes "a"))) ≡ at nowhere (TextE (codes "a"))
 texts = refl
 
-other_texts : outline (at (span 0 3) (TextE (codes "a"))) ≢ outline (at (span 0 3) (TextE (codes "b")))
-other_texts e = absurd (cc e)
+other_texts : outline (at (span 0 3) (TextE (codes "b"))) ≡ at nowhere (TextE (codes "b"))
+other_texts = refl
 
 type : outline (at (span 0 20) (FunE (codes "x") (span 5 8) NumT (x_at 12))) ≡ at nowhere (FunE (codes "x") nowhere NumT (at nowhere (VarE (codes "x"))))
 type = refl

@@ -1,5 +1,5 @@
 -- Texts of releases at worked examples, from the written rules.
-use Rattle.std.proofs.Common.{◌≡◌, ℕ, pos, negsuc, true, false, List, [], ◌∷◌, ◌++◌, codes, refl, arith, ◌^◌, ⊥}
+use Rattle.std.proofs.Common.{◌≡◌, ℕ, pos, negsuc, true, false, List, [], ◌∷◌, codes, refl, arith, ◌^◌}
 use Rattle.std.specs.Fmt.{digits}
 use Rattle.std.specs.Prelude.{ℤ}
 use Rattle.fz_ast.specs.Bare.{nowhere}

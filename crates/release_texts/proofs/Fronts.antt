@@ -1,22 +1,19 @@
 -- Tokens in front of others.
-use Rattle.std.proofs.Common.{◌≡◌, ◌≢◌, ℕ, zero, suc, ◌+◌, ◌<◌, ◌≤◌, List, [], ◌∷◌, ◌++◌, true, refl, arith, sym, ap, ◌∙◌, subst, inl, inr, length, length-append}
-use Rattle.std.specs.Prelude.{ℤ, pos, negsuc, codes, ◌&&◌, ◌⊎◌, Bool, false}
-use Rattle.std.proofs.lemmas.Bool.{and_parts}
+use Rattle.std.proofs.Common.{◌≡◌, ◌≢◌, ℕ, suc, ◌+◌, ◌≤◌, List, [], ◌∷◌, ◌++◌, true, refl, arith, sym, ap, ◌∙◌, subst, inl, inr, length, length-append}
+use Rattle.std.specs.Prelude.{ℤ, codes}
 use Rattle.fz_ast.specs.Bare.{nowhere}
 use Rattle.fz_lexer.specs.declared.token.Token.{Token}
 use Rattle.fz_lexer.specs.declared.token.Kind.{Kind}
 use Rattle.fz_lexer.specs.declared.token.Kind.TheVariants.{Name, Number, Reserved, Punctuation}
-use Rattle.fz_lexer.specs.declared.token.Word.{Word}
 use Rattle.fz_lexer.specs.declared.token.Word.TheVariants.{Let, In}
 use Rattle.fz_lexer.specs.declared.token.Sign.{Sign}
 use Rattle.fz_lexer.specs.declared.token.Sign.TheVariants.{Yields, Arrow, Lollipop, AtMost, EqualTo, LeftParenthesis, RightParenthesis, LeftAngle, RightAngle, LeftBracket, RightBracket, Comma, Colon, Is, Bang, Bar, Plus, Minus, Star, Ampersand, Slash}
-use Rattle.fz_lexer.specs.Bytes.{begins, every_byte, is_blank, is_digit, is_letter, is_name_byte, stops, value_from}
-use Rattle.fz_lexer.specs.Signs.{IsLongest, SpellsSign, mark, may_follow}
-use Rattle.fz_lexer.specs.Tokens.{AreTokens, Cut, IsNameToken, IsNumberToken, IsSignToken, IsToken}
+use Rattle.fz_lexer.specs.Bytes.{is_blank, is_digit, is_letter, is_name_byte, stops}
+use Rattle.fz_lexer.specs.Signs.{mark, may_follow}
+use Rattle.fz_lexer.specs.Tokens.{Cut, IsToken}
 use Rattle.fz_lexer.specs.Words.{spelling}
 use Rattle.fz_lexer.proofs.Runs.{digit_range}
 use Rattle.release_texts.specs.Bared.{bare_tokens}
-use Rattle.release_texts.specs.Releases.{let_in}
 use Rattle.fz_parser.specs.Printer.{name_token, sign, word, written_integer}
 use Rattle.release_texts.specs.Fronts.{AreDigitsOf, IsName, OneAnswerInFront, Spells, below, let_text, plain}
 

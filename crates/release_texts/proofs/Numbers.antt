@@ -1,12 +1,10 @@
 -- Decimal digits are read back.
-use Rattle.std.proofs.Common.{◌≡◌, ℕ, zero, suc, ◌+◌, ◌-◌, ◌*◌, ◌<◌, ◌≤◌, ◌^◌, List, [], ◌∷◌, length, refl, arith, ap, sym, ◌∙◌}
-use Rattle.std.specs.Prelude.{true, ◌&&◌, ℤ, pos, negsuc, decimal}
-use Rattle.std.specs.Fmt.{signed_decimal}
+use Rattle.std.proofs.Common.{◌≡◌, ℕ, suc, ◌+◌, ◌-◌, ◌*◌, ◌<◌, ◌≤◌, ◌^◌, List, [], ◌∷◌, length, refl, arith, ap}
+use Rattle.std.specs.Prelude.{true, pos, negsuc, decimal}
 use Rattle.std.proofs.lemmas.Int.{ints}
 use Rattle.std.proofs.lemmas.Bool.{and_parts, and_from, le-leb}
 use Rattle.std.proofs.lemmas.Fmt.{decimal_nonempty, digits_decimal, digits_value-decimal}
 use Rattle.std.proofs.lemmas.Str.Parse.{FoldsDigits, IsDigitsTest, IsNumeralModel, numerals_by_fold}
-use Rattle.fz_ast.specs.Limits.{IsNumber}
 use Rattle.fz_lexer.specs.Bytes.{begins, every_byte, is_digit, value_from}
 use Rattle.fz_lexer.proofs.Runs.{digit_range}
 use Rattle.release_texts.specs.Fronts.{AreDigitsOf, below, plain}

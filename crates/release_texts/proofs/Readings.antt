@@ -1,14 +1,13 @@
 -- Reading keeps what tokens are, wherever they stand and whatever lies below on the stack.
-use Rattle.std.proofs.Common.{◌≡◌, ℕ, zero, suc, ◌+◌, ◌<◌, ◌≤◌, List, [], ◌∷◌, ◌++◌, Bool, true, false, get_or, refl, arith, sym, ap, ◌∙◌, subst, drop, length}
-use Rattle.std.specs.Prelude.{◌&&◌, nat_eq, map, ℤ, pos, neg_ℤ}
-use Rattle.std.proofs.lemmas.Bool.{and_parts, eqb-true}
-use Rattle.fz_frac.specs.Distance.{Distance, Fin, Inf}
+use Rattle.std.proofs.Common.{◌≡◌, ℕ, zero, suc, ◌<◌, ◌≤◌, List, [], ◌∷◌, ◌++◌, true, get_or, refl, arith, sym, ap, ◌∙◌, subst, drop, length}
+use Rattle.std.specs.Prelude.{map, ℤ}
+use Rattle.std.proofs.lemmas.Bool.{and_parts}
+use Rattle.fz_frac.specs.Distance.{Distance}
 use Rattle.fz_ast.specs.declared.span.Span.{Span}
-use Rattle.fz_ast.specs.Types.{Ty, UnitT}
-use Rattle.fz_ast.specs.Terms.{Term, TermForm, at, LetE, NumE, UnitE}
+use Rattle.fz_ast.specs.Types.{Ty}
+use Rattle.fz_ast.specs.Terms.{Term}
 use Rattle.fz_ast.specs.Bare.{bare, nowhere}
 use Rattle.fz_lexer.specs.declared.token.Token.{Token}
-use Rattle.fz_lexer.specs.declared.token.Kind.{Kind}
 use Rattle.fz_parser.specs.declared.grammar.Item.{Item}
 use Rattle.fz_parser.specs.declared.grammar.Item.TheVariants.{Take, Read, Make}
 use Rattle.fz_parser.specs.declared.grammar.Terminal.{Terminal}
@@ -27,11 +26,10 @@ use Rattle.fz_ast.specs.declared.term.Ranged.TheVariants.{Sum as SumRanged, Clip
 use Rattle.fz_ast.specs.declared.term.Side.TheVariants.{Inl, Inr}
 use Rattle.fz_ast.specs.declared.term.Unary.TheVariants.{Fst, Snd, Least, Greatest, Size}
 use Rattle.fz_ast.specs.declared.term.Binary.TheVariants.{Pair, With, App, Plus, Minus, AtMost, Equal, Union, Map, Filter, Split}
-use Rattle.fz_parser.specs.Table.{rule_count}
-use Rattle.fz_parser.specs.Parts.{StackPart, What, State, BegunPart, NamePart, NumberPart, PositivePart, TextPart, IntegerPart, FactorPart, TypePart, TermPart, takes, arity, shift, build, token_parts, nothing, part, in_name, in_number, in_positive, in_text, in_integer, in_factor, in_span, in_type, in_term, start_at, whole, made}
-use Rattle.fz_parser.specs.Grammar.{Fits, head, body, empty}
-use Rattle.fz_parser.specs.Reads.{ReadsIn, Reads}
-use Rattle.fz_parser.specs.Tests.{begins_with, fine}
+use Rattle.fz_parser.specs.Parts.{StackPart, What, State, BegunPart, NamePart, NumberPart, PositivePart, TextPart, IntegerPart, FactorPart, TypePart, TermPart, takes, arity, shift, build, nothing, part, in_name, in_number, in_positive, in_text, in_integer, in_factor, in_span, in_type, in_term, start_at, whole, made}
+use Rattle.fz_parser.specs.Grammar.{body}
+use Rattle.fz_parser.specs.Reads.{ReadsIn}
+use Rattle.fz_parser.specs.Tests.{begins_with}
 use Rattle.fz_parser.specs.Steps.{sorts_of, sorts, Sound}
 use Rattle.fz_parser.proofs.Machine.{sound_act, sound_rule, sound_token}
 use Rattle.release_texts.specs.Bared.{bare_part, bare_token, bare_tokens, bare_what}

@@ -1,14 +1,11 @@
 -- What the tokens of a release's text are.
-use Rattle.std.proofs.Common.{◌≡◌, ℕ, zero, suc, ◌+◌, ◌^◌, ◌<◌, ◌≤◌, List, [], ◌∷◌, ◌++◌, refl, arith, sym, ap, ◌∙◌, subst, length, append-nil}
-use Rattle.std.specs.Prelude.{ℤ, pos, negsuc, map}
+use Rattle.std.proofs.Common.{◌≡◌, ℕ, suc, ◌^◌, ◌<◌, ◌≤◌, List, [], ◌∷◌, ◌++◌, refl, arith, sym, ap, ◌∙◌, subst, length, append-nil}
+use Rattle.std.specs.Prelude.{ℤ, pos, negsuc}
 use Rattle.std.proofs.lemmas.Int.{ints}
-use Rattle.fz_ast.specs.declared.span.Span.{Span}
 use Rattle.fz_ast.specs.Limits.{IsNumber}
 use Rattle.fz_ast.specs.Terms.{Term, at, LetE, NumE}
 use Rattle.fz_ast.specs.Bare.{bare, nowhere}
 use Rattle.fz_lexer.specs.declared.token.Token.{Token}
-use Rattle.fz_lexer.specs.declared.token.Word.TheVariants.{Let, In}
-use Rattle.fz_lexer.specs.declared.token.Sign.TheVariants.{Is, Minus}
 use Rattle.fz_parser.specs.declared.grammar.Item.{Item}
 use Rattle.fz_parser.specs.declared.grammar.Item.TheVariants.{Take, Read, Make}
 use Rattle.fz_parser.specs.declared.grammar.Terminal.{Terminal}
@@ -20,14 +17,14 @@ use Rattle.fz_parser.specs.Table.{rules, rule_count}
 use Rattle.fz_parser.specs.Parts.{StackPart, What, State, BegunPart, NamePart, NumberPart, PositivePart, TextPart, IntegerPart, FactorPart, TypePart, TermPart, sort_of, term, takes, arity, shift, build, in_term, part}
 use Rattle.fz_parser.specs.Grammar.{Fits, head, body, empty, only, IsTerm}
 use Rattle.fz_parser.specs.Reads.{Reads}
-use Rattle.fz_parser.specs.Printer.{word, sign, name_token, number_token, written_integer}
+use Rattle.fz_parser.specs.Printer.{written_integer}
 use Rattle.fz_parser.specs.Steps.{START, sorts, sorts_of}
 use Rattle.fz_parser.proofs.Cutting.{join, one}
 use Rattle.fz_parser.proofs.Machine.{reads_of, sound_start, term_goal}
 use Rattle.fz_parser.proofs.Phrases.{gives_term}
 use Rattle.fz_parser.proofs.Words.{one_left}
 use Rattle.release_texts.proofs.Readings.{onto, reads_back, reads_onto}
-use Rattle.release_texts.specs.Bared.{bare_part, bare_tokens}
+use Rattle.release_texts.specs.Bared.{bare_tokens}
 use Rattle.release_texts.specs.Releases.{OneAnswerMore, PlacesChangeNoTerm, let_in}
 
 in_what : (w : What) → sort_of w ≡ 8 → (e : Term) × (w ≡ TermPart e)

@@ -1,6 +1,6 @@
 -- What stands between two tokens.
-use Rattle.std.proofs.Common.{◌≡◌, ℕ, zero, suc, ◌+◌, ◌<◌, ◌≤◌, List, [], ◌∷◌, ◌++◌, true, refl, arith, sym, ap, ◌∙◌, subst, inl, inr, length, length-append, append_assoc, append-nil}
-use Rattle.std.specs.Prelude.{◌⊎◌, ◌&&◌, Bool, false}
+use Rattle.std.proofs.Common.{◌≡◌, ℕ, ◌+◌, ◌<◌, ◌≤◌, List, [], ◌∷◌, ◌++◌, true, refl, arith, sym, ap, ◌∙◌, subst, inl, inr, length, length-append, append_assoc, append-nil}
+use Rattle.std.specs.Prelude.{Bool, false}
 use Rattle.std.proofs.lemmas.Bool.{and_parts, cases_lt}
 use Rattle.fz_ast.specs.Bare.{nowhere}
 use Rattle.fz_lexer.specs.declared.token.Token.{Token}
@@ -8,12 +8,12 @@ use Rattle.fz_lexer.specs.declared.token.Kind.{Kind}
 use Rattle.fz_lexer.specs.declared.token.Sign.{Sign}
 use Rattle.fz_lexer.specs.declared.token.Sign.TheVariants.{Yields, Arrow, Lollipop, AtMost, EqualTo, LeftParenthesis, RightParenthesis, LeftAngle, RightAngle, LeftBracket, RightBracket, Comma, Colon, Is, Bang, Bar, Plus, Minus, Star, Ampersand, Slash}
 use Rattle.fz_lexer.specs.Bytes.{every_byte, is_blank, is_letter, is_name_byte, stops}
-use Rattle.fz_lexer.specs.Signs.{IsLongest, SpellsSign, mark, may_follow}
-use Rattle.fz_lexer.specs.Tokens.{AreTokens, Cut, IsNameToken, IsNumberToken, IsSignToken, IsTextToken, IsToken}
+use Rattle.fz_lexer.specs.Signs.{SpellsSign, mark, may_follow}
+use Rattle.fz_lexer.specs.Tokens.{Cut, IsToken}
 use Rattle.fz_lexer.proofs.Prefixes.{of_sort}
 use Rattle.fz_lexer.proofs.Runs.{sort, sort_of, token_start}
 use Rattle.release_texts.specs.Bared.{bare_tokens}
-use Rattle.release_texts.specs.Slices.{SlicesHaveTheirTokens, Stands}
+use Rattle.release_texts.specs.Slices.{SlicesHaveTheirTokens}
 
 abbrev token : Kind → ℕ → ℕ → Token
 token k f t = record { kind = k; span = record { from = f; to = t } }

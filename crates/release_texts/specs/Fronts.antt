@@ -1,5 +1,5 @@
 -- The bytes of a release's text: one earlier answer more in front.
-use Rattle.std.specs.Prelude.{ℕ, ℤ, pos, negsuc, suc, true, List, [], ◌∷◌, ◌++◌, ◌≤◌, ◌≡◌, ◌^◌, length, codes}
+use Rattle.std.specs.Prelude.{ℕ, ℤ, pos, negsuc, suc, true, List, ◌∷◌, ◌++◌, ◌≤◌, ◌≡◌, ◌^◌, length, codes}
 use Rattle.fz_lexer.specs.declared.token.Token.{Token}
 use Rattle.fz_lexer.specs.declared.token.Word.{Word}
 use Rattle.fz_lexer.specs.Bytes.{begins, every_byte, is_digit, is_letter, is_name_byte, value_from}

@@ -1,5 +1,5 @@
 -- An answer as a release's text has it.
-use Rattle.std.specs.Prelude.{ℤ, decimal}
+use Rattle.std.specs.Prelude.{ℤ}
 use Rattle.std.specs.Fmt.{signed_decimal}
 use Rattle.fz_ast.specs.Limits.{IsNumber}
 use Rattle.release_texts.specs.Fronts.{Spells}
