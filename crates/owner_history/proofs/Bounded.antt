@@ -89,7 +89,7 @@ module _ (tables : Signature) (partitions : List PartitionEntry) (rows other : D
   counted_bounded entry records source r c true counts = outcome_bounded r.view r.e r.p r.q source.program (outcome_of records r.number) c
   counted_bounded entry records source r c false skips = (
     0,
-    subst (λ (o : Option Outcome). IsDisplacedIf (signature_in tables partitions r.view) (rows_in partitions r.view rows) (rows_in partitions r.view other) r.e source o 0)
+    subst (λ (o : Option Outcome). IsDisplacedIf (signature_in tables partitions r.view) (rows_in partitions r.view rows) (rows_in partitions r.view other) r.e source.program o 0)
         (sym (exhausted_from entry (outcome_of records r.number) (back_from (comes_back entry (outcome_of records r.number)) skips))) refl,
     omega arith,
   )

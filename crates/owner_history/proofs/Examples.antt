@@ -23,7 +23,7 @@ use Rattle.wire_lines.specs.declared.refusal.MoneyRefusal.TheVariants.{JournalFu
 use Rattle.wire_lines.specs.declared.refusal.NumberRefusal.TheVariants.{Exhausted as NoNoise, Lost as NoAnswer}
 use Rattle.sha2.specs.Sha256.{sha256}
 use Rattle.answer_path.specs.OwnerHouse.Owner.{Owner}
-use Rattle.answer_path.specs.Query.{Query, plain_source}
+use Rattle.answer_path.specs.Query.{Query, Source, plain_source, source_of}
 use Rattle.answer_path.specs.Admission.{admission_of, HasValue}
 use Rattle.answer_path.specs.Program.{IsCharged}
 use Rattle.answer_path.specs.Noise.{noise_at}
@@ -225,7 +225,11 @@ not_the_epsilon h =
     omega (arith, other)
 
 not_the_program : IsBorneOut (plain_source [] ∷ []) (settled_as (Answered (pos 2))) (query_by 0 1000000) (answered 0 (pos 2) 1000000) → ⊥
-not_the_program h = let g = h 0 (Answered (pos 2)) refl in cc (g.source)
+not_the_program h =
+    let both : Some (plain_source []) ≡ Some (source_of (query_by 0 1000000)) = (h 0 (Answered (pos 2)) refl).source in
+    let same : plain_source [] ≡ source_of (query_by 0 1000000) = cc (both) in
+    let other : [] ≡ size_people = ap (λ (s : Source). s.program) same in
+    cc (other)
 
 -- the same of a query in a part of a made partition, behind which stands that partition's definition, and neither none nor another
 abbrev made_query : Query
@@ -235,7 +239,15 @@ granted_made : IsGranted (record of_size { made = Some (codes "d") } ∷ []) (se
 granted_made = record { reserved = reserved; numbered = refl; analyst = refl; view = refl; epsilon = refl; settled = refl; source = refl }
 
 not_without_definition : IsBorneOut (of_size ∷ []) (settled_as (Answered (pos 2))) made_query (answered 0 (pos 2) 1000000) → ⊥
-not_without_definition h = let g = h 0 (Answered (pos 2)) refl in cc (g.source)
+not_without_definition h =
+    let both : Some of_size ≡ Some (source_of made_query) = (h 0 (Answered (pos 2)) refl).source in
+    let same : of_size ≡ source_of made_query = cc (both) in
+    let other : None ≡ Some (codes "d") = ap (λ (s : Source). s.made) same in
+    cc (other)
 
-not_by_another_definition : IsBorneOut (record of_size { made = Some (codes "e") } ∷ []) (settled_as (Answered (pos 2))) made_query (answered 0 (pos 2) 1000000) → ⊥
-not_by_another_definition h = let g = h 0 (Answered (pos 2)) refl in cc (g.source)
+not_by_another_definition : IsBorneOut (record of_size { made = Some [] } ∷ []) (settled_as (Answered (pos 2))) made_query (answered 0 (pos 2) 1000000) → ⊥
+not_by_another_definition h =
+    let both : Some (record of_size { made = Some [] }) ≡ Some (source_of made_query) = (h 0 (Answered (pos 2)) refl).source in
+    let same : record of_size { made = Some [] } ≡ source_of made_query = cc (both) in
+    let other : Some [] ≡ Some (codes "d") = ap (λ (s : Source). s.made) same in
+    cc (other)

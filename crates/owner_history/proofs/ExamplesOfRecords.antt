@@ -1,5 +1,5 @@
 -- What sources explain and what is displaced, at worked records, and wrong ones refused.
-use Rattle.std.proofs.Common.{◌≡◌, ℕ, zero, suc, ◌*◌, List, [], ◌∷◌, Some, refl, subst, ◌∙◌, ap, pos, negsuc, arith}
+use Rattle.std.proofs.Common.{◌≡◌, ℕ, zero, suc, ◌*◌, List, [], ◌∷◌, Some, None, refl, subst, ◌∙◌, ap, pos, negsuc, arith}
 use Rattle.std.specs.Prelude.{slice_get}
 use Rattle.partition_charge.specs.declared.view.View.{View}
 use Rattle.partition_charge.specs.declared.view.View.TheVariants.{Whole, Part}
