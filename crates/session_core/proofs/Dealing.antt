@@ -1,5 +1,5 @@
 -- Blocks dealt to workers.
-use Rattle.std.proofs.Common.{◌≡◌, ℕ, zero, suc, ◌+◌, ◌-◌, ◌%◌, ◌<◌, ◌==◌, Bool, true, false, cond, List, [], ◌∷◌, ◌++◌, length, refl, sym, ◌∙◌, ap, arith, nat_lt, mod-lt, lt-ltb, le-ltb}
+use Rattle.std.proofs.Common.{◌≡◌, ℕ, zero, suc, ◌+◌, ◌-◌, ◌%◌, ◌<◌, ◌==◌, Bool, true, false, cond, List, [], ◌∷◌, ◌++◌, length, refl, sym, ◌∙◌, ap, arith, nat_lt, mod-lt, lt-ltb, le-ltb, ltb-true, ltb-false}
 use Rattle.std.specs.Prelude.{if◌then◌else◌, ⊤}
 use Rattle.std.specs.List.{flat_map, onto_first}
 use Rattle.wire_lines.specs.Lines.{lines_of}
@@ -10,7 +10,7 @@ use Rattle.session_core.specs.Turns.{Turn, is_bye, blocks_of, turns_from, who_be
 use Rattle.session_core.specs.Blocks.{AreDealt, behind_block, crew_of, first_block, own_blocks, script_blocks}
 use Rattle.session_core.specs.Gathered.{part_of}
 use Rattle.session_core.proofs.FirstBlocks.{blocks_cut}
-use Rattle.session_core.proofs.Turning.{behind_bye}
+use Rattle.session_core.proofs.Turning.{behind_bye, turn_by}
 use Rattle.session_core.proofs.Turns.{block_lines}
 
 module _ {X : Type 0} (crew : ℕ → ℕ) (i : ℕ) where
@@ -82,42 +82,58 @@ abbrev StaysOn : (crew : ℕ → ℕ) → (at : ℕ) → List (List ℕ) → Typ
 StaysOn crew at [] = ⊤
 StaysOn crew at (line ∷ lines) = (is_bye line ≡ false → 0 < length lines → crew (at + 1) ≡ crew at) × StaysOn crew (at + 1) lines
 
-crew_first : {A : Type 0} (count k : ℕ) (x : A) (block : List A) (blocks : List (List A)) → crew_of count k ((x ∷ block) ∷ blocks) 0 ≡ k % count
-crew_first count k x block blocks = refl
-
-crew_next : {A : Type 0} (count k : ℕ) (x : A) (block : List A) (blocks : List (List A)) (p : ℕ) → crew_of count k ((x ∷ block) ∷ blocks) (1 + p) ≡ crew_of count k (block ∷ blocks) p
-crew_next count k x block blocks p = refl
-
--- a block's first line
-first_goes : (line : List ℕ) (lines : List (List ℕ)) → (block : List (List ℕ)) × (first_block (line ∷ lines) ≡ line ∷ block)
-first_goes line lines = here (is_bye line)
+-- the worker at the next place, where the first block has a line more
+crew_next : {A : Type 0} (count k : ℕ) (x : A) (block : List A) (blocks : List (List A)) (p : ℕ) → crew_of count k ((x ∷ block) ∷ blocks) (suc p) ≡ crew_of count k (block ∷ blocks) p
+crew_next count k x block blocks p = by (nat_lt p (length block)) refl
   where
-    here : (b : Bool) → (block : List (List ℕ)) × (cond b (line ∷ []) (line ∷ first_block lines) ≡ line ∷ block)
-    here true = ([], refl)
-    here false = (first_block lines, refl)
+    by : (b : Bool) → nat_lt p (length block) ≡ b → crew_of count k ((x ∷ block) ∷ blocks) (suc p) ≡ crew_of count k (block ∷ blocks) p
+    by true hit =
+        let less = ltb-true p (length block) hit in
+        crew_here count k (x ∷ block) blocks (suc p) (omega (arith, less)) ∙ sym (crew_here count k block blocks p less)
+    by false miss =
+        let more = ltb-false p (length block) miss in
+        let q : ℕ = p - length block in
+        let far : suc p ≡ length (x ∷ block) + q = omega (arith, more) in
+        let near : p ≡ length block + q = omega (arith, more) in
+        ap (crew_of count k ((x ∷ block) ∷ blocks)) far ∙ crew_later count k (x ∷ block) blocks q
+        ∙ sym (crew_later count k block blocks q) ∙ sym (ap (crew_of count k (block ∷ blocks)) near)
+
+-- a block has a line
+first_long : (line : List ℕ) (lines : List (List ℕ)) → 0 < length (first_block (line ∷ lines))
+first_long line lines = here (is_bye line)
+  where
+    here : (b : Bool) → 0 < length (cond b (line ∷ []) (line ∷ first_block lines))
+    here true = omega arith
+    here false = omega arith
+
+-- one line, by whether it ends its block
+line_stays : (crew : ℕ → ℕ) (count k at : ℕ) (line : List ℕ) (lines : List (List ℕ))
+    → ((j : ℕ) → ((p : ℕ) → crew (at + 1 + p) ≡ crew_of count j (blocks_of lines) p) → StaysOn crew (at + 1) lines)
+    → (b : Bool) → is_bye line ≡ b → ((p : ℕ) → crew (at + p) ≡ crew_of count k (cond b ((line ∷ []) ∷ blocks_of lines) (onto_first line (blocks_of lines))) p)
+    → (is_bye line ≡ false → 0 < length lines → crew (at + 1) ≡ crew at) × StaysOn crew (at + 1) lines
+line_stays crew count k at line lines rest true end each = (
+  λ other more. absurd (cc (end, other)),
+  rest (k + 1) (λ p. let next : at + 1 + p ≡ at + (length (line ∷ []) + p) = omega arith in ap crew next ∙ each (length (line ∷ []) + p) ∙ crew_later count k (line ∷ []) (blocks_of lines) p),
+)
+line_stays crew count k at line [] rest false end each = (λ other more. absurd (omega (arith, more)), tt)
+line_stays crew count k at line (next ∷ ls) rest false end each =
+    let block : List (List ℕ) = first_block (next ∷ ls) in
+    let others : List (List (List ℕ)) = blocks_of (behind_block (next ∷ ls)) in
+    let cut : blocks_of (next ∷ ls) ≡ block ∷ others = blocks_cut next ls in
+    let onto : (p : ℕ) → crew (at + p) ≡ crew_of count k ((line ∷ block) ∷ others) p
+    = λ p. each p ∙ ap (λ (bs : List (List (List ℕ))). crew_of count k (onto_first line bs) p) cut in
+    let zeroth : at ≡ at + 0 = omega arith in
+    let here : crew at ≡ k % count = ap crew zeroth ∙ onto 0 ∙ crew_here count k (line ∷ block) others 0 (omega arith) in
+    let there : crew (at + 1) ≡ k % count = onto 1 ∙ crew_here count k (line ∷ block) others 1 (omega (arith, first_long next ls)) in (
+      λ other more. there ∙ sym here,
+      rest k (λ p.
+          let further : at + 1 + p ≡ at + suc p = omega arith in
+          ap crew further ∙ onto (suc p) ∙ crew_next count k line block others p ∙ sym (ap (λ (bs : List (List (List ℕ))). crew_of count k bs p) cut)),
+    )
 
 stays_on : (crew : ℕ → ℕ) (count k at : ℕ) (lines : List (List ℕ)) → ((p : ℕ) → crew (at + p) ≡ crew_of count k (blocks_of lines) p) → StaysOn crew at lines
 stays_on crew count k at [] each = tt
-stays_on crew count k at (line ∷ lines) each = by (is_bye line) refl lines each
-  where
-    -- where the line ends its block, and where it doesn't
-    by : (b : Bool) → is_bye line ≡ b → (ls : List (List ℕ)) → ((p : ℕ) → crew (at + p) ≡ crew_of count k (cond b ((line ∷ []) ∷ blocks_of ls) (onto_first line (blocks_of ls))) p)
-        → (is_bye line ≡ false → 0 < length ls → crew (at + 1) ≡ crew at) × StaysOn crew (at + 1) ls
-    by true end ls each =
-        (λ other more. absurd (cc (end, other)), stays_on crew count (k + 1) (at + 1) ls (λ p. let next : at + 1 + p ≡ at + (1 + p) = omega arith in ap crew next ∙ each (1 + p) ∙ crew_later count k (line ∷ []) (blocks_of ls) p))
-    by false end [] each = (λ other more. absurd (omega (arith, more)), tt)
-    by false end (next ∷ ls) each =
-        let cut : blocks_of (next ∷ ls) ≡ first_block (next ∷ ls) ∷ blocks_of (behind_block (next ∷ ls)) = blocks_cut next ls in
-        let onto : (p : ℕ) → crew (at + p) ≡ crew_of count k ((line ∷ first_block (next ∷ ls)) ∷ blocks_of (behind_block (next ∷ ls))) p
-        = λ p. each p ∙ ap (λ (bs : List (List (List ℕ))). crew_of count k (onto_first line bs) p) cut in
-        let begins = first_goes next ls in
-        let zeroth : at + 0 ≡ at = omega arith in
-        let here : crew at ≡ k % count = ap crew (sym zeroth) ∙ onto 0 in
-        let there : crew (at + 1) ≡ k % count = onto 1 ∙ ap (λ (b : List (List ℕ)). crew_of count k (b ∷ blocks_of (behind_block (next ∷ ls))) 0) begins.1 in (
-          λ other more. there ∙ sym here,
-          stays_on crew count k (at + 1) (next ∷ ls)
-              (λ p. let next_at : at + 1 + p ≡ at + (1 + p) = omega arith in ap crew next_at ∙ onto (1 + p) ∙ sym (ap (λ (bs : List (List (List ℕ))). crew_of count k bs p) cut)),
-        )
+stays_on crew count k at (line ∷ lines) each = line_stays crew count k at line lines (λ j more. stays_on crew count j (at + 1) lines more) (is_bye line) refl each
 
 -- who speaks among a worker's own lines: who speaks in the script, where the place is its own, and else nobody
 abbrev own_speaker : Bool → Speaker → Speaker
@@ -127,30 +143,30 @@ module _ (house : House) (crew : ℕ → ℕ) (i : ℕ) where
   one_dealt : (who mine next : Speaker) (line : List ℕ) (reply : Replied) (turns : List Turn) (lines : List (List ℕ)) (replies : List Replied) (own : Bool)
       → mine ≡ own_speaker own who → who_behind house who line reply ≡ next → turns ≡ turns_from house (own_speaker own next) lines replies
       → (if own then record { who = who; line = line } ∷ turns else turns) ≡ turns_from house mine (if own then line ∷ lines else lines) (if own then reply ∷ replies else replies)
-  one_dealt who mine next line reply turns lines replies true is then rest =
-      ap (λ (ts : List Turn). ◌∷◌ {A = Turn} (record { who = who; line = line }) ts) (rest ∙ ap (λ (w : Speaker). turns_from house w lines replies) (sym then))
-      ∙ ap (λ (w : Speaker). ◌∷◌ {A = Turn} (record { who = w; line = line }) (turns_from house (who_behind house w line reply) lines replies)) (sym is)
-  one_dealt who mine next line reply turns lines replies false is then rest = rest ∙ ap (λ (w : Speaker). turns_from house w lines replies) (sym is)
+  one_dealt who mine next line reply turns lines replies true is leads rest =
+      ap (λ (ts : List Turn). turn_by who line ∷ ts) (rest ∙ ap (λ (w : Speaker). turns_from house w lines replies) (sym leads))
+      ∙ ap (λ (w : Speaker). turn_by w line ∷ turns_from house (who_behind house w line reply) lines replies) (sym is)
+  one_dealt who mine next line reply turns lines replies false is leads rest = rest ∙ ap (λ (w : Speaker). turns_from house w lines replies) (sym is)
 
   -- the same where no replies are left
   last_dealt : (who mine next : Speaker) (line : List ℕ) (turns : List Turn) (lines : List (List ℕ)) (own : Bool)
       → mine ≡ own_speaker own who → who_behind house who line ended ≡ next → turns ≡ turns_from house (own_speaker own next) lines []
       → (if own then record { who = who; line = line } ∷ turns else turns) ≡ turns_from house mine (if own then line ∷ lines else lines) []
-  last_dealt who mine next line turns lines true is then rest =
-      ap (λ (ts : List Turn). ◌∷◌ {A = Turn} (record { who = who; line = line }) ts) (rest ∙ ap (λ (w : Speaker). turns_from house w lines []) (sym then))
-      ∙ ap (λ (w : Speaker). ◌∷◌ {A = Turn} (record { who = w; line = line }) (turns_from house (who_behind house w line ended) lines [])) (sym is)
-  last_dealt who mine next line turns lines false is then rest = rest ∙ ap (λ (w : Speaker). turns_from house w lines []) (sym is)
+  last_dealt who mine next line turns lines true is leads rest =
+      ap (λ (ts : List Turn). turn_by who line ∷ ts) (rest ∙ ap (λ (w : Speaker). turns_from house w lines []) (sym leads))
+      ∙ ap (λ (w : Speaker). turn_by w line ∷ turns_from house (who_behind house w line ended) lines []) (sym is)
+  last_dealt who mine next line turns lines false is leads rest = rest ∙ ap (λ (w : Speaker). turns_from house w lines []) (sym is)
 
   -- who speaks next, by the line's worker and by the next line's
-  next_own : (next : Speaker) (line : List ℕ) (own then : Bool) → (is_bye line ≡ true → next ≡ no_speaker) → (is_bye line ≡ false → own ≡ then) → own_speaker own next ≡ own_speaker then next
-  next_own next line own then ends goes = here (is_bye line) refl
+  next_own : (next : Speaker) (line : List ℕ) (own later : Bool) → (is_bye line ≡ true → next ≡ no_speaker) → (is_bye line ≡ false → own ≡ later) → own_speaker own next ≡ own_speaker later next
+  next_own next line own later ends goes = here (is_bye line) refl
     where
       nobody : (b : Bool) → next ≡ no_speaker → own_speaker b next ≡ no_speaker
       nobody true is = is
       nobody false is = refl
 
-      here : (b : Bool) → is_bye line ≡ b → own_speaker own next ≡ own_speaker then next
-      here true end = nobody own (ends end) ∙ sym (nobody then (ends end))
+      here : (b : Bool) → is_bye line ≡ b → own_speaker own next ≡ own_speaker later next
+      here true end = nobody own (ends end) ∙ sym (nobody later (ends end))
       here false goes_on = ap (λ (b : Bool). own_speaker b next) (goes goes_on)
 
   -- A worker's turns are those of its own lines, by the replies to them.
@@ -168,22 +184,23 @@ module _ (house : House) (crew : ℕ → ℕ) (i : ℕ) where
       (turns_dealt (at + 1) lines replies next (own_speaker (crew at == i) next) stays.1
       (λ more. next_own next line (crew at == i) (crew (at + 1) == i) (behind_bye house who line reply) (λ other. ap (λ (c : ℕ). c == i) (sym (stays.0 other more)))))
 
--- A script's blocks may be dealt to any number of workers.
-pub script_dealt : (house : House) (script : List ℕ) (count : ℕ) → 0 < count → AreDealt house script count
-script_dealt house script count some = record {
-  crews = λ at. crew_below count 0 (script_blocks script) at some;
-  lines = λ i. ap (part_of crew i 0) (sym (block_lines (lines_of script)))
-      ∙ dealt count i 0 (λ (block : List (List ℕ)). block) (λ block. refl) crew 0 (script_blocks script) from_first;
-  parts = λ i replies. turns_dealt house crew i 0 (lines_of script) replies no_speaker no_speaker
-      (stays_on crew count 0 0 (lines_of script) from_first) (λ more. either (crew 0 == i));
-}
-  where
-    abbrev crew : ℕ → ℕ
-    crew = crew_of count 0 (script_blocks script)
+module _ (script : List ℕ) (count : ℕ) where
+  abbrev crew : ℕ → ℕ
+  crew = crew_of count 0 (script_blocks script)
 
-    from_first : (p : ℕ) → crew (0 + p) ≡ crew p
-    from_first p = let same : 0 + p ≡ p = omega arith in ap crew same
+  from_first : (p : ℕ) → crew (0 + p) ≡ crew p
+  from_first p = let same : 0 + p ≡ p = omega arith in ap crew same
 
-    either : (b : Bool) → no_speaker ≡ own_speaker b no_speaker
-    either true = refl
-    either false = refl
+  nobody_first : (b : Bool) → no_speaker ≡ own_speaker b no_speaker
+  nobody_first true = refl
+  nobody_first false = refl
+
+  -- A script's blocks may be dealt to any number of workers.
+  pub script_dealt : (house : House) → 0 < count → AreDealt house script count
+  script_dealt house some = record {
+    crews = λ at. crew_below count 0 (script_blocks script) at some;
+    lines = λ i. ap (part_of crew i 0) (sym (block_lines (lines_of script)))
+        ∙ dealt count i 0 (λ (block : List (List ℕ)). block) (λ block. refl) crew 0 (script_blocks script) from_first;
+    parts = λ i replies. turns_dealt house crew i 0 (lines_of script) replies no_speaker no_speaker
+        (stays_on crew count 0 0 (lines_of script) from_first) (λ more. nobody_first (crew 0 == i));
+  }

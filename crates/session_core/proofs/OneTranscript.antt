@@ -22,6 +22,10 @@ record AreBoth (house : House) (draws : ℕ → ℕ → ℕ → ℕ) (o start : 
   first : LeadExactly house draws o start seen xs last
   second : LeadExactly house draws o start seen ys end
 
+-- a first turn, and those behind it
+cut_turn : (a b : Turn) (xs ys : List Turn) → ◌≡◌ {A = List Turn} (a ∷ xs) (b ∷ ys) → (a ≡ b) × (xs ≡ ys)
+cut_turn a b xs ys is = (cc (is), cc (is))
+
 module _ (house : House) (draws : ℕ → ℕ → ℕ → ℕ) (start : ℕ → ℕ) (last end : Journals) where
   abbrev Both : List Exchange → List Exchange → Type 0
   Both xs ys = (o : ℕ) (owner : Owner) → slice_get house.owners o ≡ Some owner → AreBoth house draws o (start o) xs ys (last o) (end o)
@@ -72,11 +76,12 @@ module _ (house : House) (draws : ℕ → ℕ → ℕ → ℕ) (start : ℕ → 
   turns_once who (line ∷ lines) [] ys turns other f g had has both = absurd (cc (turns))
   turns_once who (line ∷ lines) (x ∷ xs) [] turns other f g had has both = absurd (cc (other))
   turns_once who (line ∷ lines) (x ∷ xs) (y ∷ ys) turns other f g had has both =
-      let here : x.turn ≡ record { who = who; line = line } = cc (turns) in
-      let there : y.turn ≡ record { who = who; line = line } = cc (other) in
-      let same : x.turn ≡ y.turn = here ∙ sym there in
-      let rest : AreOfLines house (who_behind house who line x.reply) lines xs = cc (turns) in
-      let others : AreOfLines house (who_behind house who line y.reply) lines ys = cc (other) in
+      let first : Turn = record { who = who; line = line } in
+      let both = cut_turn x.turn first (map (λ (z : Exchange). z.turn) xs) (turns_from house (who_behind house who line x.reply) lines (map (λ (z : Exchange). z.reply) xs)) turns in
+      let also = cut_turn y.turn first (map (λ (z : Exchange). z.turn) ys) (turns_from house (who_behind house who line y.reply) lines (map (λ (z : Exchange). z.reply) ys)) other in
+      let same : x.turn ≡ y.turn = both.0 ∙ sym also.0 in
+      let rest : AreOfLines house (who_behind house who line x.reply) lines xs = both.1 in
+      let others : AreOfLines house (who_behind house who line y.reply) lines ys = also.1 in
       let m : Meant = meant_at house x.turn in
       let is : meant_at house y.turn ≡ m = ap (meant_at house) (sym same) in
       let has_one : NothingFailedFor (WantsTooManyWalks m) y.reply = subst (λ (k : Meant). NothingFailedFor (WantsTooManyWalks k) y.reply) is has.0 in

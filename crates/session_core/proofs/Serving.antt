@@ -2,6 +2,7 @@
 use Rattle.std.proofs.Common.{◌≡◌, ℕ, ◌+◌, ◌<◌, ◌≤◌, ◌==◌, Bool, true, false, List, [], ◌∷◌, ◌++◌, length, map, set, refl, sym, ◌∙◌, ap, subst, arith, append-nil, append_assoc, length-append}
 use Rattle.std.proofs.Common.{eq-eqb, eqb-true, length-set, get_or-set_same, get_or-set_other}
 use Rattle.std.specs.Prelude.{if◌then◌else◌, MatchBool}
+use Rattle.std.specs.List.{flat_map}
 use Rattle.std.proofs.lemmas.List.Sums.{sum_by-cons}
 use Rattle.std.proofs.lemmas.List.{length-map, map-append}
 use Rattle.std.proofs.lemmas.List.Concat.{flat_map-append}
@@ -20,7 +21,7 @@ use Rattle.session_core.specs.Exchanges.{Exchange, IsPlain, TurnLeads, Lead, is_
 use Rattle.session_core.specs.Served.{MeetsOnSome, AnswersOn, ShutsFor}
 use Rattle.session_core.specs.Code.{no_pass, pass_at, ArePasses, GoesOn, AreServed, HasServed, room_for_line, room_for_lines}
 use Rattle.session_core.proofs.Exchanges.{all_append, lead_append}
-use Rattle.session_core.proofs.Turning.{lines_append, of_length, who_append}
+use Rattle.session_core.proofs.Turning.{lines_append, of_length, turn_by, who_append}
 
 -- room for a line's reply, and for those of the lines behind it
 pub room_next : (line : List ℕ) (lines : List (List ℕ)) → room_for_lines (line ∷ lines) ≡ room_for_line (length line) + room_for_lines lines
@@ -149,18 +150,6 @@ module _ (house : House) (draws : ℕ → ℕ → ℕ → ℕ) where
   pub written_none : (a : List Pass) → HasServed house draws [] [] a a
   written_none a = record { exchanges = []; turns_are = refl; written = refl; served = none_served house draws a }
 
-  -- .. and for one more
-  pub written_next : (lines : List (List ℕ)) (text : List ℕ) (x : Exchange) (a b c : List Pass) → (f : HasServed house draws lines text a b)
-      → x.turn.who ≡ who_after house no_speaker lines (map (λ (y : Exchange). y.reply) f.exchanges) → AreServed house draws (x ∷ []) b c
-      → HasServed house draws (lines ++ x.turn.line ∷ []) (text ++ reply_text x.reply) a c
-  written_next lines text x a b c f speaks served = record {
-    exchanges = f.exchanges ++ x ∷ [];
-    turns_are = lines_append house no_speaker lines (x.turn.line ∷ []) f.exchanges (x ∷ []) f.turns_are
-        (ap (λ (w : Speaker). ◌∷◌ {A = Turn} (record { who = w; line = x.turn.line }) []) speaks);
-    written = cc (f.written, append-nil (reply_text x.reply), flat_map-append reply_text (map (λ (y : Exchange). y.reply) f.exchanges) (x.reply ∷ []), map-append (λ (y : Exchange). y.reply) f.exchanges (x ∷ []));
-    served = served_append house draws f.exchanges (x ∷ []) a b c f.served served;
-  }
-
 -- a block that is answered but for the lines that are left of it, and fits its room
 pub record IsUpTo (house : House) (draws : ℕ → ℕ → ℕ → ℕ) (block left : List (List ℕ)) (who : Speaker) (text : List ℕ) (before now : List Pass) : Type 0 where
   pub done : List (List ℕ)
@@ -183,7 +172,16 @@ module _ (house : House) (draws : ℕ → ℕ → ℕ → ℕ) (block : List (Li
         done = up.done ++ x.turn.line ∷ [];
         all = append_assoc up.done (x.turn.line ∷ []) rest ∙ up.all;
         fits = omega (arith, up.fits, room_next x.turn.line rest, length-append text (reply_text x.reply), short);
-        served = written_next house draws up.done text x before now after up.served up.speaks served;
+        served = record {
+          exchanges = up.served.exchanges ++ x ∷ [];
+          turns_are = lines_append house no_speaker up.done (x.turn.line ∷ []) up.served.exchanges (x ∷ []) up.served.turns_are
+              (ap (λ (w : Speaker). turn_by w x.turn.line ∷ []) up.speaks);
+          written = ap (λ (t : List ℕ). t ++ reply_text x.reply) up.served.written
+              ∙ ap (λ (t : List ℕ). flat_map reply_text replies ++ t) (sym (append-nil (reply_text x.reply)))
+              ∙ sym (flat_map-append reply_text replies (x.reply ∷ []))
+              ∙ ap (flat_map reply_text) (sym (map-append (λ (y : Exchange). y.reply) up.served.exchanges (x ∷ [])));
+          served = served_append house draws up.served.exchanges (x ∷ []) before now after up.served.served served;
+        };
         speaks = behind ∙ ap (λ (w : Speaker). who_behind house w x.turn.line x.reply) up.speaks
             ∙ sym (who_append house no_speaker up.done (x.turn.line ∷ []) replies (x.reply ∷ []) long)
             ∙ ap (who_after house no_speaker (up.done ++ x.turn.line ∷ [])) (sym (map-append (λ (y : Exchange). y.reply) up.served.exchanges (x ∷ [])));

@@ -8,8 +8,14 @@ use Rattle.session_core.specs.Speakers.{Speaker, no_speaker}
 use Rattle.session_core.specs.Meant.{Meant, says, wants, meant_by, next_who}
 use Rattle.session_core.specs.Turns.{Turn, is_bye, turns_from, who_after, who_behind}
 use Rattle.session_core.specs.Exchanges.{Exchange, AreOfLines}
-use Rattle.session_core.specs.Code.{is_ended}
+use Rattle.session_core.specs.Code.{is_ended, speaker_next, IsAnalyst, IsNextIn}
+use Rattle.session_core.specs.declared.speaker.Next.{Next}
+use Rattle.session_core.specs.declared.speaker.Next.TheVariants.{Same, Analyst, Nobody}
 use Rattle.session_core.proofs.Wants.{line_cases}
+
+-- the turn of a line
+abbrev pub turn_by : Speaker → List ℕ → Turn
+turn_by who line = record { who = who; line = line }
 
 abbrev says_bye : Meant → Bool
 says_bye (says reply next) = is_ended reply
@@ -39,6 +45,12 @@ behind_bye house who line reply end = line_cases house line (λ m. next_who who 
   greets = λ name analyst within other. absurd (cc (end, other));
   demands = λ n owner demand of other. absurd (cc (end, other));
 })
+
+-- who speaks next is known
+pub speaker_known : (house : House) (who : Speaker) (next : Next) → IsAnalyst house who → IsNextIn house next → IsAnalyst house (speaker_next who next)
+speaker_known house who Same known is = known
+speaker_known house who (Analyst analyst) known is = is
+speaker_known house who Nobody known is = tt
 
 module _ (house : House) where
   pub turns_length : (who : Speaker) (lines : List (List ℕ)) (replies : List Replied) → length (turns_from house who lines replies) ≡ length lines

@@ -11,7 +11,7 @@ use Rattle.session_core.specs.Turns.{Turn, session_turns, blocks_of, turns_alone
 use Rattle.session_core.specs.Exchanges.{Exchange, AreOfLines, AreOfScript}
 use Rattle.session_core.specs.Blocks.{AreOfBlocks, script_blocks}
 use Rattle.session_core.specs.Code.{IsAnalyst}
-use Rattle.session_core.proofs.Turning.{after_bye, behind_bye, lines_append}
+use Rattle.session_core.proofs.Turning.{after_bye, behind_bye, lines_append, turn_by}
 use Rattle.session_core.proofs.Wants.{line_cases}
 
 lines_here : (house : House) (who : Speaker) (lines : List (List ℕ)) (replies : List Replied) → map (λ (t : Turn). t.line) (turns_from house who lines replies) ≡ lines
@@ -84,6 +84,18 @@ are_blocks (line ∷ lines) = either (is_bye line) refl (blocks_of lines) (are_b
       are.1,
     )
 
+-- what is behind a block begins with nobody
+behind_block : (house : House) (block : List (List ℕ)) (replies : List Replied) (bs : List (List (List ℕ))) (ps : List (List Exchange)) → (0 < length bs → EndsInBye block) → AreOfBlocks house bs ps
+    → AreOfLines house no_speaker (flat_map (λ (b : List (List ℕ)). b) bs) (flat_map (λ (ys : List Exchange). ys) ps)
+    → AreOfLines house (who_after house no_speaker block replies) (flat_map (λ (b : List (List ℕ)). b) bs) (flat_map (λ (ys : List Exchange). ys) ps)
+behind_block house block replies [] [] ends of all = refl
+behind_block house block replies [] (p ∷ ps) ends of all = absurd of
+behind_block house block replies (b ∷ bs) ps ends of all =
+    let e = ends (omega arith) in
+    let nobody : who_after house no_speaker block replies ≡ no_speaker
+    = ap (λ (ls : List (List ℕ)). who_after house no_speaker ls replies) e.is ∙ after_bye house no_speaker e.front e.last replies e.bye in
+    subst (λ (w : Speaker). AreOfLines house w (flat_map (λ (b : List (List ℕ)). b) (b ∷ bs)) (flat_map (λ (ys : List Exchange). ys) ps)) (sym nobody) all
+
 -- Sessions of blocks, put together, are of all their lines.
 pub blocks_joined : (house : House) (blocks : List (List (List ℕ))) (parts : List (List Exchange)) → AreBlocks blocks → AreOfBlocks house blocks parts
     → AreOfLines house no_speaker (flat_map (λ (b : List (List ℕ)). b) blocks) (flat_map (λ (xs : List Exchange). xs) parts)
@@ -92,21 +104,7 @@ blocks_joined house [] (xs ∷ parts) are of = absurd of
 blocks_joined house (block ∷ blocks) [] are of = absurd of
 blocks_joined house (block ∷ blocks) (xs ∷ parts) are of =
     lines_append house no_speaker block (flat_map (λ (b : List (List ℕ)). b) blocks) xs (flat_map (λ (ys : List Exchange). ys) parts) of.0
-    (rest blocks parts are.0 of.1 (blocks_joined house blocks parts are.1 of.1))
-  where
-    abbrev behind : Speaker
-    behind = who_after house no_speaker block (map (λ (x : Exchange). x.reply) xs)
-
-    rest : (bs : List (List (List ℕ))) (ps : List (List Exchange)) → (0 < length bs → EndsInBye block) → AreOfBlocks house bs ps
-        → AreOfLines house no_speaker (flat_map (λ (b : List (List ℕ)). b) bs) (flat_map (λ (ys : List Exchange). ys) ps)
-        → AreOfLines house behind (flat_map (λ (b : List (List ℕ)). b) bs) (flat_map (λ (ys : List Exchange). ys) ps)
-    rest [] [] ends of all = refl
-    rest [] (p ∷ ps) ends of all = absurd of
-    rest (b ∷ bs) ps ends of all =
-        let e = ends (omega arith) in
-        let nobody : behind ≡ no_speaker = ap (λ (ls : List (List ℕ)). who_after house no_speaker ls (map (λ (x : Exchange). x.reply) xs)) e.is
-        ∙ after_bye house no_speaker e.front e.last (map (λ (x : Exchange). x.reply) xs) e.bye in
-        subst (λ (w : Speaker). AreOfLines house w (flat_map (λ (b : List (List ℕ)). b) (b ∷ bs)) (flat_map (λ (ys : List Exchange). ys) ps)) (sym nobody) all
+    (behind_block house block (map (λ (x : Exchange). x.reply) xs) blocks parts are.0 of.1 (blocks_joined house blocks parts are.1 of.1))
 
 -- Where each block was answered as a session of its own, the exchanges are the script's.
 pub script_joined : (house : House) (script : List ℕ) (parts : List (List Exchange)) → AreOfBlocks house (script_blocks script) parts
@@ -131,10 +129,10 @@ module _ (house : House) (who : Speaker) (line : List ℕ) where
       → alone_from house who (cond b ((line ∷ []) ∷ blocks) (onto_first line blocks)) ≡ record { who = who; line = line } ∷ alone_from house next blocks
   alone_step next [] true ends goes = refl
   alone_step next (block ∷ blocks) true ends goes =
-      ap (λ (w : Speaker). ◌∷◌ {A = Turn} (record { who = who; line = line }) (session_turns house w block ++ flat_map (session_turns house no_speaker) blocks)) (sym (ends refl))
+      ap (λ (w : Speaker). turn_by who line ∷ session_turns house w block ++ flat_map (session_turns house no_speaker) blocks) (sym (ends refl))
   alone_step next [] false ends goes = refl
   alone_step next (block ∷ blocks) false ends goes =
-      ap (λ (w : Speaker). ◌∷◌ {A = Turn} (record { who = who; line = line }) (session_turns house w block ++ flat_map (session_turns house no_speaker) blocks)) (sym goes)
+      ap (λ (w : Speaker). turn_by who line ∷ session_turns house w block ++ flat_map (session_turns house no_speaker) blocks) (sym goes)
 
   alone_line : (lines : List (List ℕ)) (reply : Replied) → alone_from house who (blocks_of (line ∷ lines)) ≡ record { who = who; line = line } ∷ alone_from house (who_behind house who line reply) (blocks_of lines)
   alone_line lines reply = here (is_bye line) refl

@@ -79,17 +79,17 @@ module _ (house : House) (line : List ℕ) (P : Meant → Type 0) where
       let writes = written e refl in
       analyst_case who c who.analyst refl (λ analyst. wants subject.number subject.owner (asks (record { analyst = analyst; view = subject.view; e = e; program = program; made = None }))) other
       (λ analyst spoke.
-          let made : Query = record { analyst = analyst; view = subject.view; e = e; program = program; made = None } in
-          let of_made : IsAnalyst house who → IsAskOf house line subject.number subject.owner made
-          = λ known. record {
-            stands = of.stands;
-            part = of.part;
-            analyst = subst (λ (s : Option ℕ). IfSome s (λ (a : ℕ). a < length house.analysts)) spoke known;
-            epsilon = writes.0;
-            written = writes.1;
-          } in
-          c.demands subject.number subject.owner (asks made)
-          (of.stands, λ known query is. let same : made ≡ query = cc (is) in subst (IsAskOf house line subject.number subject.owner) same (of_made known)) other)
+      let made : Query = record { analyst = analyst; view = subject.view; e = e; program = program; made = None } in
+      let of_made : IsAnalyst house who → IsAskOf house line subject.number subject.owner made
+      = λ known. record {
+        stands = of.stands;
+        part = of.part;
+        analyst = subst (λ (s : Option ℕ). IfSome s (λ (a : ℕ). a < length house.analysts)) spoke known;
+        epsilon = writes.0;
+        written = writes.1;
+      } in
+      c.demands subject.number subject.owner (asks made)
+      (of.stands, λ known query is. let same : made ≡ query = cc (is) in subst (IsAskOf house line subject.number subject.owner) same (of_made known)) other)
 
   recall_case : (who : Speaker) → Cases who → (name : List ℕ) (number : ℕ) (found : Option (ℕ × Owner)) → owner_named house name ≡ found → is_bye line ≡ false
       → P (meant_by_recall who found number)

@@ -3,7 +3,7 @@
 ghost use Rattle.std.specs.Prelude.{◌≡◌, IfSome, IfOk, Some, ◌<◌, length};
 ghost use Rattle.budget_core.specs.Entries.{IsEpsilon};
 ghost use Rattle.owner_history.specs.OwnerHouse.House.{house_of, analyst_named, owner_named};
-ghost use Rattle.session_core.specs.Speakers.{Speaker};
+ghost use Rattle.session_core.specs.Speakers.{Speaker as Seen};
 ghost use Rattle.session_core.specs.Meant.{meant_by, meant_by_ask, meant_by_hello, meant_by_left, meant_by_mine, meant_by_recall, part_named, whole_named};
 ghost use Rattle.session_core.specs.Code.{found_in, meaning_of, IsAnalyst, IsMeaningIn, IsShort, IsSubjectIn};
 
@@ -79,7 +79,7 @@ fn refuse<'a>(refusal: LineRefusal) -> LineMeaning<'a>
 
 // A later hello replaces the analyst, and one with an unknown name doesn't.
 fn greet<'a>(house: &House, name: &'a [u8]) -> LineMeaning<'a>
-    ensures meaning { (who : Speaker) → meaning_of (house_of house.now) who result
+    ensures meaning { (who : Seen) → meaning_of (house_of house.now) who result
         ≡ meant_by_hello (house_of house.now) who name.now (analyst_named (house_of house.now) name.now) }
     ensures proper { IsMeaningIn (house_of house.now) result }
 {
@@ -181,7 +181,7 @@ fn read_recall<'a>(house: &House, who: &Speaker, owner: &[u8], number: u32) -> L
 
 // Anybody may see what is spent, before a hello too.
 fn read_left<'a>(house: &House, owner: &[u8]) -> LineMeaning<'a>
-    ensures meaning { (who : Speaker) → meaning_of (house_of house.now) who result
+    ensures meaning { (who : Seen) → meaning_of (house_of house.now) who result
         ≡ meant_by_left who (owner_named (house_of house.now) owner.now) }
     ensures proper { IsMeaningIn (house_of house.now) result }
 {

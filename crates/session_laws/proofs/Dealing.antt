@@ -11,7 +11,7 @@ use Rattle.session_core.specs.Gathered.{part_of}
 use Rattle.session_core.proofs.Dealing.{dealt, crew_below, script_dealt}
 
 pub are_dealt : (house : House) (script : List ℕ) (count : ℕ) → 0 < count → AreDealt house script count
-are_dealt = script_dealt
+are_dealt house script count = script_dealt script count house
 
 -- ---- each worker's lines as one block: so what workers did can be put in an order
 

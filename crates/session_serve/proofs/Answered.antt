@@ -35,7 +35,7 @@ module _ (house : House) (draws : ℕ → ℕ → ℕ → ℕ) where
   }
     where
       last : AreOfLines house (who_after house no_speaker (lines_of bytes) (map (λ (y : Exchange). y.reply) h.exchanges)) (line ∷ []) (x ∷ [])
-      last = ap (λ (t : Turn). ◌∷◌ {A = Turn} t [])
+      last = ap (λ (t : Turn). t ∷ [])
           (turn ∙ ap (λ (rs : List Replied). record { who = who_after house no_speaker (lines_of bytes) rs; line = line }) (sym h.replied))
 
   -- each line has its reply

@@ -2,9 +2,11 @@ use Rattle.std.proofs.Common.{◌∙◌, List, [], ◌++◌, ℕ, refl, sym, ap,
 use Rattle.wire_lines.specs.Lines.{lines_of}
 use Rattle.wire_lines.specs.Reply.{replied, reply_text}
 use Rattle.owner_history.specs.OwnerHouse.House.{house_of}
+use Rattle.session_core.specs.Speakers.{Speaker}
 use Rattle.session_core.specs.Exchanges.{Exchange}
 use Rattle.session_core.specs.Blocks.{behind_block, first_block}
 use Rattle.session_core.specs.Bundles.{Bundle}
+use Rattle.session_core.specs.Code.{IsAnalyst}
 use Rattle.session_core.proofs.FirstBlocks.{block_ends, block_goes}
 use Rattle.session_core.proofs.Serving.{IsUpTo, passes_kept, up_to_first, up_to_next, up_to_all}
 use Rattle.session_core.proofs.script.answer_block.Goals as goal
@@ -13,11 +15,12 @@ pub loop-line-init : goal.loop-line-init
 loop-line-init g c = record {
   passes = c.requires.passes;
   kept = refl;
-  known = tt;
+  known = subst (λ (w : Speaker). IsAnalyst (house_of c.args.server.now.house.now) w) (sym c.nobody-who.ensures) tt;
   text = [];
   items = sym (append-nil c.args.out.now.items);
   capacity = refl;
-  told = up_to_first (house_of c.args.server.now.house.now) (g.S.Streams.given c.args.server.now.streams.now) (first_block (lines_of c.args.script.now)) c.args.passes.now.knows;
+  told = subst (λ (w : Speaker). IsUpTo (house_of c.args.server.now.house.now) (g.S.Streams.given c.args.server.now.streams.now) (first_block (lines_of c.args.script.now)) (first_block (lines_of c.args.script.now)) w [] c.args.passes.now.knows c.args.passes.now.knows)
+      (sym c.nobody-who.ensures) (up_to_first (house_of c.args.server.now.house.now) (g.S.Streams.given c.args.server.now.streams.now) (first_block (lines_of c.args.script.now)) c.args.passes.now.knows);
   behind = refl;
   nearer = omega arith;
 }

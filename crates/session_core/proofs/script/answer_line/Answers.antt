@@ -6,15 +6,16 @@ use Rattle.owner_history.specs.OwnerCatalog.Entries.{PartitionEntry}
 use Rattle.owner_history.specs.OwnerHouse.House.{house_of, owner_at}
 use Rattle.owner_history.specs.OwnerDesk.Shared.{Shared}
 use Rattle.owner_history.specs.AnswerPath.Code.{demand_of, HasPartFor, IsDemandOf}
+use Rattle.session_core.specs.Speakers.{Speaker}
 use Rattle.session_core.specs.Exchanges.{Exchange}
 use Rattle.session_core.specs.Bundles.{Bundle, bundle_of}
-use Rattle.session_core.specs.Code.{meaning_of, speaker_next, ArePasses, AreServed, WantsTooManyWalks}
+use Rattle.session_core.specs.Code.{meaning_of, speaker_next, ArePasses, IsAnalyst, AreServed, WantsTooManyWalks}
 use Rattle.session_core.specs.declared.line.LineMeaning.TheVariants.{Says, Wants}
 use Rattle.owner_history.proofs.OwnerHouse.Owners.{owner_holds, tables_named}
 use Rattle.session_core.proofs.Bundles.{bundle_set, entry_at, knows_at, pass_within}
 use Rattle.session_core.proofs.Demands.{walks_held}
 use Rattle.session_core.proofs.Serving.{served_plain, served_wants}
-use Rattle.session_core.proofs.Turning.{bye_means, who_next}
+use Rattle.session_core.proofs.Turning.{bye_means, speaker_known, who_next}
 use Rattle.session_core.proofs.script.answer_line.Goals as goal
 
 pub meet-requires-clause-demand : goal.meet-requires-clause-demand
@@ -108,3 +109,8 @@ pub returns-in-Says-clause-ends : goal.returns-in-Says-clause-ends
 returns-in-Says-clause-ends g c =
     let comes_to = sym c.read_line.ensures.meaning ∙ ap (meaning_of (house_of c.args.server.now.house.now) c.args.who.now) c.in-Says.is in
     c.is_end.ensures ∙ bye_means (house_of c.args.server.now.house.now) c.args.who.now c.args.line.now (meaning_of (house_of c.args.server.now.house.now) c.args.who.now (Says c.in-Says.reply c.in-Says.next)) comes_to
+
+pub returns-in-Says-clause-known : goal.returns-in-Says-clause-known
+returns-in-Says-clause-known g c =
+    let house = house_of c.args.server.now.house.now in
+    subst (λ (w : Speaker). IsAnalyst house w) (sym c.turn_to.ensures) (speaker_known house c.args.who.now c.in-Says.next c.requires.known c.in-Says.ensures.proper)
