@@ -1,13 +1,11 @@
 -- Functions of rows with the columns town and age, each as it is parsed.
 use Rattle.std.specs.Prelude.{List, [], codes, pos, ℕ, ℤ, ◌∷◌, ◌≡◌}
 use Rattle.fz_ast.specs.Terms.{EqE, FnE, FunE, IfE, LeE, LetPairE, NumE, SizeE, Term, TextE, at}
-use Rattle.fz_ast.specs.Types.{NumT, TensorT, TextT, Ty}
-use Rattle.linear_types.specs.Inferred.{Fault, Untyped}
-use Rattle.linear_types.specs.Rule.{rule}
-use Rattle.linear_types.specs.Typing.{Closed}
+use Rattle.fz_ast.specs.Types.{NumT, TensorT, TextT, Ty, UnlimitedT}
+use Rattle.linear_types.specs.Inferred.{Exactly, Fault, Mismatch, Untyped}
 use Rattle.metric_law.specs.Worked.{name_at, span}
 use Rattle.metric_values.specs.Values.{Flat, NumF, PairF, TextF}
-use Rattle.row_functions.specs.RowFunctions.{IsRowFunction}
+use Rattle.row_functions.specs.RowFunctions.{function_rule}
 
 abbrev pub quoted_at : ℕ → ℕ → List ℕ → Term
 quoted_at f t s = at (span f t) (TextE s)
@@ -51,6 +49,10 @@ thirty = at (span 0 25) (FnE (codes "r") (span 8 18) town_and_age (at (span 23 2
 abbrev pub same_text : Term
 same_text = at (span 0 18) (FnE (codes "t") (span 8 12) TextT (name_at 17 18 (codes "t")))
 
--- the term isn't typed at all, and this is its first fault
+-- this is the first fault of the term as a function of people's rows
 abbrev pub HasFault : Term → Fault → Type 0
-HasFault t f = rule Closed t ≡ Untyped f
+HasFault t f = function_rule town_and_age t ≡ Untyped f
+
+-- the whole term at (0, n) has this type and not the wanted one
+abbrev pub HasType : Term → ℕ → Ty → Type 0
+HasType t n A = HasFault t (Mismatch (span 0 n) A (Exactly (UnlimitedT town_and_age TextT)))

@@ -1,4 +1,4 @@
-use Rattle.row_functions.proofs.Examples.{linear, longest, no_text, old, other_row, typed, unbound, used_thrice, young}
+use Rattle.row_functions.proofs.Examples.{linear, longest, no_text, number, old, other_row, typed, unbound, used_thrice, young}
 use Rattle.row_functions.proofs.worked_functions.Goals as goal
 
 pub returns-clause-function : goal.returns-clause-function
@@ -27,3 +27,6 @@ returns-clause-used_thrice c = used_thrice
 
 pub returns-clause-unbound : goal.returns-clause-unbound
 returns-clause-unbound c = unbound
+
+pub returns-clause-number : goal.returns-clause-number
+returns-clause-number c = number
