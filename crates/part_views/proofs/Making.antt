@@ -94,7 +94,7 @@ module _ {G : Type 0} (items : G → List ℕ) (table : List Flat) where
 
 -- ---- a partition
 
-some_columns : (x : Flat) → 0 < columns_in x
+pub some_columns : (x : Flat) → 0 < columns_in x
 some_columns (PairF a b) = omega arith
 some_columns (NumF z) = omega arith
 some_columns (TextF s) = omega arith
