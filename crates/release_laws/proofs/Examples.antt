@@ -1,5 +1,5 @@
 -- Outlines of worked terms.
-use Rattle.std.proofs.Common.{◌≡◌, ◌+◌, ℕ, pos, negsuc, List, [], ◌∷◌, codes, refl}
+use Rattle.std.proofs.Common.{◌≡◌, ◌+◌, ℕ, pos, negsuc, codes, refl}
 use Rattle.fz_ast.specs.Bare.{nowhere}
 use Rattle.fz_ast.specs.Terms.{ClipE, FunE, LetE, NumE, PlusE, SumE, Term, TextE, TimesE, VarE, at}
 use Rattle.fz_ast.specs.Types.{NumT}

@@ -1,19 +1,13 @@
 -- Of whole programs.
-use Rattle.std.proofs.Common.{ap, refl, subst, sym, ◌∙◌}
-use Rattle.std.specs.Prelude.{◌≡◌, None, Option, Bool, true, false, cond, ℕ, [], ◌∷◌}
-use Rattle.fz_ast.specs.Bare.{nowhere}
-use Rattle.fz_ast.specs.Limits.{TermLimits}
+use Rattle.std.proofs.Common.{ap, refl, sym, ◌∙◌}
+use Rattle.std.specs.Prelude.{◌≡◌, Bool, true, false, cond}
 use Rattle.fz_ast.specs.Signature.{Signature}
 use Rattle.fz_ast.specs.Terms.{Term}
 use Rattle.fz_ast.specs.Types.{NumT}
-use Rattle.fz_ast.specs.declared.span.Span.{Span}
-use Rattle.fz_frac.specs.Distance.{Distance}
-use Rattle.linear_types.specs.Inferred.{Has, Inferred}
+use Rattle.linear_types.specs.Inferred.{Has}
 use Rattle.linear_types.proofs.Programs.{accepted}
-use Rattle.linear_types.specs.Laws.{AcceptedExactly}
-use Rattle.linear_types.specs.Program.{Accepted, context_of, sensitivity_of, program_rule}
+use Rattle.linear_types.specs.Program.{context_of, program_rule}
 use Rattle.linear_types.specs.Rule.{rule}
-use Rattle.linear_types.specs.Sensitivities.{Sensitivities}
 use Rattle.shape_law.specs.Shapes.{Shape, table_shapes}
 use Rattle.shape_law.specs.Walk.{ShapeFault, Shaped, Stops, Tally, TooManyWalks, WalkOutcome, depth_limit, shape, start, told, walk}
 use Rattle.release_laws.proofs.Shapes.{tables_kept, walk_kept}

@@ -1,14 +1,14 @@
 -- A term's walk is its outline's, but for spans.
-use Rattle.std.proofs.Common.{ap, refl, sym, ◌∙◌}
+use Rattle.std.proofs.Common.{ap, refl, ◌∙◌}
 use Rattle.std.specs.Prelude.{Bool, [], ◌∷◌, cond, false, max, nat_le, suc, true, zero, ℕ, ◌+◌, ◌-◌, ◌*◌, bytes_eq, ◌≡◌}
 use Rattle.fz_ast.specs.Bare.{nowhere}
 use Rattle.fz_ast.specs.Signature.{Signature}
 use Rattle.fz_ast.specs.Terms.{AppE, BangE, CaseE, ClipE, EqE, FilterE, FnE, FstE, FunE, GreatestE, IfE, InlE, InrE, LeE, LeastE, LetBangE, LetE, LetPairE, MapE, MinusE, Name, NumE, PairE, PlusE, SizeE, SndE, SplitE, SumE, Term, TextE, TimesE, UnionE, UnitE, VarE, WithE, at, span_of}
 use Rattle.fz_ast.specs.declared.span.Span.{Span}
 use Rattle.shape_law.specs.Shapes.{Also, BangS, FnS, FunS, Nothing, PairS, Shape, Shapes, Wide, bang_shape, first_half, in_bang, height_of, pair_shape, second_half, shape_of, side_shape, walks_of, width_of, wider, table_shapes}
-use Rattle.shape_law.specs.Walk.{ShapeFault, WalkOutcome, Shaped, Stops, Tally, TooDeep, TooLong, TooManyWalks, TooWide, Walk, after_part, after_parts, as_before, bag, counted_from, enters, next, over, over_bag, noted, reach_limit, turn, turn_limit, union, walk, walk_limit, walk_rules, walked, walks_at, weighed, width_limit, yields}
+use Rattle.shape_law.specs.Walk.{WalkOutcome, Shaped, Stops, Tally, TooLong, TooManyWalks, TooWide, Walk, after_part, after_parts, as_before, bag, counted_from, enters, next, over, over_bag, noted, turn, turn_limit, union, walk, walk_limit, walk_rules, walks_at, weighed, width_limit, yields}
 use Rattle.release_laws.specs.Outline.{outline}
-use Rattle.release_laws.specs.Outcomes.{outline_outcome, outline_shape, outline_shapes, outline_fault}
+use Rattle.release_laws.specs.Outcomes.{outline_outcome, outline_shape, outline_shapes}
 
 -- of shapes
 

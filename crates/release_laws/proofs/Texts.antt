@@ -1,5 +1,5 @@
 -- A release's text is judged as its widest text is.
-use Rattle.std.proofs.Common.{◌≡◌, ◌≤◌, ℕ, List, [], ◌∷◌, refl, ap, arith, sym, ◌∙◌, length}
+use Rattle.std.proofs.Common.{◌≡◌, ℕ, List, [], ◌∷◌, refl, ap, arith, sym, ◌∙◌}
 use Rattle.std.specs.Prelude.{ℤ, pos, negsuc}
 use Rattle.fz_ast.specs.Bare.{bare, nowhere}
 use Rattle.fz_ast.specs.Depth.{depth}

@@ -1,12 +1,10 @@
 -- A term and its outline have the same type and sensitivities, by the rules and by the function.
-use Rattle.std.proofs.Common.{ap, arith, refl, sym, ◌∙◌}
+use Rattle.std.proofs.Common.{arith, refl, sym, ◌∙◌}
 use Rattle.std.proofs.lemmas.Int.{ints}
-use Rattle.std.specs.Prelude.{Bool, false, pos, ◌||◌, ◌≡◌, ◌↔◌}
+use Rattle.std.specs.Prelude.{pos, ◌≡◌, ◌↔◌}
 use Rattle.fz_ast.specs.Limits.{IsNumber, TermLimits}
-use Rattle.fz_ast.specs.Signature.{Signature}
 use Rattle.fz_ast.specs.Terms.{AppE, BangE, CaseE, ClipE, EqE, FilterE, FnE, FstE, FunE, GreatestE, IfE, InlE, InrE, LeE, LeastE, LetBangE, LetE, LetPairE, MapE, MinusE, NumE, PairE, PlusE, SizeE, SndE, SplitE, SumE, Term, TextE, TimesE, UnionE, UnitE, VarE, WithE, at}
-use Rattle.fz_ast.specs.Types.{Ty, NumT}
-use Rattle.fz_frac.specs.Distance.{Distance}
+use Rattle.fz_ast.specs.Types.{Ty}
 use Rattle.linear_types.proofs.Agree.{rule_is_complete, rule_is_sound}
 use Rattle.linear_types.specs.Fractions.{is_out_of_range}
 use Rattle.linear_types.specs.Inferred.{Has}

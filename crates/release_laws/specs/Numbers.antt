@@ -1,5 +1,5 @@
 -- What a number's value and a term's place change: nothing of its type, its sensitivities, and its run without data.
-use Rattle.std.specs.Prelude.{◌≡◌, ◌↔◌}
+use Rattle.std.specs.Prelude.{◌≡◌}
 use Rattle.fz_frac.specs.Distance.{Distance}
 use Rattle.fz_ast.specs.Limits.{TermLimits}
 use Rattle.fz_ast.specs.Signature.{Signature}
