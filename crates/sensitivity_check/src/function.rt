@@ -39,7 +39,13 @@ fn function_type(alloc: Global, arena: &mut Arena, row: &Ty) -> Result<u32, NoMe
 }
 
 // The type is that of functions from such rows to texts; the term at `span` has it.
-fn wanted(alloc: Global, arena: &mut Arena, span: Span, row: &Ty, found: Judged) -> Result<Judged, RowFault>
+fn wanted(
+    alloc: Global,
+    arena: &mut Arena,
+    span: Span,
+    row: &Ty,
+    found: Judged,
+) -> Result<Judged, RowFault>
     requires { found.ty < length arena.old }
     ensures says { (D : Sensitivities) → AreAlike (distances found.amounts.items) D
         → Says arena.new result (exactly span (type_at arena.old found.ty) (UnlimitedT row.now TextT) (Has (type_at arena.old found.ty) D)) }
@@ -56,7 +62,12 @@ fn wanted(alloc: Global, arena: &mut Arena, span: Span, row: &Ty, found: Judged)
 }
 
 // The type and sensitivities of a function of such rows.
-fn judged_function(alloc: Global, arena: &mut Arena, term: &Term, row: &Ty) -> Result<Judged, RowFault>
+fn judged_function(
+    alloc: Global,
+    arena: &mut Arena,
+    term: &Term,
+    row: &Ty,
+) -> Result<Judged, RowFault>
     ensures says { Says arena.new result (function_rule row.now term.now) }
     ensures limits { TermLimits term.now }
 {

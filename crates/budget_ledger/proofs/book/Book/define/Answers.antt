@@ -108,4 +108,4 @@ returns-in-Ok-append-clause-made g c =
     (grown ∙ ap (λ (m : MadePartition). records ++ Define m ∷ []) c.made_behind-partition.ensures.made)
     (sym c.made_before.ensures ∙ c.in_default.is)
     (subst (λ (e : Entry). definition_verdict e (start_of c.self.inside.ledger) records c.args.definition.now ≡ Ok c.in-Ok.made)
-        (sym (ap (λ (l : Ledger). l.entry) c.define.ensures.after)) said)
+    (sym (ap (λ (l : Ledger). l.entry) c.define.ensures.after)) said)
