@@ -16,7 +16,7 @@ use Rattle.journal_records.specs.declared.records.Record.TheVariants.{Reserve, S
 use Rattle.journal_records.specs.Records.{settling_back, number_or_zero}
 use Rattle.budget_core.specs.Counts.{reservations_of, reservation_of, outcome_of}
 use Rattle.budget_core.specs.Cost.{charge_by, comes_back, counts_in, charges_in}
-use Rattle.budget_core.specs.Entries.{Entry, IsEntry, HasView}
+use Rattle.budget_core.specs.Entries.{Entry, IsEntry}
 use Rattle.budget_core.specs.Legal.{IsReservationAfter, MayFollow, IsOpen, IsHistory}
 use Rattle.budget_core.proofs.Charging.{view-valid}
 use Rattle.budget_core.proofs.Costs.{nothing-back, sum-filtered}

@@ -1,12 +1,11 @@
 -- The verdict of a definition.
-use Rattle.std.proofs.Common.{◌≡◌, ℕ, ◌+◌, ◌<◌, ◌≤◌, cond, Bool, true, false, nat_lt, nat_le, List, [], ◌∷◌, ◌++◌, length, Option, Some, None, option_map, is_some, Result, Ok, Err, IsOk, refl, sym, ◌∙◌, ap, subst, arith}
+use Rattle.std.proofs.Common.{◌≡◌, ℕ, ◌+◌, ◌<◌, ◌≤◌, cond, Bool, true, false, nat_lt, nat_le, List, length, Option, Some, None, option_map, Ok, Err, IsOk, refl, sym, ◌∙◌, ap, subst, arith}
 use Rattle.std.proofs.lemmas.Bool.{lt-ltb, le-ltb, ltb-false, le-leb, lt-leb, leb-false}
 use Rattle.partition_charge.specs.Views.{partition_limit}
 use Rattle.journal_records.specs.declared.records.MadePartition.{MadePartition}
 use Rattle.journal_records.specs.declared.records.Record.{Record}
 use Rattle.budget_core.specs.declared.definitions.Definition.{Definition}
 use Rattle.budget_core.specs.declared.definitions.Made.{Made}
-use Rattle.budget_core.specs.declared.definitions.DefineFault.{DefineFault}
 use Rattle.budget_core.specs.declared.definitions.DefineFault.TheVariants.{Full, TooMany}
 use Rattle.budget_core.specs.Counts.{definitions_of, made_of, partition_number, open_from}
 use Rattle.budget_core.specs.Defining.{IsDefinition, MayDefine, made_limit, made_behind, made_before, made_next, before_or, next_verdict, definition_verdict}

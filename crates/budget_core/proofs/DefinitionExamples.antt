@@ -1,12 +1,12 @@
 -- definitions and made partitions, worked out by computation
-use Rattle.std.proofs.Common.{◌≡◌, ℕ, zero, suc, ◌+◌, ◌^◌, ◌<◌, pos, true, false, List, [], ◌∷◌, ◌++◌, replicate, Option, Some, None, Result, Ok, Err, refl, arith}
+use Rattle.std.proofs.Common.{◌≡◌, ℕ, zero, suc, ◌<◌, pos, true, false, List, [], ◌∷◌, ◌++◌, replicate, Option, Some, None, Result, Ok, Err, refl, arith}
 use Rattle.partition_charge.specs.declared.view.View.{View}
-use Rattle.partition_charge.specs.declared.view.View.TheVariants.{Whole, Part}
+use Rattle.partition_charge.specs.declared.view.View.TheVariants.{Part}
 use Rattle.partition_charge.specs.Cost.{cost_of_charges, partition_cost, parts_cost}
 use Rattle.journal_records.specs.declared.records.Outcome.TheVariants.{Answered}
 use Rattle.journal_records.specs.declared.records.MadePartition.{MadePartition}
 use Rattle.journal_records.specs.declared.records.Record.{Record}
-use Rattle.journal_records.specs.declared.records.Record.TheVariants.{Reserve, Define}
+use Rattle.journal_records.specs.declared.records.Record.TheVariants.{Reserve}
 use Rattle.journal_records.specs.Records.{settling}
 use Rattle.budget_core.specs.declared.definitions.Definition.{Definition}
 use Rattle.budget_core.specs.declared.definitions.DefineFault.{DefineFault}
@@ -18,7 +18,7 @@ use Rattle.budget_core.specs.Cost.{cost_of, budget_of}
 use Rattle.budget_core.specs.Counts.{definitions_of, definition_of, made_of}
 use Rattle.budget_core.specs.Defining.{made_behind, next_partition, with_definition, definition_verdict, definition_verdict_with, records_defined}
 use Rattle.budget_core.specs.Entries.{Entry, HasView, keys_of}
-use Rattle.budget_core.specs.Events.{World, is_definition, is_ask_of, has_view, stepped, ran}
+use Rattle.budget_core.specs.Events.{is_definition, has_view, ran}
 use Rattle.budget_core.specs.Ledger.{money_verdict}
 use Rattle.budget_core.specs.Legal.{IsDefinitionAfter, IsReservationAfter}
 

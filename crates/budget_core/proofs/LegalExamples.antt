@@ -205,7 +205,7 @@ fits : IsLegal (entry_of 10 2 2 (2 ∷ [])) [] left_open
 unfolding cost_of cost_of_charges parts_cost partition_cost budget_of
 fits = legal-append (entry_of 10 2 2 (2 ∷ [])) [] [] (made 0 (Part 0 0) 6 6 0) (legal-nil (entry_of 10 2 2 (2 ∷ [])))
     (record { numbered = refl; asked_by = omega arith; looks_at = omega arith; rise = refl; within = omega arith; limited = tt })
-    (ask-from (entry_of 10 2 2 (2 ∷ [])) (record { analyst = 0; view = Whole; e = 6; p = 1; q = 1; digest = digest }) refl).terms
+    (ask-from (entry_of 10 2 2 (2 ∷ [])) [] (record { analyst = 0; view = Whole; e = 6; p = 1; q = 1; digest = digest }) refl).terms
     (λ settlement other. cc) (λ within. omega arith)
 
 no_room : IsLegal (entry_of 10 1 2 (2 ∷ [])) [] left_open → ⊥
@@ -223,7 +223,7 @@ abbrev ask_of : ℕ → View → ℕ → Ask
 ask_of analyst view e = record { analyst = analyst; view = view; e = e; p = 3; q = 2; digest = digest }
 
 an_ask : IsAskOf small [] (ask_of 1 (Part 0 1) 1)
-an_ask = ask-from small (ask_of 1 (Part 0 1) 1) refl
+an_ask = ask-from small [] (ask_of 1 (Part 0 1) 1) refl
 
 ask_of_a_third : IsAskOf small [] (ask_of 2 Whole 1) → ⊥
 ask_of_a_third ask = omega (arith, ask.analyst)

@@ -1,5 +1,5 @@
 -- What a book of records answers where an analyst defines a partition.
-use Rattle.std.specs.Prelude.{◌≡◌, ℕ, ◌+◌, ◌≤◌, ◌<◌, ◌^◌, nat_lt, nat_le, Bool, List, [], ◌∷◌, ◌++◌, length, Option, Some, None, option_map, is_some, Result, Ok, Err, if◌then◌else◌}
+use Rattle.std.specs.Prelude.{ℕ, ◌+◌, ◌≤◌, ◌<◌, ◌^◌, nat_lt, nat_le, Bool, List, [], ◌∷◌, ◌++◌, length, Option, Some, None, option_map, is_some, Result, Ok, Err, if◌then◌else◌}
 use Rattle.partition_charge.specs.Views.{partition_limit, made_part_limit}
 use Rattle.journal_records.specs.Encoding.{IsByteList, table_range}
 use Rattle.journal_records.specs.declared.records.MadePartition.{MadePartition}

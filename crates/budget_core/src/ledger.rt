@@ -303,6 +303,8 @@ impl Ledger {
         ensures verdict { result ≡ definition_verdict self.now.entry (start_of self.now) self.now.records definition.now }
         ensures sound { IsSound self.now }
     {
+        // The look at a field tells the proof what a ledger keeps.
+        let _start = self.start;
         match self.made_before(definition) {
             Some(made) => Ok(made),
             None => self.next_verdict(),

@@ -1,4 +1,3 @@
-use Rattle.journal_records.specs.declared.records.Record.TheVariants.{Define}
 use Rattle.budget_core.proofs.Costs.{cost_of-append-Define, budget_of-append-Define}
 use Rattle.budget_core.proofs.Partitions.{definition-grows, has-view-grows, made-in-order, made-few, defines-once}
 use Rattle.budget_core.proofs.laws.partitions_are_made_once.Goals as goal

@@ -8,9 +8,9 @@ use Rattle.budget_core.proofs.totals.new_shares.Goals as goal
 pub loop-analyst-preserved : goal.loop-analyst-preserved
 loop-analyst-preserved c =
     let done = c.loop-analyst.invariant in
-    let new = share-new c.args.entry.now c.in_ok-new.field-0 c.from.result
-    (omega (arith, c.from.ensures, c.most_keys.ensures.limited)) (subst (λ n. All (λ keys. keys ≤ n) c.args.entry.now.keys) (sym c.from.ensures) c.most_keys.ensures.most)
-    c.in_ok-new.ensures.totals (subst (HasPlaces c.in_ok-new.field-0 (min c.from.result part_limit)) c.capacity.ensures.capacity c.in_ok-new.ensures.places) in
+    let new = share-new c.args.entry.now c.in_ok-new.field-0 c.from-most.result
+    (omega (arith, c.from-most.ensures, c.most_keys.ensures.limited)) (subst (λ n. All (λ keys. keys ≤ n) c.args.entry.now.keys) (sym c.from-most.ensures) c.most_keys.ensures.most)
+    c.in_ok-new.ensures.totals (subst (HasPlaces c.in_ok-new.field-0 (min c.from-most.result part_limit)) c.capacity.ensures.capacity c.in_ok-new.ensures.places) in
     record {
       count = omega (arith, ap length c.push_reserved.ensures.items, length-append c.loop-analyst.shares.items (c.in_ok-new.field-0 ∷ []), done.count);
       broad = c.push_reserved.ensures.capacity ∙ done.broad;

@@ -1,6 +1,6 @@
 use Rattle.std.proofs.Common.{ℕ, subst, arith}
 use Rattle.partition_charge.specs.Totals.{HasPlaces}
-use Rattle.partition_charge.proofs.Standing.{new-stands, empty-nil, empty-push, empty-places}
+use Rattle.partition_charge.proofs.Standing.{new-stands, empty-places}
 use Rattle.partition_charge.proofs.costs.Costs.new.Goals as goal
 
 pub returns-clause-totals : goal.returns-clause-totals
