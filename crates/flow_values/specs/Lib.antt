@@ -1,6 +1,6 @@
 pub mod Held
 pub mod Depths
-unfoldable pub use Rattle.row_functions.specs.Computed
+pub use Rattle.row_functions.specs.Computed
 pub mod Steps
 pub mod Codes
 pub mod Views

@@ -1,5 +1,7 @@
 -- A function of rows, once it is evaluated.
-use Rattle.std.specs.Prelude.{ℕ}
+use Rattle.std.specs.Coded.{Coded, code_by, coded×}
+use Rattle.std.specs.Prelude.{refl, ℕ}
+use Rattle.fz_ast.specs.Codes.{term_code, type_code}
 use Rattle.fz_ast.specs.Limits.{IsText}
 use Rattle.fz_ast.specs.Terms.{Term}
 use Rattle.fz_ast.specs.Types.{Ty}
@@ -12,6 +14,9 @@ use Rattle.row_functions.specs.RowFunctions.{row_text}
 pub record FunctionOfRows : Type 0 where
   pub row : Ty
   pub term : Term
+
+abbrev pub function_code : Coded FunctionOfRows
+function_code = code_by (Ty × Term) (coded× type_code term_code) (λ f. (f.row, f.term)) (λ p. record { row = p.0; term = p.1 }) (λ _. refl)
 
 -- the closure c gives each row of this type the term's text for it, by derivations of at most this height
 pub record IsAtWork (row : Ty) (t : Term) (c : Value) (n : ℕ) : Type 0 where

@@ -31,9 +31,11 @@ pub struct RowFunction<'a> {
 }
 
 impl<'a> Model for RowFunction<'a> {
-    ghost use Rattle.fuzz_eval.specs.RowFunctions.{FunctionOfRows, IsAtWork};
+    ghost use Rattle.fuzz_eval.specs.RowFunctions.{FunctionOfRows, IsAtWork, function_code};
 
     ghost Value = { FunctionOfRows };
+
+    ghost coded = { function_code };
 
     ghost view = { λ f. record { row = f.row.now; term = f.term.now } };
 
