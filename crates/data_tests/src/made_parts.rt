@@ -1,7 +1,5 @@
 //! A table divided by a class of each row.
 
-ghost use Rattle.std.specs.Prelude.{◌≡◌, ◌<◌, length, IfSome};
-
 use crate::csv_tables::people;
 use crate::parts::{has_ages, only_table};
 use fz_ast::NoMemory;
@@ -40,9 +38,7 @@ impl RowClasses for Names<'_> {
 }
 
 // Those named oslo, bonn, ny and nothing.
-fn parts(alloc: Global) -> Option<MadeParts>
-    ensures { IfSome result (λ made. length made ≡ 4) }
-{
+fn parts(alloc: Global) -> Option<MadeParts> {
     let schema = people(alloc).ok()?;
     let table = load(alloc, PEOPLE, &schema).ok()?;
     let keys = Keys::new(alloc, &[b"oslo", b"bonn", b"ny", b""]).ok()?;
@@ -51,9 +47,10 @@ fn parts(alloc: Global) -> Option<MadeParts>
 }
 
 // Whether a part has these ages.
-fn is_part(alloc: Global, made: &MadeParts, j: usize, ages: &[i64]) -> bool
-    requires { j < length made.now }
-{
+fn is_part(alloc: Global, made: &MadeParts, j: usize, ages: &[i64]) -> bool {
+    if j >= made.len() {
+        return false;
+    }
     match made.part(alloc, j) {
         Ok(part) => has_ages(only_table(&part), ages),
         Err(_) => false,

@@ -1,5 +1,5 @@
 -- Chains of row numbers: what a walk over rows from the last to the first leaves is each part's rows.
-use Rattle.std.proofs.Common.{◌≡◌, ◌<◌, ◌≤◌, ◌+◌, ◌-◌, ◌++◌, ◌∙◌, Bor, Result, Ok, Err, ℕ, zero, suc, Bool, true, false, Option, Some, None, List, [], ◌∷◌, append_assoc, append-nil, drop, get_or, length, map, set, take, refl, ap, sym, subst, arith}
+use Rattle.std.proofs.Common.{◌≡◌, ◌<◌, ◌≤◌, ◌+◌, ◌-◌, ◌++◌, ◌∙◌, Bor, Result, Ok, Err, ℕ, zero, suc, Bool, true, false, Option, Some, None, List, [], ◌∷◌, append_assoc, append-nil, drop, get_or, length, set, take, refl, ap, sym, subst, arith}
 use Rattle.std.specs.Prelude.{bytes_eq, filter, nat_eq, nat_lt, not, position, if◌then◌else◌, ⊤}
 use Rattle.std.specs.List.{All, IsDistinct, list_any, position_or_len}
 use Rattle.std.specs.Result.{IfOk, is_ok}
@@ -10,8 +10,7 @@ use Rattle.std.proofs.lemmas.List.Elements.{All-cons, All-nil}
 use Rattle.std.proofs.lemmas.Map.Keys.{apart_from_distinct}
 use Rattle.std.proofs.lemmas.Slice.Eq.{bytes_eq-Decides}
 use Rattle.std.proofs.Math.Seq.{get_or-append_seam}
-use Rattle.metric_values.specs.Cells.{AreRows, chosen_of, row_at}
-use Rattle.metric_values.specs.Tables.{Dataset}
+use Rattle.metric_values.specs.Cells.{chosen_of, row_at}
 use Rattle.metric_values.specs.Values.{Flat, TextF, UnitF}
 use Rattle.table_store.specs.Groups.{has_text, texts_of}
 use Rattle.part_views.specs.Cuts.{Class, class_of, rows_of_class}

@@ -1,5 +1,5 @@
 -- Views are datasets, and parts share no row and no distance: a catalog's partition cuts its table by a column.
-use Rattle.std.proofs.Common.{◌≡◌, ◌≤◌, ℕ, Option, Some, None, List, [], ◌∷◌, get_or, refl, ap, subst, sym}
+use Rattle.std.proofs.Common.{◌≡◌, ◌≤◌, ℕ, Option, Some, None, List, [], ◌∷◌, get_or, refl, ap, subst}
 use Rattle.std.specs.Prelude.{IfSome, option_map, slice_get}
 use Rattle.std.proofs.lemmas.Option.{get_or_from_slice_get, slice_get_within}
 use Rattle.fz_ast.specs.Signature.{IsSignature, Signature}
@@ -11,7 +11,7 @@ use Rattle.partition_charge.specs.Cost.{total_below}
 use Rattle.partition_charge.specs.Views.{part_limit}
 use Rattle.partition_charge.specs.declared.view.View.{View}
 use Rattle.partition_charge.specs.declared.view.View.TheVariants.{Part, Whole}
-use Rattle.part_views.specs.Cuts.{Cut, IsCutOf, by_column, cut_of, rows_of_class}
+use Rattle.part_views.specs.Cuts.{IsCutOf, by_column, cut_of, rows_of_class}
 use Rattle.part_views.specs.Laws.{IsSublist, rows_of_part, PartsAreDisjoint, PartsAreNoFurtherApart, PartsAreNoFurtherThanTheirTable, PartsAreSublists, ViewsAreDatasets}
 use Rattle.part_views.specs.Partitions.{ArePartitions, IsPartitionOf}
 use Rattle.part_views.specs.Seen.{cut_rows, cut_table}

@@ -1,21 +1,19 @@
 -- Partitions that are made, at worked tables.
-use Rattle.std.proofs.Common.{◌≡◌, ◌≤◌, ◌/◌, ◌%◌, ◌++◌, ◌+◌, ℕ, zero, suc, Option, Some, None, List, [], ◌∷◌, replicate, refl, ap, arith}
+use Rattle.std.proofs.Common.{◌≡◌, ◌/◌, ◌%◌, ◌++◌, ◌+◌, ℕ, zero, suc, Some, None, List, [], ◌∷◌, replicate, refl, ap, arith}
 use Rattle.std.specs.Prelude.{codes, length, pos}
-use Rattle.std.specs.List.{IsDistinct}
 use Rattle.fz_ast.specs.Signature.{Signature}
 use Rattle.fz_ast.specs.Terms.{FnE, Term, at}
-use Rattle.fz_ast.specs.Types.{NumT, TextT}
+use Rattle.fz_ast.specs.Types.{TextT}
 use Rattle.metric_values.specs.Distances.{bag_distance}
 use Rattle.metric_values.specs.Tables.{Dataset, apart}
-use Rattle.metric_values.specs.Values.{Flat, NumF, TextF}
+use Rattle.metric_values.specs.Values.{Flat, TextF}
 use Rattle.owner_catalog.specs.Entries.{PartitionEntry}
 use Rattle.partition_charge.specs.Cost.{total_below}
-use Rattle.partition_charge.specs.Views.{part_limit}
 use Rattle.partition_charge.specs.declared.view.View.TheVariants.{Part, Whole}
 use Rattle.row_functions.specs.Computed.{computed}
 use Rattle.row_functions.specs.RowFunctions.{depth_limit, row_text}
 use Rattle.row_functions.specs.Worked.{in_town, quoted_at, same_text, span, town_and_age, young_or_old}
-use Rattle.part_views.specs.Cuts.{Class, Cut, IsClassOf, by_column, by_function, class_of, cut_at, cut_of}
+use Rattle.part_views.specs.Cuts.{Class, Cut, IsClassOf, by_column, by_function, cut_at, cut_of}
 use Rattle.part_views.specs.MadeParts.{Follows, IsNumberOf, chain_from, parts_by}
 use Rattle.part_views.specs.Seen.{IsSeen, rows_seen, signature_seen}
 use Rattle.part_views.specs.SeenLaws.{IsOfCatalog}

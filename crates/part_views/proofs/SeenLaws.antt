@@ -1,7 +1,7 @@
 -- The laws of views where a partition may be made, and that the catalog's views stay what they are.
-use Rattle.std.proofs.Common.{◌≡◌, ◌<◌, ◌≤◌, ℕ, Bool, true, false, Option, Some, None, List, [], ◌∷◌, cond, get_or, refl, subst, sym, arith}
+use Rattle.std.proofs.Common.{◌≡◌, ◌<◌, ◌≤◌, ◌∙◌, ℕ, Bool, true, false, Option, Some, None, List, [], ◌∷◌, cond, get_or, refl, ap, subst, sym, arith}
 use Rattle.std.specs.Prelude.{IfSome, length, nat_lt, option_map, slice_get}
-use Rattle.std.proofs.lemmas.Option.{slice_get-get_or, slice_get_past}
+use Rattle.std.proofs.lemmas.Option.{slice_get-get_or, slice_get_past, slice_get_within}
 use Rattle.std.proofs.lemmas.List.{get_or-map}
 use Rattle.fz_ast.specs.Signature.{IsSignature, Signature}
 use Rattle.metric_values.specs.Distances.{bag_distance}
@@ -16,8 +16,9 @@ use Rattle.partition_charge.specs.declared.view.View.TheVariants.{Part, Whole}
 use Rattle.part_views.specs.Cuts.{Cut, IsCutOf, class_of, cut_at, cut_of, rows_of_class}
 use Rattle.part_views.specs.Laws.{IsSublist}
 use Rattle.part_views.specs.MadeParts.{parts_by}
-use Rattle.part_views.specs.Seen.{AreCuts, cut_rows, cut_table, rows_seen, signature_seen}
-use Rattle.part_views.specs.SeenLaws.{CatalogViewsStay, IsOfCatalog, MadePartsAreSeen, PartsSeenAreDisjoint, PartsSeenAreNoFurtherApart, PartsSeenAreNoFurtherThanTheirTable, PartsSeenAreOfTheirKeys, PartsSeenAreSublists, ViewsSeenAreDatasets, ViewsStayWhereNothingIsMade, rows_of_part_seen}
+use Rattle.part_views.specs.Partitions.{HasPart}
+use Rattle.part_views.specs.Seen.{AreCuts, IsSeen, cut_rows, rows_seen, signature_seen}
+use Rattle.part_views.specs.SeenLaws.{CatalogViewsStay, MadePartsAreSeen, PartsSeenAreDisjoint, PartsSeenAreNoFurtherApart, PartsSeenAreNoFurtherThanTheirTable, PartsSeenAreOfTheirKeys, PartsSeenAreSublists, ViewsSeenAreDatasets, ViewsStayWhereNothingIsMade, rows_of_part_seen}
 use Rattle.part_views.specs.Views.{alone, rows_in, signature_in}
 use Rattle.part_views.proofs.CutLaws.{class_is_sublist, cut_apart, cut_is_dataset, cut_parts_apart, cut_shares_no_row, has_its_key, stands_of_class}
 use Rattle.part_views.proofs.Laws.{lawful_cut, part_is_cut, table_is_cut}
@@ -136,6 +137,14 @@ views_stay tables partitions (Part p j) X few = by (nat_lt p partition_limit) re
         let high : partition_limit ≤ p = grind arith in
         let none : slice_get partitions p ≡ None = slice_get_past partitions p (omega (arith, high, few)) in
         same_part tables partitions None p j X (rw (e, none) refl)
+
+-- what the catalog has is seen, whatever is made
+pub has_part_seen : (partitions : List PartitionEntry) (made : Option Cut) (view : View) → length partitions ≤ partition_limit → HasPart partitions view
+    → IsSeen partitions made view
+has_part_seen partitions made Whole few there = tt
+has_part_seen partitions made (Part p j) few there =
+    let low : p < length partitions = slice_get_within partitions p there.0 there.1 in
+    (cut_of there.0, cut_below partitions made p (omega (arith, low, few)) ∙ ap (option_map cut_of) there.1, there.2)
 
 -- ---- made parts
 

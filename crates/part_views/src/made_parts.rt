@@ -178,6 +178,13 @@ pub fn divide_by<C: RowClasses>(
 }
 
 impl MadeParts {
+    /// How many parts there are.
+    pub fn len(&self) -> usize
+        ensures { result ≡ length self.now }
+    {
+        self.first.len()
+    }
+
     /// A part by its number, over the table's cells.
     pub fn part(&self, alloc: Global, j: usize) -> Result<Tables, NoMemory>
         requires { j < length self.now }

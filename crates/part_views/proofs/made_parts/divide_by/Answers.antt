@@ -1,12 +1,12 @@
 -- One more row.
-use Rattle.std.proofs.Common.{◌≡◌, ◌<◌, ◌≤◌, ◌-◌, ◌+◌, ◌∙◌, ℕ, List, [], get_or, length, take, ap, sym, subst, arith}
-use Rattle.std.specs.Prelude.{Option, Some}
+use Rattle.std.proofs.Common.{◌≡◌, ◌<◌, ◌-◌, ◌+◌, ◌∙◌, ℕ, List, [], get_or, length, take, ap, sym, subst, arith}
+use Rattle.std.specs.Prelude.{Option}
 use Rattle.std.proofs.lemmas.List.{length-set}
 use Rattle.metric_values.specs.Cells.{row_at}
 use Rattle.metric_values.specs.Values.{Flat, TextF}
 use Rattle.part_views.specs.Cuts.{class_of}
 use Rattle.part_views.specs.MadeParts.{AreChains, IsNumberOf, parts_chained}
-use Rattle.part_views.proofs.Chains.{HasChained, are_chains, none_chained, parts_are, row_found, row_missed}
+use Rattle.part_views.proofs.Chains.{HasChained, are_chains, parts_are, row_found}
 use Rattle.part_views.proofs.made_parts.divide_by.Goals as goal
 
 pub loop-row-preserved-in-Some : goal.loop-row-preserved-in-Some
