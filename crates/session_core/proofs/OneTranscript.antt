@@ -77,10 +77,10 @@ module _ (house : House) (draws : ℕ → ℕ → ℕ → ℕ) (start : ℕ → 
   turns_once who (line ∷ lines) (x ∷ xs) [] turns other f g had has both = absurd (cc (other))
   turns_once who (line ∷ lines) (x ∷ xs) (y ∷ ys) turns other f g had has both =
       let first : Turn = record { who = who; line = line } in
-      let both = cut_turn x.turn first (map (λ (z : Exchange). z.turn) xs) (turns_from house (who_behind house who line x.reply) lines (map (λ (z : Exchange). z.reply) xs)) turns in
+      let mine = cut_turn x.turn first (map (λ (z : Exchange). z.turn) xs) (turns_from house (who_behind house who line x.reply) lines (map (λ (z : Exchange). z.reply) xs)) turns in
       let also = cut_turn y.turn first (map (λ (z : Exchange). z.turn) ys) (turns_from house (who_behind house who line y.reply) lines (map (λ (z : Exchange). z.reply) ys)) other in
-      let same : x.turn ≡ y.turn = both.0 ∙ sym also.0 in
-      let rest : AreOfLines house (who_behind house who line x.reply) lines xs = both.1 in
+      let same : x.turn ≡ y.turn = mine.0 ∙ sym also.0 in
+      let rest : AreOfLines house (who_behind house who line x.reply) lines xs = mine.1 in
       let others : AreOfLines house (who_behind house who line y.reply) lines ys = also.1 in
       let m : Meant = meant_at house x.turn in
       let is : meant_at house y.turn ≡ m = ap (meant_at house) (sym same) in
