@@ -1,5 +1,5 @@
 -- What a book answers to a definition, on both sides of each choice.
-use Rattle.std.proofs.Common.{◌≡◌, ℕ, zero, suc, ◌++◌, List, [], ◌∷◌, refl, arith, Option, Some, None, Ok, Err}
+use Rattle.std.proofs.Common.{◌≡◌, ℕ, zero, suc, ◌++◌, List, [], ◌∷◌, slice_index, refl, ap, arith, Option, Some, None, Result, Ok, Err}
 use Rattle.outside_disks.specs.Disks.{Trace}
 use Rattle.journal_records.specs.declared.records.Header.{Header}
 use Rattle.journal_records.specs.declared.records.MadePartition.{MadePartition}
@@ -7,10 +7,12 @@ use Rattle.journal_records.specs.declared.records.Record.{Record}
 use Rattle.journal_records.specs.declared.records.Record.TheVariants.{Define}
 use Rattle.budget_core.specs.declared.definitions.Definition.{Definition}
 use Rattle.budget_core.specs.declared.definitions.DefineFault.TheVariants.{Full, TooMany}
+use Rattle.budget_core.specs.declared.definitions.Made.{Made}
 use Rattle.budget_core.specs.Defining.{made_behind, with_definition}
 use Rattle.budget_ledger.specs.Account.{Failure, Account}
 use Rattle.budget_ledger.specs.Defined.{IsDefined, IsPartitionOf}
 use Rattle.budget_ledger.specs.declared.book.AppendFault.TheVariants.{Closed, DiskFault}
+use Rattle.budget_ledger.specs.declared.book.DefinitionFault.{DefinitionFault}
 use Rattle.budget_ledger.specs.declared.book.DefinitionFault.TheVariants.{Refused, Unwritten}
 
 -- two definitions of the first table, which differ in their bytes alone
@@ -30,6 +32,10 @@ failed = record { failed_at = 3; pending = Define second }
 abbrev many : ℕ → List Record
 many zero = []
 many (suc n) = with_definition (many n) (record young_old { digest = n ∷ [] })
+
+abbrev partition_in : Result Made DefinitionFault → ℕ
+partition_in (Ok made) = made.partition
+partition_in (Err fault) = 0
 
 module _ (header : Header) (trace : Option Trace) where
   -- a book for so many records, which has these, and is closed so or isn't
@@ -69,7 +75,7 @@ module _ (header : Header) (trace : Option Trace) where
   finds_where_all_are_made = (refl, refl)
 
   not_twice : (new : Account) → IsDefined (one 4 None) young_old (Ok (record { partition = 9; seen = 2 })) new → ⊥
-  not_twice new (verdict, same) = absurd cc
+  not_twice new (verdict, same) = let eight : 8 ≡ 9 = ap partition_in verdict in omega (arith, eight)
 
   not_closed_to_it : (new : Account) → IsDefined (one 4 (Some failed)) young_old (Err (Unwritten (Closed 3))) new → ⊥
   not_closed_to_it new (verdict, same) = absurd cc
@@ -104,7 +110,7 @@ by_another : IsPartitionOf (with_definition [] young_old) 8 (record young_old { 
 by_another = record { behind = omega arith; made = record { table = refl; keys = refl; digest = refl } }
 
 not_anothers : IsPartitionOf (with_definition (with_definition [] young_old) old_young) 8 old_young → ⊥
-not_anothers is = let same : 1 ∷ [] ≡ 2 ∷ [] = is.made.digest in absurd cc
+not_anothers is = omega (arith, ap (λ (digest : List ℕ). slice_index digest 0) is.made.digest)
 
 not_of_other_keys : IsPartitionOf (with_definition [] young_old) 8 (record young_old { keys = 3 }) → ⊥
 not_of_other_keys is = omega (arith, is.made.keys)

@@ -160,11 +160,11 @@ partition-grows records later partition definition begins is =
   where
     by : (found : Option MadePartition) → definition_of records partition ≡ found → IsSomeAnd found (IsMadeAs definition)
         → IsSomeAnd (definition_of later partition) (IsMadeAs definition)
-    by None at as = absurd as
-    by (Some one) at as =
+    by None at alike = absurd alike
+    by (Some one) at alike =
         let there : definition_of later partition ≡ Some one =
         subst (λ (all : List Record). definition_of all partition ≡ Some one) begins.1 (definition-grows records begins.0 partition one at) in
-        subst (λ (o : Option MadePartition). IsSomeAnd o (IsMadeAs definition)) (sym there) as
+        subst (λ (o : Option MadePartition). IsSomeAnd o (IsMadeAs definition)) (sym there) alike
 
 -- and each of its parts is a view that there is.
 pub partition-view : (entry : Entry) (records : List Record) (partition part : ℕ) (definition : Definition) → IsEntry entry → IsPartitionOf records partition definition
@@ -173,8 +173,8 @@ partition-view entry records partition part definition valid is below =
     own (slice_get entry.keys partition) refl
   where
     by : (found : Option MadePartition) → IsSomeAnd found (IsMadeAs definition) → IsSomeAnd (option_map (λ (made : MadePartition). made.keys) found) (λ keys. part < keys)
-    by None as = absurd as
-    by (Some one) as = omega (arith, below, as.keys)
+    by None alike = absurd alike
+    by (Some one) alike = omega (arith, below, alike.keys)
 
     own : (found : Option ℕ) → slice_get entry.keys partition ≡ found
         → IsSomeAnd (option_or found (option_map (λ (made : MadePartition). made.keys) (definition_of records partition))) (λ keys. part < keys)
@@ -199,7 +199,7 @@ module _ (ledger : Ledger) (sound : IsSound ledger) (definition : Definition) (m
       let next : definition_verdict ledger.entry start records definition ≡ next_verdict ledger.entry start records =
       ap (λ (found : Option Made). before_or found (next_verdict ledger.entry start records)) none in
       partition-stands (subst (λ (all : List Record). Stands definition all made) (sym is)
-          (made_behind records definition, made-new definition records none, next-made ledger.entry start records made (sym next ∙ said)))
+      (made_behind records definition, made-new definition records none, next-made ledger.entry start records made (sym next ∙ said)))
 
 -- ---- over runs and stops
 
