@@ -1,5 +1,4 @@
-use Rattle.std.proofs.Common.{◌≡◌, ◌+◌, ◌-◌, ◌≤◌, ◌∷◌, ◌++◌, length, take, drop, ap, arith, sym, ◌∙◌, length-drop}
-use Rattle.std.specs.Prelude.{IfNone, true}
+use Rattle.std.proofs.Common.{◌≡◌, ◌+◌, ◌-◌, ◌∷◌, ◌++◌, length, take, drop, ap, arith, sym, ◌∙◌, length-drop}
 use Rattle.std.proofs.lemmas.List.{take_all}
 use Rattle.derivation_lines.proofs.Pieces.{cut_here, lacks_all, lacks_before, passed_over}
 use Rattle.derivation_lines.proofs.lines.cut_at.Goals as goal
