@@ -16,7 +16,7 @@ use Rattle.owner_history.specs.AnswerPath.Shut.{shut_of}
 use Rattle.budget_core.specs.Ledger.{start_of}
 use Rattle.session_core.specs.Speakers.{Speaker, no_speaker}
 use Rattle.session_core.specs.Meant.{Meant, says, wants}
-use Rattle.session_core.specs.Turns.{Turn, meant_at, who_after, who_behind}
+use Rattle.session_core.specs.Turns.{meant_at, who_after, who_behind}
 use Rattle.session_core.specs.Exchanges.{Exchange, IsPlain, TurnLeads, Lead, is_of, told_of}
 use Rattle.session_core.specs.Served.{MeetsOnSome, AnswersOn, ShutsFor}
 use Rattle.session_core.specs.Code.{no_pass, pass_at, ArePasses, GoesOn, AreServed, HasServed, room_for_line, room_for_lines}

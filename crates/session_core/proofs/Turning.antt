@@ -1,7 +1,6 @@
 -- who speaks behind a line, and behind lines one after another
-use Rattle.std.proofs.Common.{◌≡◌, ℕ, Bool, true, false, cond, List, [], ◌∷◌, ◌++◌, length, map, refl, sym, ◌∙◌, ap, arith, length-append}
+use Rattle.std.proofs.Common.{◌≡◌, ℕ, Bool, true, false, List, [], ◌∷◌, ◌++◌, length, map, refl, sym, ◌∙◌, ap, arith}
 use Rattle.std.proofs.lemmas.List.{length-map, map-append}
-use Rattle.wire_lines.specs.Lines.{lines_of}
 use Rattle.wire_lines.specs.Reply.{Replied, ended}
 use Rattle.owner_history.specs.OwnerHouse.House.{House}
 use Rattle.session_core.specs.Speakers.{Speaker, no_speaker}

@@ -1,5 +1,5 @@
 -- a line over the limit is refused as such, and leaves the session as it was
-use Rattle.std.proofs.Common.{◌≡◌, ◌<◌, ℕ, List, [], ◌∷◌, length, true, false, ltb, refl, sym, ◌∙◌, ap}
+use Rattle.std.proofs.Common.{◌≡◌, ◌<◌, ℕ, List, [], ◌∷◌, length, true, false, ltb, refl, sym, ap}
 use Rattle.std.proofs.lemmas.Bool.{cond-true, lt-ltb}
 use Rattle.std.specs.Prelude.{Result, Ok, Err}
 use Rattle.wire_lines.specs.Lines.{words_of}
