@@ -12,7 +12,7 @@ use Rattle.partition_charge.specs.Cost.{total_below}
 use Rattle.partition_charge.specs.declared.view.View.TheVariants.{Part, Whole}
 use Rattle.row_functions.specs.Computed.{computed}
 use Rattle.row_functions.specs.RowFunctions.{depth_limit, row_text}
-use Rattle.row_functions.specs.Worked.{in_town, quoted_at, same_text, span, town_and_age, young_or_old}
+use Rattle.row_functions.specs.Worked.{in_town, quoted_at, same_text, town_and_age, young_or_old}
 use Rattle.part_views.specs.Cuts.{Class, Cut, IsClassOf, by_column, by_function, class_of, cut_at, cut_of}
 use Rattle.part_views.specs.MadeParts.{Follows, IsNumberOf, chain_from, parts_by}
 use Rattle.part_views.specs.Seen.{IsSeen, rows_seen, signature_seen}
@@ -201,7 +201,7 @@ ages_apart = refl
 -- One function for all parts is needed: where two parts of one partition are by two functions, a row may be in both.
 -- fn (t : text) => "b"
 abbrev always_b : Term
-always_b = at (span 0 20) (FnE (codes "t") (span 8 12) TextT (quoted_at 17 20 (codes "b")))
+always_b = at (record { from = 0; to = 20 }) (FnE (codes "t") (record { from = 8; to = 12 }) TextT (quoted_at 17 20 (codes "b")))
 
 abbrev said_by : ℕ → Cut
 said_by zero = cut_by 0 (by_function same_text) (codes "a" ∷ codes "b" ∷ [])
