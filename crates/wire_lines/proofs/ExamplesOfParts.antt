@@ -1,5 +1,5 @@
 -- The lines of partitions that analysts make, computed as the protocol's rules write them.
-use Rattle.std.proofs.Common.{◌≡◌, ℕ, true, false, List, [], ◌∷◌, length, Some, None, Ok, Err, codes, refl, arith}
+use Rattle.std.proofs.Common.{◌≡◌, ℕ, true, false, List, [], ◌∷◌, length, Some, None, Ok, Err, codes, refl, arith, sym, subst, leb, ◌&&◌}
 use Rattle.std.proofs.lemmas.Bool.{and_from, le-leb}
 use Rattle.std.specs.Fmt.{digits}
 use Rattle.std.specs.List.{list_all}
@@ -97,7 +97,7 @@ all_250 word count each distinct = and_from _ _ (and_from _ _ (le-leb (length (k
 
 one_over_250 : (word : List ℕ) → length (keys_of word) ≡ 251 → is_key_list word ≡ false
 unfolding is_key_list
-one_over_250 word count = rw count refl
+one_over_250 word count = subst (λ n. (leb n most_keys && list_all is_key (keys_of word) && are_distinct (keys_of word)) ≡ false) (sym count) refl
 
 -- Definitions.
 its_table : definition_table (codes "people young,old fn (r : text * num) => \"old\"") ≡ codes "people"

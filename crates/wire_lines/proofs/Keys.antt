@@ -1,5 +1,5 @@
 -- Lists of keys, one key after another.
-use Rattle.std.proofs.Common.{◌≡◌, ◌≢◌, ℕ, ◌+◌, ◌<◌, ◌≤◌, Bool, true, false, not, ◌&&◌, eqb, ltb, leb, inl, inr, List, [], ◌∷◌, ◌++◌, length, All, Option, Some, None, bytes_eq, refl, sym, ap, subst, ◌∙◌, arith, rules, length-append}
+use Rattle.std.proofs.Common.{◌≡◌, ◌≢◌, ℕ, ◌+◌, ◌<◌, ◌≤◌, Bool, true, false, not, ◌&&◌, eqb, ltb, leb, inl, inr, List, [], ◌∷◌, ◌++◌, length, All, Option, Some, None, bytes_eq, refl, sym, ap, subst, ◌∙◌, arith, length-append, drop, get_or}
 use Rattle.std.specs.Borrow.{Bor}
 use Rattle.std.specs.Prelude.{count_by}
 use Rattle.std.specs.List.{AllByRecursion, IsDistinct, join_with_byte, list_all, list_any, position, position_from, slice_split}
@@ -32,6 +32,18 @@ left_over (Some rest) = length rest.now + 1
 
 pub rest_joined : (line : List ℕ) → joined (words_of line) ≡ line
 rest_joined line = join_with_byte-slice_split space line
+
+-- the second word, and what stands behind it
+pub second_word : (words behind : List (List ℕ)) (word : List ℕ) → behind ≡ drop 1 words → word ≡ get_or behind 0 [] → keys_of word ≡ keys_of (get_or words 1 [])
+second_word [] behind word d w = ap keys_of (w ∙ ap (λ ws. get_or ws 0 []) d)
+second_word (x ∷ words) behind word d w = ap keys_of (w ∙ ap (λ ws. get_or ws 0 []) d)
+
+pub behind_two : (words once twice : List (List ℕ)) (rest : List ℕ) → once ≡ drop 1 words → twice ≡ drop 1 once → rest ≡ joined twice → rest ≡ joined (drop 2 words)
+behind_two words once twice rest d e r = r ∙ ap joined (e ∙ ap (drop 1) d ∙ go words)
+  where
+    go : (words : List (List ℕ)) → drop 1 (drop 1 words) ≡ drop 2 words
+    go [] = refl
+    go (x ∷ words) = refl
 
 pub numbered_from : (test : List ℕ → Bool) (keys : List (List ℕ)) → position test keys ≡ position_from test 0 keys
 numbered_from test keys = position_from-zero test keys
@@ -79,7 +91,8 @@ none_to key [] h = refl
 none_to key (other ∷ keys) (off, others) = rw off (none_to key keys others)
 
 distinct_from : (keys : List (List ℕ)) → are_distinct keys ≡ true → IsDistinct bytes_eq keys
-distinct_from [] h = search rules
+unfolding IsDistinct
+distinct_from [] h = tt
 distinct_from (key ∷ keys) h =
     let (first, others) = and_parts (not (list_any (bytes_eq key) keys)) (are_distinct keys) h in
     IsDistinct-cons bytes_eq key keys (none_from key keys (not-true (list_any (bytes_eq key) keys) first)) (distinct_from keys others)
@@ -107,7 +120,7 @@ list_from word h =
 
 -- no key has a comma, nor a space
 no_comma : (key : List ℕ) → IsKey key → All (λ b. b ≢ comma) key
-no_comma key k i d l = (k.2 i d l).1.0
+no_comma key k i d l = (k.2 i d l).1
 
 no_space : (key : List ℕ) → IsKey key → AllByRecursion (λ b. b ≢ space) key
 no_space key k = recursion_from_All _ key (λ i d l. let low = (k.2 i d l).0 in λ at. absurd (omega (arith, low, at)))
@@ -123,7 +136,8 @@ unfolding is_key_list
 list_to word (keys, are, joins) =
     let each = recursion_from_All _ keys are.each in
     let same : keys_of word ≡ keys = ap keys_of joins ∙ cut_again keys are.some each in
-    rw same (and_from _ _ (and_from _ _ (le-leb (length keys) most_keys are.few) (each_to is_key IsKey key_to keys each)) (distinct_to keys are.distinct))
+    subst (λ ks. (leb (length ks) most_keys && list_all is_key ks && are_distinct ks) ≡ true) (sym same)
+    (and_from _ _ (and_from _ _ (le-leb (length keys) most_keys are.few) (each_to is_key IsKey key_to keys each)) (distinct_to keys are.distinct))
 
 joined_apart : (keys : List (List ℕ)) → AllByRecursion IsKey keys → AllByRecursion (λ b. b ≢ space) (join_with_byte comma keys)
 joined_apart [] each = tt

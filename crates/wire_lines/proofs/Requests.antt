@@ -472,7 +472,6 @@ askmade_agrees ((b ∷ bytes) ∷ (c ∷ digits) ∷ words) = elim (cases_Bool (
 ]
   where
     behind_agrees : (owner : List ℕ) (n : ℕ) (words : List (List ℕ)) → Agree (behind_partition owner n words) (fault_from 3 (one_word ∷ one_word ∷ all_rest ∷ []) words)
-    unfolding Agree
     behind_agrees owner n [] = (refl, omega arith)
     behind_agrees owner n ([] ∷ words) = (refl, omega arith)
     behind_agrees owner n ((k ∷ key) ∷ []) = (refl, omega arith)

@@ -4,6 +4,7 @@ ghost use Rattle.std.specs.Prelude.{◌≡◌, ◌<◌, [], ◌∷◌, length, d
 ghost use Rattle.std.specs.List.{list_all, list_any, position};
 ghost use Rattle.wire_lines.specs.Definition.{is_key_byte, is_key, is_key_list as is_key_list_text, are_distinct, keys_of, keys_behind};
 ghost use Rattle.wire_lines.specs.Request.{words_behind};
+ghost use Rattle.wire_lines.specs.Lines.{joined};
 ghost use Rattle.wire_lines.specs.Definition.{definition_table, definition_keys, definition_function, definition_key};
 
 use crate::cut::cut_at;
@@ -150,6 +151,17 @@ fn behind_word(line: Option<&[u8]>) -> Option<&[u8]>
     split_word(line?).1
 }
 
+/// All of a line, where there is one.
+#[tactic(auto, using(crate::proofs::Keys::rest_joined))]
+fn whole(line: Option<&[u8]>) -> &[u8]
+    ensures { result.now ≡ joined (words_behind line.entry) }
+{
+    match line {
+        Some(line) => line,
+        None => &[],
+    }
+}
+
 impl<'a> Definition<'a> {
     /// The table's name.
     pub fn table(&self) -> &'a [u8]
@@ -159,6 +171,7 @@ impl<'a> Definition<'a> {
     }
 
     /// The list of its keys, with one comma between each two.
+    #[tactic(auto, using(crate::proofs::Keys::second_word))]
     pub fn keys(&self) -> &'a [u8]
         ensures { keys_of result.now ≡ definition_keys self.now.bytes.now }
     {
@@ -180,13 +193,10 @@ impl<'a> Definition<'a> {
     }
 
     /// The text of the function.
-    #[tactic(auto, using(crate::proofs::Keys::rest_joined))]
+    #[tactic(auto, using(crate::proofs::Keys::behind_two))]
     pub fn function(&self) -> &'a [u8]
         ensures { result.now ≡ definition_function self.now.bytes.now }
     {
-        match behind_word(behind_word(Some(self.bytes))) {
-            Some(function) => function,
-            None => &[],
-        }
+        whole(behind_word(behind_word(Some(self.bytes))))
     }
 }
