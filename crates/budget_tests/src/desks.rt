@@ -44,16 +44,25 @@ const LINE: Definition = Definition {
     digest: [7; 32],
 };
 
+// Says the line. The choice is a function of its own, so that what it keeps is known behind it.
+fn say_line<D: Disk, W: Wait>(rt: &W, desk: &Desk<D>, pass: &mut Pass<D>)
+    requires here { pass.old.lock ≡ desk.now }
+    ensures kept { IsKept pass.old pass.new }
+{
+    let line = LINE;
+    if !line.is_valid() {
+        return;
+    }
+    let _made = desk.define(rt, pass, &line);
+}
+
 // Makes the line's partition, asks so often, and settles each grant with an answer of its own.
 fn ask_all<D: Disk, W: Wait>(rt: &W, desk: &Desk<D>, mut pass: Pass<D>, asking: &Ask) -> Pass<D>
     requires here { pass.lock ≡ desk.now }
     requires of_entry { ((records : List Record) → IsAskOf pass.knows.opened.ledger.entry records asking.now) }
     ensures kept { IsKept pass result }
 {
-    let line = LINE;
-    if line.is_valid() {
-        let _made = desk.define(rt, &mut pass, &line);
-    }
+    say_line(rt, desk, &mut pass);
     for _ in 0..ASKS {
         if let Ok(grant) = desk.reserve(rt, &mut pass, asking) {
             let answer = 1000 + i64::from(grant.number);

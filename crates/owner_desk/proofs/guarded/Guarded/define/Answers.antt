@@ -1,3 +1,5 @@
+use Rattle.std.proofs.Common.{subst}
+use Rattle.budget_core.specs.Sound.{IsSound}
 use Rattle.budget_ledger.specs.Account.{Account}
 use Rattle.budget_ledger.specs.Defined.{IsDefined}
 use Rattle.owner_desk.proofs.Steps.{sole_defined}
@@ -13,3 +15,8 @@ returns-clause-defined g c =
     let sole = sole_defined c.self.inside.opened.value c.self.inside.book c.define.new.self c.args.definition.now c.define.result c.self.invariant c.define.ensures.answer c.define.ensures.went c.define.ensures.kept in
     rw (← c.self.view_is) (said_of c.self.inside.opened.value c.self.inside.book c.define.new.self c.self.invariant.gone sole.gone
     (λ (a b : Account). IsDefined a c.args.definition.now c.define.result b) c.define.ensures.answer)
+
+pub returns-clause-sound : goal.returns-clause-sound
+returns-clause-sound g c =
+    let sole = sole_defined c.self.inside.opened.value c.self.inside.book c.define.new.self c.args.definition.now c.define.result c.self.invariant c.define.ensures.answer c.define.ensures.went c.define.ensures.kept in
+    subst IsSound sole.gone.ledger c.define.ensures.kept.sound
