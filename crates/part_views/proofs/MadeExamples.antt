@@ -1,19 +1,19 @@
 -- Partitions that are made, at worked tables.
-use Rattle.std.proofs.Common.{◌≡◌, ◌/◌, ◌%◌, ◌++◌, ◌+◌, ℕ, zero, suc, Some, None, List, [], ◌∷◌, replicate, refl, ap, arith}
+use Rattle.std.proofs.Common.{◌≡◌, ◌/◌, ◌%◌, ◌++◌, ◌+◌, ℕ, zero, suc, Some, None, List, [], ◌∷◌, get_or, replicate, refl, ap, arith}
 use Rattle.std.specs.Prelude.{codes, length, pos}
 use Rattle.fz_ast.specs.Signature.{Signature}
 use Rattle.fz_ast.specs.Terms.{FnE, Term, at}
 use Rattle.fz_ast.specs.Types.{TextT}
 use Rattle.metric_values.specs.Distances.{bag_distance}
 use Rattle.metric_values.specs.Tables.{Dataset, apart}
-use Rattle.metric_values.specs.Values.{Flat, TextF}
+use Rattle.metric_values.specs.Values.{Flat, NumF, TextF}
 use Rattle.owner_catalog.specs.Entries.{PartitionEntry}
 use Rattle.partition_charge.specs.Cost.{total_below}
 use Rattle.partition_charge.specs.declared.view.View.TheVariants.{Part, Whole}
 use Rattle.row_functions.specs.Computed.{computed}
 use Rattle.row_functions.specs.RowFunctions.{depth_limit, row_text}
-use Rattle.row_functions.specs.Worked.{in_town, quoted_at, same_text, span, town_and_age, young_or_old}
-use Rattle.part_views.specs.Cuts.{Class, Cut, IsClassOf, by_column, by_function, cut_at, cut_of}
+use Rattle.row_functions.specs.Worked.{in_town, quoted_at, same_text, town_and_age, young_or_old}
+use Rattle.part_views.specs.Cuts.{Class, Cut, IsClassOf, by_column, by_function, class_of, cut_at, cut_of}
 use Rattle.part_views.specs.MadeParts.{Follows, IsNumberOf, chain_from, parts_by}
 use Rattle.part_views.specs.Seen.{IsSeen, rows_seen, signature_seen}
 use Rattle.part_views.specs.SeenLaws.{IsOfCatalog}
@@ -156,6 +156,17 @@ no_number h = absurd (cc h)
 second_key : (IsNumberOf (codes "young" ∷ codes "old" ∷ []) (codes "old") (Some 1))
 second_key = (omega arith, refl)
 
+-- a text that is as long as a key is another, and what is no key has no number
+not_by_length : IsNumberOf (codes "young" ∷ codes "old" ∷ []) (codes "odd") (Some 1) → ⊥
+not_by_length h = let second : 108 ≡ 100 = ap (λ (text : List ℕ). get_or text 1 0) (h.1) in omega (arith, second)
+
+no_number_past : IsNumberOf (codes "young" ∷ []) (codes "young") (Some 1) → ⊥
+no_number_past h = omega (arith, h.0)
+
+-- a column by its number
+second_column : class_of (by_column 1) bob ≡ NumF (pos 30)
+second_column = refl
+
 -- as many keys as a made partition may have: texts of two letters
 abbrev letters : ℕ → List (List ℕ)
 letters zero = []
@@ -190,7 +201,7 @@ ages_apart = refl
 -- One function for all parts is needed: where two parts of one partition are by two functions, a row may be in both.
 -- fn (t : text) => "b"
 abbrev always_b : Term
-always_b = at (span 0 20) (FnE (codes "t") (span 8 12) TextT (quoted_at 17 20 (codes "b")))
+always_b = at (record { from = 0; to = 20 }) (FnE (codes "t") (record { from = 8; to = 12 }) TextT (quoted_at 17 20 (codes "b")))
 
 abbrev said_by : ℕ → Cut
 said_by zero = cut_by 0 (by_function same_text) (codes "a" ∷ codes "b" ∷ [])
