@@ -1,5 +1,5 @@
 -- What is known of a node's form, at the form that it is, and the row of its parts' lines.
-use Rattle.std.proofs.Common.{◌≡◌, ℕ, List, length, Option}
+use Rattle.std.proofs.Common.{◌≡◌, List, length, Option}
 use Rattle.fz_ast.specs.Parts.{Parts}
 use Rattle.fz_ast.specs.TermNodes.{FormLimits, IsKnown}
 use Rattle.fz_ast.specs.TypeNodes.{type_at}

@@ -1,5 +1,5 @@
 -- What is judged of a program, its lines being read and its nodes walked over.
-use Rattle.std.proofs.Common.{◌≡◌, ℕ, ◌<◌, ◌≤◌, refl, sym, ap, ◌∙◌, List, length, IfOk, inl, inr}
+use Rattle.std.proofs.Common.{◌≡◌, ℕ, ◌<◌, ◌≤◌, refl, sym, ◌∙◌, List, length, IfOk, inl, inr}
 use Rattle.std.specs.Prelude.{Result, Ok, Err, IfErr, IsErrAnd, Option, Some, None, cond, min}
 use Rattle.std.proofs.lemmas.List.{length-map}
 use Rattle.std.proofs.lemmas.Result.{err_from_is_err_and}
@@ -16,8 +16,8 @@ use Rattle.fz_derive.specs.Answered.{ExplainsJudge, ExplainsPlace}
 use Rattle.fz_derive.specs.Bound.{HasBound}
 use Rattle.derivation_rows.specs.Faults.{fault_in}
 use Rattle.derivation_lines.specs.Held.{line_in, lines_in}
-use Rattle.fz_derive.specs.Judged.{IsJudged, IsMisjudged, fault_of, greatest_said, is_bounded, names_of}
-use Rattle.derivation_lines.specs.Lines.{Line, line_at}
+use Rattle.fz_derive.specs.Judged.{IsJudged, fault_of, greatest_said, is_bounded, names_of}
+use Rattle.derivation_lines.specs.Lines.{line_at}
 use Rattle.derivation_rows.specs.Nodes.{nodes_of}
 use Rattle.derivation_lines.specs.Pieces.{ExplainsLines}
 use Rattle.derivation_rows.specs.Scoped.{HasKnownTypes, context_in}

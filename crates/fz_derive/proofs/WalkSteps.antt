@@ -1,6 +1,6 @@
 -- What a node that is fine tells of its parts' types, and that a leaf has nothing below.
-use Rattle.std.proofs.Common.{◌≡◌, refl, sym, subst, Bool, true, false, List, Some, None, ◌⊎◌, inl, inr}
-use Rattle.std.specs.Prelude.{IfOk, Option, Result, ℕ}
+use Rattle.std.proofs.Common.{◌≡◌, refl, sym, subst, Bool, true, false, List, Some, None, inl, inr}
+use Rattle.std.specs.Prelude.{Err, IfOk, IsErrAnd, Ok, Option, Result, ℕ}
 use Rattle.fz_ast.specs.Names.{name_of}
 use Rattle.fz_ast.specs.Parts.{Parts}
 use Rattle.fz_ast.specs.Terms.{Name}
@@ -56,3 +56,8 @@ found_first o p q at e h = rw (← e, h) refl
 
 pub found_later : (r : Result (Option ℕ) NoMemory) (o p q : Option ℕ) → o ≡ p → o ≡ None → IfOk r (λ x. x ≡ q) → IfOk r (λ x. x ≡ first_of p q)
 found_later r o p q e h k = rw (← e, h) k
+
+-- where memory ran out nothing is found
+pub none_found : (Q : NoMemory → Type 0) (P : Option ℕ → Type 0) (r : Result (Option ℕ) NoMemory) → IsErrAnd r Q → IfOk r P
+none_found Q P (Ok o) h = absurd h
+none_found Q P (Err e) h = tt

@@ -1,4 +1,4 @@
-use Rattle.std.proofs.Common.{◌+◌, ◌≤◌, ◌≡◌, length, sym, ap, ◌∙◌, arith, IfErr}
+use Rattle.std.proofs.Common.{◌≡◌, ap, ◌∙◌, arith}
 use Rattle.fz_ast.proofs.Arenas.{grows_trans}
 use Rattle.fz_ast.specs.TermNodes.{term_at}
 use Rattle.derivation_rows.specs.Nodes.{nodes_of}

@@ -1,4 +1,4 @@
-use Rattle.std.proofs.Common.{List, [], refl, arith, ◌≤◌, length, take, ap, subst, sym, ◌∙◌}
+use Rattle.std.proofs.Common.{List, [], refl, arith, ap, subst, sym, ◌∙◌}
 use Rattle.std.proofs.lemmas.List.{take_all}
 use Rattle.fz_ast.proofs.Arenas.{grows_refl, grows_trans}
 use Rattle.fz_derive.specs.Judged.{names_of}

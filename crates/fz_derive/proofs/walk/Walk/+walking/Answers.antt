@@ -1,23 +1,26 @@
-use Rattle.std.proofs.Common.{ap, false, sym, true≢false, ◌∙◌, ℕ, ◌<◌, ◌≡◌, ◌+◌, ◌*◌, ◌≤◌, arith, length, refl, subst}
-use Rattle.std.specs.Prelude.{IfOk, max, true, None, Ok}
+use Rattle.std.proofs.Common.{ap, false, sym, true≢false, ◌∙◌, ◌<◌, ◌≡◌, ◌+◌, ◌≤◌, arith, length, refl, subst}
+use Rattle.std.specs.Prelude.{IfOk, true, None, Ok}
 use Rattle.fz_ast.specs.TermNodes.{IsKnown, term_at}
 use Rattle.fz_ast.specs.Names.{name_of}
 use Rattle.fz_ast.specs.Terms.{Term}
 use Rattle.fz_ast.specs.TypeNodes.{type_at}
-use Rattle.fz_ast.specs.Types.{BangT, SumT, TensorT, Ty}
+use Rattle.fz_ast.specs.Types.{SumT, TensorT, Ty}
 use Rattle.term_meanings.specs.Scopes.{Context, Under}
 use Rattle.derivation_rows.specs.Faults.{first_of, first_type, second_type}
 use Rattle.derivation_rows.specs.Nodes.{nodes_of}
 use Rattle.derivation_rows.specs.Rows.{is_sum, is_tensor}
 use Rattle.derivation_rows.specs.Shapes.{is_bang}
+use Rattle.fz_ast.proofs.TermNodes.{is_known_more}
+use Rattle.fz_ast.specs.Limits.{TermLimits}
 use Rattle.derivation_rows.proofs.Scopes.{scope_under}
+use Rattle.fz_derive.proofs.Making.{form_limits}
 use Rattle.fz_derive.specs.Walking.{fault_seen, names_seen}
 use Rattle.fz_ast.specs.declared.term.Form.TheVariants.{Unary as Op, Binary as Op2, Times, Ranged as Bounded, Inject, Bang, Let, LetBang, LetPair, If, Case, Lambda}
 use Rattle.derivation_lines.specs.Lines.{line_at}
 use Rattle.derivation_rows.specs.Scoped.{context_in}
 use Rattle.derivation_rows.specs.Viewed.{lines_seen}
-use Rattle.fz_derive.proofs.WalkSteps.{bang_form, found_first, found_later, none_below, pair_form, sum_form}
-use Rattle.fz_derive.proofs.Walked.{failed, fit, passed, placed}
+use Rattle.fz_derive.proofs.WalkSteps.{bang_form, found_first, found_later, none_below, none_found, pair_form, sum_form}
+use Rattle.fz_derive.proofs.Walked.{failed, fit, nodes_above, passed, placed}
 use Rattle.fz_derive.proofs.walk.Walk.+walking.Goals as goal
 
 pub fault_at-is_fine-requires-clause-placed : goal.fault_at-is_fine-requires-clause-placed
@@ -377,3 +380,60 @@ fault_at-is_fine-requires-clause-scope t c = c.requires.scope
 
 pub fault_at-line_type-requires-clause-view : goal.fault_at-line_type-requires-clause-view
 fault_at-line_type-requires-clause-view t c = c.requires.walk.view
+
+pub two-returns-in_err-at : goal.two-returns-in_err-at
+two-returns-in_err-at t c = none_found _ _ c.from_residual.result c.from_residual.ensures.1
+
+pub bound-returns-in_err-at : goal.bound-returns-in_err-at
+bound-returns-in_err-at t c = none_found _ _ c.from_residual.result c.from_residual.ensures.1
+
+pub branches-returns-in_err-at : goal.branches-returns-in_err-at
+branches-returns-in_err-at t c = none_found _ _ c.from_residual.result c.from_residual.ensures.1
+
+pub three-returns-in_err-at : goal.three-returns-in_err-at
+three-returns-in_err-at t c = none_found _ _ c.from_residual.result c.from_residual.ensures.1
+
+pub cases-returns-in_err-at : goal.cases-returns-in_err-at
+cases-returns-in_err-at t c = none_found _ _ c.from_residual.result c.from_residual.ensures.1
+
+pub paired-returns-in_err-at : goal.paired-returns-in_err-at
+paired-returns-in_err-at t c = none_found _ _ c.from_residual.result c.from_residual.ensures.1
+
+pub paired-returns-in_err-outer-in-None : goal.paired-returns-in_err-outer-in-None
+paired-returns-in_err-outer-in-None t c = none_found _ _ c.from_residual-in_err-outer-in-None.result c.from_residual-in_err-outer-in-None.ensures.1
+
+pub inside-returns-in_err-inner : goal.inside-returns-in_err-inner
+inside-returns-in_err-inner t c = none_found _ _ c.from_residual.result c.from_residual.ensures.1
+
+pub fault_at-places-at-requires-clause-known : goal.fault_at-places-at-requires-clause-known
+fault_at-places-at-requires-clause-known t c =
+    let v = c.args.self.now.view in
+    let h = c.requires.known in
+    let m = length v.nodes.now.types in
+    is_known_more m m c.args.i (length c.args.self.now.sizes.now) c.node.result.now.form (omega arith) (omega (arith, h)) c.node.ensures.known
+
+pub fault_at-is_fine-requires-clause-known : goal.fault_at-is_fine-requires-clause-known
+fault_at-is_fine-requires-clause-known t c =
+    let v = c.args.self.now.view in
+    let h = c.requires.known in
+    let w = c.requires.walk.known in
+    let m = length v.nodes.now.types in
+    is_known_more m m c.args.i (length v.nodes.now.terms) c.node.result.now.form (omega arith) (omega (arith, h, w)) c.node.ensures.known
+
+pub fault_at-is_fine-requires-clause-limits : goal.fault_at-is_fine-requires-clause-limits
+fault_at-is_fine-requires-clause-limits t c =
+    let v = c.args.self.now.view in
+    form_limits (type_at v.nodes.now.types) (term_at v.nodes.now.terms) c.node.result.now.span c.node.result.now.form (subst TermLimits c.node.ensures.form c.node.ensures.limits)
+
+pub fault_at-is_fine-requires-clause-fits : goal.fault_at-is_fine-requires-clause-fits
+fault_at-is_fine-requires-clause-fits t c =
+    let v = c.args.self.now.view in
+    let m = nodes_above (term_at v.nodes.now.terms c.args.i) in
+    let f = c.requires.fits in
+    omega (arith, m, f)
+
+pub fault_at-line_type-requires-clause-known : goal.fault_at-line_type-requires-clause-known
+fault_at-line_type-requires-clause-known t c =
+    let v = c.args.self.now.view in
+    let g = Let c.in-Let.x c.in-Let.e c.in-Let.b in
+    (placed (length v.lines.now) v.nodes.now c.places-at.result g (fit v.nodes.now c.node.result.now.span c.args.k (length v.lines.now) (term_at v.nodes.now.terms c.args.i) c.node.result.now.form g c.places-at.result c.node.ensures.form c.places-at.ensures c.in-Let.is c.requires.fits)).0
