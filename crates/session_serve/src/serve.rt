@@ -240,8 +240,9 @@ pub fn serve<L: Link, R: Wait, D: Disk, S: Streams, G: Gate>(
     let Ok(line) = Line::new(server.alloc) else {
         return SessionEnd::NoMemory;
     };
+    let who = Speaker::nobody();
     let mut session = Session {
-        who: Speaker::nobody(),
+        who,
         last: LastProgram::none(),
         line,
         block,

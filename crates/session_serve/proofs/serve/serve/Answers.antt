@@ -23,12 +23,12 @@ loop-n-init g c = record {
   here = c.requires.here;
   kept = refl;
   passes = c.requires.passes;
-  known = subst (λ (w : Speaker). IsAnalyst (house_of c.args.server.now.house.now) w) (sym c.nobody-session.ensures) tt;
+  known = subst (λ (w : Speaker). IsAnalyst (house_of c.args.server.now.house.now) w) (sym c.nobody-who.ensures) tt;
   count = refl;
   within = omega arith;
   gave = given_none (g.L.Link.left c.args.link.now) (g.L.Link.left c.args.link.now) refl;
   goes = goes_first (house_of c.args.server.now.house.now) (g.S.Streams.given c.args.server.now.streams.now) c.args.passes.now.knows
-      (shown (g.L.Link.left c.args.link.now) (g.L.Link.written c.args.link.now) (g.L.Link.faults c.args.link.now)) _ c.nobody-session.ensures c.in-Ok.ensures;
+      (shown (g.L.Link.left c.args.link.now) (g.L.Link.written c.args.link.now) (g.L.Link.faults c.args.link.now)) _ c.nobody-who.ensures c.in-Ok.ensures;
 }
 
 pub returns-then-n-eq0-clause-session : goal.returns-then-n-eq0-clause-session
