@@ -2,7 +2,7 @@
 use Rattle.std.proofs.Common.{◌≡◌, ℕ, List, [], ◌∷◌, ◌++◌, length, length-append, Option, Some, None, codes, refl, sym, ◌∙◌, ap, subst, arith, pos, inl, inr}
 use Rattle.journal_records.specs.declared.records.Outcome.TheVariants.{Answered, Exhausted, Lost}
 use Rattle.journal_records.specs.declared.records.Record.{Record}
-use Rattle.journal_records.specs.declared.records.Record.TheVariants.{Reserve, Settle, Grant as Raise}
+use Rattle.journal_records.specs.declared.records.Record.TheVariants.{Reserve, Settle, Grant as Raise, Define}
 use Rattle.journal_records.specs.Records.{settling}
 use Rattle.budget_core.specs.declared.entry.Ask.{Ask}
 use Rattle.budget_core.specs.declared.entry.Grant.{Grant}
@@ -45,6 +45,7 @@ abbrev settled_number : Record → ℕ
 settled_number (Settle settlement) = settlement.number
 settled_number (Reserve reservation) = 0
 settled_number (Raise grant) = 0
+settled_number (Define made) = 0
 
 -- 52 at the reservation: nothing was added, and the book is closed with that reservation pending.
 fault_at_reservation : (draws : ℕ → ℕ → ℕ) → IsAsked (owner 9000000 100) draws 0 query [] (refused (by_disk Fault)) [] before
@@ -88,6 +89,7 @@ number_of : Record → ℕ
 number_of (Reserve reservation) = reservation.number
 number_of (Settle settlement) = settlement.number
 number_of (Raise grant) = grant.number
+number_of (Define made) = made.partition
 
 not_due_of_another_number : IsGrantPending (owner 9000000 100) 0 query (refused (by_disk Fault)) [] before (Some (failed (reserved 2))) → ⊥
 unfolding number_of
@@ -97,6 +99,7 @@ rise_by : Record → ℕ
 rise_by (Reserve reservation) = reservation.taken
 rise_by (Settle settlement) = 0
 rise_by (Raise grant) = 0
+rise_by (Define made) = 0
 
 not_due_at_another_charge : IsGrantPending (owner 9000000 100) 0 query (refused (by_disk Fault)) [] before (Some (failed (granted_record an_ask (a_grant 1 999999 3)))) → ⊥
 unfolding rise_by
@@ -170,6 +173,7 @@ digest_of : Record → List ℕ
 digest_of (Reserve reservation) = reservation.digest
 digest_of (Settle settlement) = []
 digest_of (Raise grant) = []
+digest_of (Define made) = made.digest
 
 carries_the_digest : (grant : Grant) → digest_of (granted_record (ask_for query 1 1) grant) ≡ sha256 size_people
 unfolding digest_of

@@ -3,7 +3,7 @@ use Rattle.std.proofs.Common.{◌≡◌, ℕ, List, [], ◌∷◌, ◌++◌, len
 use Rattle.std.specs.List.{enumerate_from}
 use Rattle.journal_records.specs.declared.records.Outcome.TheVariants.{Answered, Exhausted, Lost}
 use Rattle.journal_records.specs.declared.records.Record.{Record}
-use Rattle.journal_records.specs.declared.records.Record.TheVariants.{Reserve, Settle, Grant as Raise}
+use Rattle.journal_records.specs.declared.records.Record.TheVariants.{Reserve, Settle, Grant as Raise, Define}
 use Rattle.journal_records.specs.Records.{settling}
 use Rattle.budget_core.specs.Cost.{cost_of, budget_of}
 use Rattle.budget_core.specs.Mine.{spent_by}
@@ -51,6 +51,7 @@ abbrev settled_number : Record → ℕ
 settled_number (Settle settlement) = settlement.number
 settled_number (Reserve reservation) = 0
 settled_number (Raise grant) = 0
+settled_number (Define made) = 0
 
 -- which replies are for the disk
 word_of_closed : disk_word (refused (by_disk (Closed 3))) ≡ Some (Some 3)

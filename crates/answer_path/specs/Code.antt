@@ -1,5 +1,5 @@
 -- What the code's answers mean.
-use Rattle.std.specs.Prelude.{◌≡◌, ◌<◌, ◌≤◌, ℕ, ℤ, List, length, Some, option_map, ⊤}
+use Rattle.std.specs.Prelude.{◌≡◌, ◌<◌, ◌≤◌, ℕ, ℤ, List, [], length, Some, option_map, ⊤}
 use Rattle.partition_charge.specs.declared.view.View.{View}
 use Rattle.budget_core.specs.Entries.{Entry, HasView, IsEpsilon}
 use Rattle.sha2.specs.Sha256.{sha256}
@@ -148,10 +148,10 @@ query_of query = record {
   made = option_map (λ bytes. bytes.now) query.made;
 }
 
--- a query is of an analyst and a view of the entry, at an epsilon in its range
+-- a query is of an analyst and a view of the entry, at an epsilon in its range (a made partition is of records, and no query looks at one)
 pub record IsQueryOf (entry : Entry) (query : Query) : Type 0 where
   pub analyst : query.analyst < entry.analysts
-  pub view : HasView entry query.view
+  pub view : HasView entry [] query.view
   pub epsilon : IsEpsilon query.e
 
 -- what is demanded, in the program's memory

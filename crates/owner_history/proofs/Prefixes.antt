@@ -6,7 +6,7 @@ use mathlib.Core.List.{IsPrefix}
 use Rattle.journal_records.specs.declared.records.Outcome.{Outcome}
 use Rattle.journal_records.specs.declared.records.Reservation.{Reservation}
 use Rattle.journal_records.specs.declared.records.Record.{Record}
-use Rattle.journal_records.specs.declared.records.Record.TheVariants.{Reserve, Settle, Grant}
+use Rattle.journal_records.specs.declared.records.Record.TheVariants.{Reserve, Settle, Grant, Define}
 use Rattle.budget_core.specs.Counts.{reservation_of, outcome_of}
 use Rattle.budget_core.proofs.Histories.{slice_get-append-lt}
 use Rattle.budget_core.proofs.Numbers.{reservation_of-append}
@@ -35,6 +35,7 @@ outcome_append : (xs more : List Record) (n : ℕ) (o : Outcome) → outcome_of 
 outcome_append [] more n o at = cc
 outcome_append (Reserve reserved ∷ xs) more n o at = outcome_append xs more n o at
 outcome_append (Grant grant ∷ xs) more n o at = outcome_append xs more n o at
+outcome_append (Define made ∷ xs) more n o at = outcome_append xs more n o at
 outcome_append (Settle settlement ∷ xs) more n o at = here (outcome_append xs more n o) (n == settlement.number) at
   where
     here : (outcome_of xs n ≡ Some o → outcome_of (xs ++ more) n ≡ Some o) → (b : Bool) → cond b (Some settlement.outcome) (outcome_of xs n) ≡ Some o → cond b (Some settlement.outcome) (outcome_of (xs ++ more) n) ≡ Some o

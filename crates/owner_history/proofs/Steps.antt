@@ -14,6 +14,7 @@ use Rattle.journal_records.specs.Encoding.{AreChargeTerms}
 use Rattle.budget_core.specs.Legal.{IsHistory, IsLegal}
 use Rattle.budget_core.specs.Ledger.{Ledger, IsAskOf, IsUnsettled, next_number, reservation_numbered, money_verdict, returned_by, settlement_of, settlement_for}
 use Rattle.budget_core.proofs.Histories.{legal-history, slice_get-append-seam}
+use Rattle.budget_core.proofs.Partitions.{has-view-anywhere}
 use Rattle.budget_core.proofs.Numbers.{reservations_of-append-Reserve, reservations_of-append-Settle, reservation_of-append-old, reservation_of-next, outcome_of-append-new}
 use Rattle.budget_core.proofs.LegalLemmas.{granted as money_granted, legal-Reserve, legal-Settle, unsettled-Reserve, settlement-may}
 use Rattle.answer_path.specs.OwnerHouse.Owner.{Owner, signature_of_view}
@@ -32,12 +33,12 @@ use Rattle.owner_history.proofs.Charges.{charged_lowest}
 use Rattle.owner_history.proofs.Explaining.{explains_reservation, explains_settlement, outcome_explains}
 use Rattle.owner_history.proofs.Grants.{verdict_grants}
 
--- what is asked of the budget for an accepted program is of the entry
-asked_of : (owner : Owner) (query : Query) (p q : ℕ) → IsQueryOf owner.entry query → IsCharged (signature_of_view owner query.view) query.program p q → IsAskOf owner.entry (ask_for query p q)
-asked_of owner query p q of charged =
+-- what is asked of the budget for an accepted program is of the entry, whatever the records are
+asked_of : (owner : Owner) (records : List Record) (query : Query) (p q : ℕ) → IsQueryOf owner.entry query → IsCharged (signature_of_view owner query.view) query.program p q → IsAskOf owner.entry records (ask_for query p q)
+asked_of owner records query p q of charged =
     let low = charged_lowest (signature_of_view owner query.view) query.program p q charged in
     let terms : AreChargeTerms query.e p q = record { above = of.epsilon.least; most = of.epsilon.most; positive = low.0; lowest = low.1 } in
-    record { analyst = of.analyst; view = of.view; terms = terms; digest = sha256_bytes query.program }
+    record { analyst = of.analyst; view = has-view-anywhere owner.entry records query.view of.view; terms = terms; digest = sha256_bytes query.program }
 
 module _ (owner : Owner) (draws : ℕ → ℕ → ℕ) (found : List Record) where
   -- what holds of an owner's records before each line, whatever was found
@@ -80,7 +81,7 @@ module _ (owner : Owner) (draws : ℕ → ℕ → ℕ) (found : List Record) whe
       let r : Reservation = reservation_numbered n ask grant.taken in
       let first : List Record = records ++ Reserve r ∷ [] in
       let legal : IsLegal owner.entry found first = subst (λ (k : ℕ). IsLegal owner.entry found (records ++ Reserve (reservation_numbered k ask grant.taken) ∷ [])) (sym numbered)
-      (legal-Reserve (ledger_of records) ask grant w.history w.legal (asked_of owner query p q of charged) money) in
+      (legal-Reserve (ledger_of records) ask grant w.history w.legal (asked_of owner records query p q of charged) money) in
       let more : length (reservations_of first) ≡ n + 1 = reservations_of-append-Reserve records r ∙ ap (λ k. k + 1) (sym numbered) in
       record {
         number = numbered;

@@ -36,7 +36,7 @@ subject_of house subject = record { number = subject.owner; owner = owner_at hou
 abbrev pub IsSubjectIn : House → SubjectAt → Type 0
 IsSubjectIn house subject =
     (subject.owner < length house.owners) × HasPart (owner_at house subject.owner).partitions subject.view
-    × HasView (owner_at house subject.owner).entry subject.view
+    × HasView (owner_at house subject.owner).entry [] subject.view
 
 -- what a search for a subject came to
 abbrev pub found_in : House → Result SubjectAt LineRefusal → Result Subject LineRefusal

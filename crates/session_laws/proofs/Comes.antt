@@ -59,7 +59,7 @@ module _ (owner : Owner) (draws : ℕ → ℕ → ℕ) (found : List Record) (so
   lawful_more done (Reserve r) w came = lawful_reserved done r w (came.0 r refl)
   lawful_more done (Settle s) w came = lawful_settled done s w (came.1 s refl)
   lawful_more done (Grant g) w came = let none = came.2 in cc
-  lawful_more done (Define d) w came = let none = came.3 in cc
+  lawful_more done (Define m) w came = let none = came.3 in cc
 
   well_by_reserve : (done : List Record) (r : Reservation) → Well done → WasReserved owner start sources done r → Well (done ++ Reserve r ∷ [])
   well_by_reserve done r w (query, of, asking, grant, verdict, is, source) =
@@ -86,7 +86,7 @@ module _ (owner : Owner) (draws : ℕ → ℕ → ℕ) (found : List Record) (so
   one_more done (Reserve r) w came = well_by_reserve done r w (came.0 r refl)
   one_more done (Settle s) w came = well_by_settle done s w (came.1 s refl)
   one_more done (Grant g) w came = let none = came.2 in cc
-  one_more done (Define d) w came = let none = came.3 in cc
+  one_more done (Define m) w came = let none = came.3 in cc
 
   -- what each next record keeps, all of them keep
   all_more : (W : List Record → Type 0) → ((done : List Record) (next : Record) → W done → CameBy owner draws start sources done next → W (done ++ next ∷ []))

@@ -254,7 +254,7 @@ module _ (start : ℕ → ℕ) (records : ℕ → List Record) where
   line_least (Ok s) (Some e) who program names refusal is = by who.analyst refl is
     where
       by : (spoke : Option ℕ) → who.analyst ≡ spoke
-          → by_analyst who spoke (λ analyst. wants s.number s.owner (asks (record { analyst = analyst; view = s.view; e = e; program = program }))) ≡ says (refused (by_line refusal)) who
+          → by_analyst who spoke (λ analyst. wants s.number s.owner (asks (record { analyst = analyst; view = s.view; e = e; program = program; made = None }))) ≡ says (refused (by_line refusal)) who
           → IsLeast who.analyst (question_for (Ok s) (Some e) program) (by_line refusal)
       by None none is =
           let same : refusal ≡ NoHello = cc (is) in
@@ -411,7 +411,7 @@ module _ (start : ℕ → ℕ) (records : ℕ → List Record) where
   IsVerdictOf meant v = ⊥
 
   spoken_first : (s : Subject) (e : ℕ) (who : Speaker) (program : List ℕ) (v : Verdict) (spoke : Option ℕ) → who.analyst ≡ spoke
-      → IsVerdictOf (by_analyst who spoke (λ analyst. wants s.number s.owner (asks (record { analyst = analyst; view = s.view; e = e; program = program })))) v
+      → IsVerdictOf (by_analyst who spoke (λ analyst. wants s.number s.owner (asks (record { analyst = analyst; view = s.view; e = e; program = program; made = None })))) v
       → IsFirst who.analyst (question_for (Ok s) (Some e) program) v
   unfolding IsVerdict
   spoken_first s e who program v None none is = absurd is

@@ -82,13 +82,13 @@ abbrev settled_in : Settlement → Record → Settlement
 settled_in other (Reserve r) = other
 settled_in other (Settle s) = s
 settled_in other (Granted g) = other
-settled_in other (Define d) = other
+settled_in other (Define m) = other
 
 abbrev number_of : Record → ℕ
 number_of (Reserve r) = r.number
 number_of (Settle s) = s.number
 number_of (Granted g) = g.number
-number_of (Define d) = d.partition
+number_of (Define m) = m.partition
 
 module _ (house : House) (draws : ℕ → ℕ → ℕ → ℕ) (spoken : List Turn) (count : ℕ) (crew : ℕ → ℕ) (o : ℕ) (owner : Owner) (found : List Record) (xs : List Exchange) (records : List Record)
     (here : slice_get house.owners o ≡ Some owner) (inside : IsOwnerIn house owner) (begun : IsHistory owner.entry found) (turns : map (λ (x : Exchange). x.turn) xs ≡ spoken) (known : AreKnown house spoken)
@@ -306,12 +306,12 @@ module _ (house : House) (draws : ℕ → ℕ → ℕ → ℕ) (spoken : List Tu
         ]
 
     -- nor a partition
-    none_made : (k : ℕ) (d : MadePartition) → length found ≤ k → slice_get records k ≡ Some (Define d) → ⊥
-    none_made k d past at =
-        let e = once.each k (Define d) past at in
-        let made = made_at e.0 (k, Define d) e.1 in
-        elim (told_by (draws o) owner found records made.query e.1.x made.by (k, Define d) e.1.has) [
-          | inl is ↦ let both : Define d ≡ granted_record made.by.asking made.by.grant = ap (λ (z : Told). z.1) is in cc both
+    none_made : (k : ℕ) (m : MadePartition) → length found ≤ k → slice_get records k ≡ Some (Define m) → ⊥
+    none_made k m past at =
+        let e = once.each k (Define m) past at in
+        let made = made_at e.0 (k, Define m) e.1 in
+        elim (told_by (draws o) owner found records made.query e.1.x made.by (k, Define m) e.1.has) [
+          | inl is ↦ let both : Define m ≡ granted_record made.by.asking made.by.grant = ap (λ (z : Told). z.1) is in cc both
           | inr settled ↦ let both = ap (λ (z : Told). z.1) settled.1 in cc both
         ]
 
@@ -327,6 +327,7 @@ module _ (house : House) (draws : ℕ → ℕ → ℕ → ℕ) (spoken : List Tu
       λ t is. let same : s ≡ t = cc (is) in subst (λ (z : Settlement). WasSettled owner (draws o) start explaining (take k records) z) same (settled_so k s past at),
       refl,
       refl,
+      refl,
     )
     came_at k (Granted g) past at = absurd (none_granted k g past at)
-    came_at k (Define d) past at = absurd (none_made k d past at)
+    came_at k (Define m) past at = absurd (none_made k m past at)

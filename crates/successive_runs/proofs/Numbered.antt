@@ -42,9 +42,9 @@ listed_at entry = history-induction entry (λ records. (n : ℕ) (r : Reservatio
     step xs (Granted g) h may before n r is =
         let old : reservation_of xs n ≡ Some r = sym (option_or-None (reservation_of xs n)) ∙ sym (reservation_of-append xs (Granted g ∷ []) n) ∙ is in
         ap (λ (rs : List Reservation). slice_get rs n) (reservations-granted xs g) ∙ before n r old
-    step xs (Define d) h may before n r is =
-        let old : reservation_of xs n ≡ Some r = sym (option_or-None (reservation_of xs n)) ∙ sym (reservation_of-append xs (Define d ∷ []) n) ∙ is in
-        ap (λ (rs : List Reservation). slice_get rs n) (reservations-defined xs d) ∙ before n r old
+    step xs (Define m) h may before n r is =
+        let old : reservation_of xs n ≡ Some r = sym (option_or-None (reservation_of xs n)) ∙ sym (reservation_of-append xs (Define m ∷ []) n) ∙ is in
+        ap (λ (rs : List Reservation). slice_get rs n) (reservations-defined xs m) ∙ before n r old
     step xs (Reserve s) h may before n r is = here (reservation_of xs n) refl (n == s.number) refl (sym (reservation_of-append xs (Reserve s ∷ []) n) ∙ is)
       where
         more : reservations_of (xs ++ Reserve s ∷ []) ≡ reservations_of xs ++ s ∷ []
@@ -87,8 +87,8 @@ numbered_at entry = history-induction entry (λ records. (n : ℕ) (r : Reservat
         reservation_of-append-old xs (Settle s) n r (before n r (ap (λ (rs : List Reservation). slice_get rs n) (sym (reservations-settled xs s)) ∙ is))
     step xs (Granted g) h may before n r is =
         reservation_of-append-old xs (Granted g) n r (before n r (ap (λ (rs : List Reservation). slice_get rs n) (sym (reservations-granted xs g)) ∙ is))
-    step xs (Define d) h may before n r is =
-        reservation_of-append-old xs (Define d) n r (before n r (ap (λ (rs : List Reservation). slice_get rs n) (sym (reservations-defined xs d)) ∙ is))
+    step xs (Define m) h may before n r is =
+        reservation_of-append-old xs (Define m) n r (before n r (ap (λ (rs : List Reservation). slice_get rs n) (sym (reservations-defined xs m)) ∙ is))
     step xs (Reserve s) h may before n r is = elim (push_cases (reservations_of xs) s n r (ap (λ (rs : List Reservation). slice_get rs n) (sym (reservations-with xs s)) ∙ is)) [
       | inl known ↦ reservation_of-append-old xs (Reserve s) n r (before n r known.1)
       | inr last ↦ subst (λ (k : ℕ). reservation_of (xs ++ Reserve s ∷ []) k ≡ Some r) (may.numbered ∙ sym last.0)

@@ -19,6 +19,7 @@ use Rattle.owner_desk.specs.Passes.{Pass}
 use Rattle.owner_desk.specs.Answers.{HasReserved}
 use Rattle.answer_path.specs.Turn.{IsTurn}
 use Rattle.answer_path.specs.Code.{query_of}
+use Rattle.budget_core.proofs.Partitions.{has-view-anywhere}
 use Rattle.answer_path.proofs.Charged.{accepted_finite, terms_of}
 use Rattle.answer_path.proofs.Answering.{owner_with, settled_by_term}
 use Rattle.answer_path.proofs.Turns.{fault_asked, of_owner, settled_asked, settled_small, settled_turn, unreserved_turn}
@@ -30,9 +31,9 @@ fraction_of-requires g c =
 
 pub reserve-requires-clause-of_entry : goal.reserve-requires-clause-of_entry
 reserve-requires-clause-of_entry g c =
-    subst (λ (asking : Ask). IsAskOf c.args.pass.now.knows.opened.ledger.entry asking) (sym c.asking_of-asking.ensures.asking) (record {
+    subst (λ (asking : Ask). IsAskOf c.args.pass.now.knows.opened.ledger.entry c.args.pass.now.knows.seen asking) (sym c.asking_of-asking.ensures.asking) (record {
       analyst = c.requires.query.analyst;
-      view = c.requires.query.view;
+      view = has-view-anywhere c.args.pass.now.knows.opened.ledger.entry c.args.pass.now.knows.seen c.args.query.now.view c.requires.query.view;
       terms = terms_of c.args.query.now.epsilon c.fraction_of.result.p c.fraction_of.result.q c.requires.query.epsilon c.fraction_of.result.above_zero c.fraction_of.result.lowest;
       digest = subst (λ (asking : Ask). IsByteList 32 asking.digest) c.asking_of-asking.ensures.asking c.asking_of-asking.ensures.digest;
     })
