@@ -2,7 +2,7 @@
 
 ghost use Rattle.std.specs.Prelude.{◌≡◌, ◌<◌, [], ◌∷◌, length, drop, get_or, bytes_eq, IfSome};
 ghost use Rattle.std.specs.List.{list_all, list_any, position};
-ghost use Rattle.wire_lines.specs.Definition.{is_key_byte, is_key, is_key_list as is_key_list_text, are_distinct, keys_of, keys_behind};
+ghost use Rattle.wire_lines.specs.Definition.{is_key_byte, is_key, is_key_list, are_distinct, keys_of, keys_behind};
 ghost use Rattle.wire_lines.specs.Request.{words_behind};
 ghost use Rattle.wire_lines.specs.Lines.{joined};
 ghost use Rattle.wire_lines.specs.Definition.{definition_table, definition_keys, definition_function, definition_key};
@@ -111,7 +111,7 @@ fn are_distinct(list: &[u8]) -> bool
 /// Whether a word lists 1 to 250 distinct keys. They are counted first, so that keys are compared with few others.
 #[tactic(auto, unfolding(crate::specs::Definition::is_key_list))]
 pub fn is_key_list(word: &[u8]) -> bool
-    ensures { result ≡ is_key_list_text word.now }
+    ensures { result ≡ is_key_list word.now }
 {
     key_count(word) <= MOST_KEYS && are_keys(word) && are_distinct(word)
 }
