@@ -8,7 +8,8 @@ Each case is a catalog of one or two owners with journals of version 1, 2 or 3, 
 and what stands behind the live one, mostly hold what runs leave there, and now and then any bytes. Most journals are spoilt then: bytes changed, in the
 header, at gates, in records; cut off or made longer; pieces repeated, put in or taken out; slots exchanged; areas exchanged, opened and closed; the
 version changed; records that may not follow those before them, such as a settlement that gives back too much, too little, or in an older version, or a
-grant of another number, or one by which the budget is over 10^18; an amount of 0 or over 10^18, and bytes among a grant's zeros; parts 255, 256, 3999 and
+grant of another number, or one by which the budget is over 10^18; an amount of 0 or over 10^18, and bytes among a grant's zeros; a made partition out of
+turn, made twice, of a table or keys that none has, and parts of one that isn't made or hasn't so many keys; parts 255, 256, 3999 and
 4000, a part's bytes in a reservation of the whole, and a byte behind them; another owner's journal, or that of another key. Now and then an owner has a
 partition of 4,000 keys.
 
@@ -35,7 +36,7 @@ PROGRAM = os.path.abspath(os.environ.get("PROGRAM", f"{TOP}/out/hitchseason"))
 KEPT = f"{TOP}/out/compare_journals"
 from beginning import begin  # noqa: E402
 from catalog import catalog, owner  # noqa: E402
-from journal import GATE, GATES_AT, HEAD, MOST_AREAS, MOST_BUDGET, SLOT, VERSION_AT, VERSIONS, Book, Grant, Refused, Settlement  # noqa: E402
+from journal import GATE, GATES_AT, HEAD, MOST_AREAS, MOST_BUDGET, SLOT, VERSION_AT, VERSIONS, Book, Define, Grant, Refused, Settlement  # noqa: E402
 from journal import appended, areas, book_of, contents, header, live_area, live_number, made, put, version_of  # noqa: E402
 from random_scripts import amount_at_random, grant_at_random, part_at_random, reservation_at_random  # noqa: E402
 from reference import Server, grant_by_words, house_of, key_words  # noqa: E402
@@ -72,15 +73,58 @@ def fill(rng, book, many):
             book.keep(book.settlement(rng.choice(unsettled), outcome, answer if outcome == 1 else 0))
         elif rng.random() < 0.08:
             book.add(grant_at_random(rng, book))
+        elif rng.random() < 0.06:
+            book.add(definition_at_random(rng, book))
+        elif book.made and rng.random() < 0.3:
+            book.add(of_made_part(rng, book, parts))
         else:
             book.add(reservation_at_random(rng, book, parts))
+
+
+def definition_at_random(rng, book):
+    """A partition that an analyst makes, mostly one that may follow."""
+    digest = bytes([rng.randrange(3)]) * 32
+    return Define(8 + len(book.made), rng.choice([0, 0, 1, 7]), rng.choice([1, 2, 3, 250]), rng.randrange(len(book.analysts)), digest)
+
+
+def of_made_part(rng, book, parts):
+    """A reservation of a part of a partition that was made."""
+    one, made = reservation_at_random(rng, book, parts), rng.choice(book.made)
+    one.view = (made.partition, rng.choice([0, made.keys - 1]))
+    one.taken = book.spent_with(one) - book.spent
+    return one
+
+
+def wrong_definition(rng, book):
+    """A made partition that may not follow, mostly; or a reservation of a part that a made one hasn't."""
+    one, due = definition_at_random(rng, book), 8 + len(book.made)
+    way = rng.randrange(5)
+    if way == 0:
+        one.partition = rng.choice([due + 1, due - 1, 7, 0, 254, 255])
+    elif way == 1:
+        one.keys = rng.choice([0, 251, 4000, 65535])
+    elif way == 2:
+        one.table = rng.choice([8, 255])
+    elif way == 3 and book.made:
+        same = rng.choice(book.made)
+        one.table, one.keys, one.digest = same.table, same.keys, same.digest
+    else:
+        asked = reservation_at_random(rng, book)
+        asked.view = rng.choice([(due, 0), (254, 0), (254, 249), (8, 250), *((made.partition, made.keys) for made in book.made)])
+        return asked
+    data = bytearray(one.encoded())
+    if rng.random() < 0.2:
+        data[rng.choice([6, 27, 30, 31, rng.randrange(6, 28)])] = rng.choice([1, 0x80, 0xFF])
+    return Bytes(bytes(data))
 
 
 def wrong_record(rng, book):
     """A record that may not follow, mostly."""
     number = len(book.reserved)
     one = reservation_at_random(rng, book)
-    kind = rng.randrange(16)
+    kind = rng.randrange(19)
+    if kind > 15:
+        return wrong_definition(rng, book)
     if kind > 13:
         return wrong_part(rng, one)
     if kind > 7:
@@ -286,6 +330,7 @@ class Case:
             self.came["a last record that may not follow, perhaps"] += 1
         self.came["settlements that give back"] += sum(isinstance(one, Settlement) and one.returned > 0 for one in book.records)
         self.came[f"version {version} with grants"] += bool(book.grants)
+        self.came[f"version {version} with made partitions"] += any(one.view[0] in range(8, 255) for one in book.reserved)
         self.came[f"version {version} with parts of two bytes"] += any(one.view[1] > 255 for one in book.reserved)
         self.came["exhausted in an older version"] += version < 3 and any(one.outcome == 2 for one in book.settled.values())
         key = bytes(32) if rng.random() < 0.02 else None

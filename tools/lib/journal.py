@@ -31,21 +31,18 @@ import re
 import signal
 import sys
 from functools import lru_cache
-from math import gcd
 
 from audits import fallen
-from bounds import KEYS, MOST_BUDGET, MOST_CAPACITY, MOST_EPS, PARTITION_LIMIT
+from bounds import MADE_LIMIT, MOST_BUDGET, MOST_CAPACITY, PARTITION_LIMIT
 from catalog import BadCatalog, json_value, limits, read
 from files import contents, plain
 from lines import harmless
+from records import GATE, WHOLE, Define, Grant, Reservation, Settlement, decoded, no_record
 
-GATE = 0xA5
 HEAD, SLOT = 128, 64
 VERSION_AT, GATES_AT, MOST_AREAS = 9, 96, 32
 VERSIONS = (1, 2, 3)
 FIRST_SLOTS = 64
-WHOLE = (255, 0)
-OUTCOMES = {1: "answered", 2: "exhausted", 3: "lost"}
 MOST_TOLD = 10
 # The digest of a program, of which journals for trying are made.
 ONE = hashlib.sha256(b"size people").digest()
@@ -57,127 +54,6 @@ class Refused(Exception):
     def __init__(self, said, how=""):
         super().__init__(said)
         self.how = how
-
-
-class Reservation:
-    def __init__(self, number, view, e, p, q, taken, analyst, program):
-        self.number, self.view, self.e, self.p, self.q = number, view, e, p, q
-        self.taken, self.analyst, self.program = taken, analyst, program
-
-    def charge(self):
-        return -(-self.p * self.e // self.q)
-
-    def encoded(self):
-        high, low = divmod(self.view[1], 256)
-        numbers = [(self.number, 4), (self.e, 4), (self.p, 4), (self.q, 4), (self.taken, 8), (self.analyst, 2), (high, 1), (0, 1)]
-        return bytes([GATE, 1, self.view[0], low]) + b"".join(n.to_bytes(k, "big") for n, k in numbers) + self.program
-
-    def said(self, entry, analysts):
-        """In words, by the names of the owner's partitions and of the analysts."""
-        charge = f"e {self.e} r {self.p}/{self.q} charge {self.charge()} taken {self.taken}"
-        return f"reservation {self.number} {self.where(entry)} {charge} analyst {analysts[self.analyst]} program {self.program.hex()}"
-
-    def where(self, entry):
-        """Its view, in words."""
-        if self.view == WHOLE:
-            return "whole"
-        partition = entry["partitions"][self.view[0]]
-        return f"part {partition['keys'][self.view[1]]} of {partition['name']}"
-
-
-class Settlement:
-    def __init__(self, number, outcome, answer=0, returned=0):
-        self.number, self.outcome, self.answer, self.returned = number, outcome, answer, returned
-
-    def encoded(self):
-        numbers = self.number.to_bytes(4, "big") + self.answer.to_bytes(8, "big", signed=True) + self.returned.to_bytes(8, "big")
-        return bytes([GATE, 2, self.outcome, 0]) + numbers + bytes(40)
-
-    def standing(self):
-        """What a `recall` says of it."""
-        return f"answer {self.answer}" if self.outcome == 1 else OUTCOMES[self.outcome]
-
-    def said(self, entry, analysts):
-        back = f" returned {self.returned}" if self.returned else ""
-        return f"settlement {self.number} {self.standing()}{back}"
-
-
-class Grant:
-    """It raises the owner's budget by an amount of millionths. Its number is how many grants are before it."""
-
-    def __init__(self, number, amount):
-        self.number, self.amount = number, amount
-
-    def encoded(self):
-        return bytes([GATE, 3, 0, 0]) + self.number.to_bytes(4, "big") + self.amount.to_bytes(8, "big") + bytes(48)
-
-    def said(self, entry, analysts):
-        return f"grant {self.number} amount {self.amount}"
-
-
-def view_in(slot):
-    """The view that a reservation's bytes name: a part's low byte is byte 3, its high byte is byte 30."""
-    return slot[2], slot[3] + 256 * slot[30]
-
-
-def is_view(view):
-    return view == WHOLE or (view[0] < PARTITION_LIMIT and view[1] < KEYS)
-
-
-def decoded(slot):
-    """The record that an open slot holds, or None: the bytes are read, and must be those that the record is written as."""
-    kind, number = slot[1], int.from_bytes(slot[4:8], "big")
-    if kind == 1:
-        part = lambda a, b: int.from_bytes(slot[a:b], "big")
-        found = Reservation(number, view_in(slot), part(8, 12), part(12, 16), part(16, 20), part(20, 28), part(28, 30), slot[32:64])
-        if not is_view(found.view) or not 1 <= found.e <= MOST_EPS or found.q == 0 or gcd(found.p, found.q) != 1:
-            return None
-    elif kind == 2 and slot[2] in OUTCOMES:
-        found = Settlement(number, slot[2], int.from_bytes(slot[8:16], "big", signed=True), int.from_bytes(slot[16:24], "big"))
-        if (found.outcome != 1 and found.answer != 0) or (found.outcome != 2 and found.returned != 0):
-            return None
-    elif kind == 3:
-        found = Grant(number, int.from_bytes(slot[8:16], "big"))
-    else:
-        return None
-    return found if found.encoded() == slot else None
-
-
-def no_record(slot):
-    """Why an open slot holds no record: what is wrong with its bytes, in words; nothing where it holds one."""
-    numbers = {name: int.from_bytes(slot[a:b], "big") for name, a, b in NUMBERS}
-    if slot[1] not in (1, 2, 3):
-        return [f"its kind (byte 1) is {slot[1]}, and a record is 1, a reservation, 2, a settlement, or 3, a grant"]
-    if slot[1] == 3:
-        return no_grant(slot)
-    if slot[1] == 2:
-        tail = slot[16:] if slot[2] == 1 else slot[8:16] + slot[24:] if slot[2] == 2 else slot[8:]
-        wrong = {
-            f"the outcome of a settlement (byte 2) is {slot[2]}, and 1 to 3 are known": slot[2] not in OUTCOMES,
-            f"byte 3 of a settlement is {slot[3]}, where 0 belongs": slot[3] != 0,
-            "a settlement has other bytes than its own, where zeros belong": any(tail),
-        }
-        return [said for said, holds in wrong.items() if holds]
-    partition, part = view_in(slot)
-    wrong = {
-        f"a reservation's partition (byte 2) is {partition} and its part (bytes 3 and 30) {part}": not is_view((partition, part)),
-        f"a reservation's epsilon is {numbers['e']} millionths, and 1 to {MOST_EPS} are allowed": not 1 <= numbers["e"] <= MOST_EPS,
-        f"a reservation's sensitivity is {numbers['p']}/{numbers['q']}, no fraction in lowest terms": gcd(numbers["p"], numbers["q"]) != 1 or numbers["q"] == 0,
-        f"byte 31 of a reservation is {slot[31]}, where 0 belongs": slot[31] != 0,
-    }
-    return [said for said, holds in wrong.items() if holds]
-
-
-def no_grant(slot):
-    """The same of a slot whose kind is a grant's."""
-    wrong = {
-        f"bytes 2 and 3 of a grant are {slot[2]} and {slot[3]}, where zeros belong": any(slot[2:4]),
-        "a grant has other bytes after its amount, where zeros belong": any(slot[16:]),
-    }
-    return [said for said, holds in wrong.items() if holds]
-
-
-NUMBERS = [("e", 8, 12), ("p", 12, 16), ("q", 16, 20)]
 
 
 def compact(value):
@@ -442,7 +318,7 @@ class Book:
     def __init__(self, entry, analysts, version=VERSIONS[-1]):
         self.entry, self.analysts, self.version, self.records = entry, analysts, version, []
         self.costs, self.own, self.reserved, self.settled = Costs(), [Costs() for _ in analysts], [], {}
-        self.budget, self.grants = entry["budget"], []
+        self.budget, self.grants, self.made = entry["budget"], [], []
         self.limits = {analysts.index(name): most for name, most in limits(entry).items()}
 
     @property
@@ -465,8 +341,10 @@ class Book:
         return settled
 
     def has_view(self, view):
-        partitions = self.entry["partitions"]
-        return view == WHOLE or (view[0] < len(partitions) and view[1] < len(partitions[view[0]]["keys"]))
+        """Whether it is the whole, or a part of one of the catalog's partitions, or of one that an analyst has made."""
+        keys = dict(enumerate(len(partition["keys"]) for partition in self.entry["partitions"]))
+        keys.update((one.partition, one.keys) for one in self.made)
+        return view == WHOLE or view[1] < keys.get(view[0], 0)
 
     def why_not(self, one):
         """Why a record may not follow, in words, or nothing where it may."""
@@ -477,8 +355,8 @@ class Book:
                 return f"it settles number {one.number}, which is settled already"
             back = self.settlement(one.number, one.outcome).returned
             return f"its settlement gives back {one.returned}, and the cost falls by {back}" if one.returned != back else None
-        if isinstance(one, Grant):
-            return self.why_no_grant(one)
+        if isinstance(one, (Grant, Define)):
+            return self.why_no_grant(one) if isinstance(one, Grant) else self.why_not_made(one)
         after = self.spent_with(one)
         if one.number != len(self.reserved):
             return f"it reserves number {one.number}, and {len(self.reserved)} is the next one"
@@ -507,6 +385,15 @@ class Book:
         after = self.budget + one.amount
         return f"with its grant of {one.amount} the budget is {after}, and {MOST_BUDGET} at most" if after > MOST_BUDGET else None
 
+    def why_not_made(self, one):
+        """Why a made partition may not follow: each has the next number, and none is made twice."""
+        due, same = PARTITION_LIMIT + len(self.made), [made for made in self.made if made.terms() == one.terms()]
+        if len(self.made) == MADE_LIMIT:
+            return f"it makes a partition, and {MADE_LIMIT} are made already"
+        if one.partition != due:
+            return f"it makes partition {one.partition}, and {due} is the next one"
+        return f"it makes partition {one.partition}, which was made before as {same[0].partition}" if same else None
+
     def add(self, one):
         """Adds a record, or says that it may not follow."""
         may_follow = self.why_not(one) is None
@@ -525,6 +412,8 @@ class Book:
         elif isinstance(one, Grant):
             self.budget += one.amount
             self.grants.append(one)
+        elif isinstance(one, Define):
+            self.made.append(one)
         else:
             for costs in (self.costs, self.own[one.analyst]):
                 costs.add(one)

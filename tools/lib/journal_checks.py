@@ -1,7 +1,9 @@
 """Journals worked by hand, beside what tools/journal.py says of them: `journal.py --check`."""
+import hashlib
+
 from audits import check_audits
 from catalog import census, read
-from journal import GATE, HEAD, ONE, SLOT, VERSIONS, WHOLE, Book, Grant, Refused, Reservation, Settlement
+from journal import GATE, HEAD, ONE, SLOT, VERSIONS, WHOLE, Book, Define, Grant, Refused, Reservation, Settlement
 from journal import appended, areas, book_of, changes_since, cost, decoded, header, made, no_record, slots
 
 PEOPLE = {"people.csv": b"age\n20\n30\n40\n"}
@@ -17,6 +19,7 @@ def check():
     check_areas(entry, header(data, 0, bytes(32), PEOPLE.__getitem__, 2), reservation, settlement)
     check_sums(entry)
     check_grants(entry, head)
+    check_definitions(entry, head)
     check_copies(head, reservation, settlement)
     check_audits()
     print("all as known")
@@ -33,10 +36,12 @@ def check_records(reservation, settlement):
     for record in (reservation, *parts, *settled, Grant(0, 1), Grant(2**32 - 1, 10**18)):
         assert decoded(record.encoded()).encoded() == record.encoded()
     assert [decoded(one.encoded()).view for one in parts] == [one.view for one in parts]
-    for view in ((7, 4000), (8, 0), (7, 65535), (255, 1), (255, 256)):
+    made = [Reservation(9, view, 1, 1, 1, 1, 0, ONE) for view in ((8, 0), (8, 250), (254, 0), (254, 3999))]
+    assert [decoded(one.encoded()).view for one in made] == [one.view for one in made]
+    for view in ((7, 4000), (8, 4000), (254, 4000), (7, 65535), (255, 1), (255, 256)):
         slot = Reservation(9, view, 10**9, 0, 1, 0, 63, ONE).encoded()
         assert decoded(slot) is None and f"is {view[0]} and its part (bytes 3 and 30) {view[1]}" in no_record(slot)[0], view
-    for change in [(1, 3), (1, 4), (2, 8), (3, 1), (19, 0), (15, 2), (30, 1), (31, 1)]:
+    for change in [(1, 3), (1, 4), (1, 5), (3, 1), (19, 0), (15, 2), (30, 1), (31, 1)]:
         slot = bytearray(reservation.encoded())
         slot[change[0]] = change[1]
         if change == (15, 2):
@@ -164,4 +169,29 @@ def check_grants(entry, head):
             "grant 1 amount 999999999998500000 budget 1000000000000000000"]  # fmt: skip
     assert book_of(head + hundred(grant, Grant(1, 1)), head, entry, range(2)).budget == 10_500_001
     wrong = [([grant, grant], "damaged 1"), ([Grant(0, 10**18)], "damaged 0"), ([grant, Grant(1, 0)], "damaged 1")]
+    check_refusals([(head + hundred(*records), said) for records, said in wrong], head, entry)
+
+
+def check_definitions(entry, head):
+    """Made partitions: their bytes, their order, and what is reserved on their parts, in each version."""
+    one, digest = Define(8, 0, 2, 1, ONE), hashlib.sha256(b"other").digest()
+    assert one.encoded().hex() == "a504" "0800" "0002" + "00" * 22 + "0001" "0000" + ONE.hex() and len(one.encoded()) == SLOT
+    for most in (Define(254, 7, 250, 63, ONE), Define(8, 0, 1, 65535, ONE)):
+        assert decoded(most.encoded()).encoded() == most.encoded()
+    for place, byte in ((2, 7), (2, 255), (3, 8), (4, 1), (5, 0), (5, 251), (6, 1), (27, 1), (30, 1), (31, 1)):
+        slot = with_bytes(one.encoded(), {place: byte})
+        assert decoded(slot) is None and no_record(slot), place
+    for version in VERSIONS:
+        book = Book(entry, range(2), version)
+        ask = lambda number, view, e, taken: Reservation(number, view, e, 1, 1, taken, 0, ONE)
+        assert not book.add(ask(0, (8, 0), 6, 6)) and not book.add(Define(9, 0, 2, 1, ONE)) and book.add(one)
+        assert not book.add(one) and not book.add(Define(9, 0, 2, 0, ONE)) and not book.add(ask(0, (8, 2), 6, 6)) and not book.add(ask(0, (9, 0), 6, 6))
+        assert book.add(ask(0, (8, 0), 6, 6)) and book.add(ask(1, (8, 1), 7, 1)) and book.spent == 7
+        assert book.add(Define(9, 0, 3, 1, ONE)) and book.add(Define(10, 1, 2, 1, ONE)) and book.add(Define(11, 0, 2, 1, digest))
+        assert book.add(ask(2, (9, 2), 5, 5)) and book.spent == 12 and book.counts().startswith("census reservations 3 answered 0")
+        assert [line for line in book.said(["ann"])][0] == f"partition 8 made of people keys 2 analyst 1 definition {ONE.hex()}"
+        full = Book(entry, range(2), version)
+        assert all(full.add(Define(8 + k, 0, 1 + k, 0, ONE)) for k in range(247)) and not full.add(Define(255, 1, 1, 0, ONE))
+    hundred = lambda *records: b"".join(one.encoded() for one in records) + bytes(SLOT * (100 - len(records)))
+    wrong = [([one, one], "damaged 1"), ([Define(9, 0, 2, 1, ONE)], "damaged 0"), ([Define(8, 8, 2, 1, ONE)], "damaged 0")]
     check_refusals([(head + hundred(*records), said) for records, said in wrong], head, entry)

@@ -35,7 +35,7 @@ use Rattle.wire_lines.specs.declared.refusal.TypeFault.TheVariants.{Unbound, Mis
 use Rattle.answer_path.specs.Reading.{unlexed, stuck, nested, read}
 use Rattle.answer_path.specs.Admission.{refused_for, accepted, fault_refusal, shape_refusal, admission_of, HasValue}
 use Rattle.owner_house.specs.Owner.{Owner}
-use Rattle.answer_path.specs.Query.{Query}
+use Rattle.answer_path.specs.Query.{Query, source_of}
 use Rattle.part_views.specs.Views.{signature_in, rows_in}
 use Rattle.answer_path.specs.Program.{IsCharged}
 use Rattle.answer_path.specs.Noise.{scale_numerator, scale_denominator, noise_at}
@@ -43,7 +43,7 @@ use Rattle.answer_path.specs.Verdict.{program_refused, money_refused, granted, a
 use Rattle.answer_path.specs.Answered.{HasWorthIn, IsSettledAt, IsSettledBy, HasSmallAnswer, answer_limit, outcome_reply, grant_records, IsAsked}
 use Rattle.answer_path.proofs.Answering.{money_says, noise_is}
 use Rattle.answer_path.proofs.Scales.{scale_is}
-use Rattle.answer_path.proofs.SizePeople.{size_people, size_term, size_reads, span}
+use Rattle.answer_path.proofs.SizePeople.{of_size, size_people, size_term, size_reads, span}
 
 -- two tables, of numbers and of texts
 abbrev pub people : TableType
@@ -236,13 +236,23 @@ refusal_is_small = tt
 
 -- an ask carries the query's analyst, view and epsilon, and the digest of its program, and a reservation the ask's
 abbrev pub a_query : List ℕ → Query
-a_query program = record { analyst = 5; view = Whole; e = 1000000; program = program }
+a_query program = record { analyst = 5; view = Whole; e = 1000000; program = program; made = None }
 
 abbrev pub an_ask : Ask
 an_ask = record { analyst = 5; view = Whole; e = 1000000; p = 1; q = 1; digest = sha256 size_people }
 
 ask_is : ask_for (a_query size_people) 1 1 ≡ an_ask
 ask_is = refl
+
+-- behind it stand its program and the definition of its made partition, where it has one; the budget is asked alike
+source_is : source_of (a_query size_people) ≡ of_size
+source_is = refl
+
+made_source_is : source_of (record (a_query size_people) { made = Some (codes "d") }) ≡ record { program = size_people; made = Some (codes "d") }
+made_source_is = refl
+
+made_ask_is : ask_for (record (a_query size_people) { made = Some (codes "d") }) 1 1 ≡ an_ask
+made_ask_is = refl
 
 abbrev pub reserved : ℕ → Record
 reserved number = Reserve (record { number = number; view = Whole; e = 1000000; p = 1; q = 1; taken = 1000000; analyst = 5; digest = sha256 size_people })

@@ -1,5 +1,5 @@
 -- Queries of parts, at worked partitions: which tables and rows they see, and what they are charged.
-use Rattle.std.proofs.Common.{◌≡◌, ℕ, arith, List, [], ◌∷◌, Option, Some, codes, refl, sym, ◌∙◌, ap, subst, pos, negsuc, inl, inr}
+use Rattle.std.proofs.Common.{◌≡◌, ℕ, arith, List, [], ◌∷◌, Option, Some, None, codes, refl, sym, ◌∙◌, ap, subst, pos, negsuc, inl, inr}
 use Rattle.std.specs.Prelude.{ℤ, ◌+ℤ◌}
 use Rattle.partition_charge.specs.declared.view.View.{View}
 use Rattle.partition_charge.specs.declared.view.View.TheVariants.{Whole, Part}
@@ -71,7 +71,7 @@ owner budget = record {
 }
 
 abbrev query : View → (e : ℕ) → Query
-query view e = record { analyst = 5; view = view; e = e; program = size_people }
+query view e = record { analyst = 5; view = view; e = e; program = size_people; made = None }
 
 -- A query is of an analyst and a view of the entry, at an epsilon in its range: the last analyst and city, at the greatest.
 is_of_hull : IsQueryOf (owner 10).entry (query hull 1000000000)

@@ -18,10 +18,15 @@ use Rattle.fz_parser.specs.Table.{rules}
 use Rattle.fz_parser.specs.Parts.{State, takes, arity, shift, build}
 use Rattle.fz_parser.specs.Grammar.{DerivesIn, head, body, empty, only, IsTerm}
 use Rattle.fz_parser.specs.Reading.{IsParsed}
+use Rattle.answer_path.specs.Query.{Source, plain_source}
 use Rattle.answer_path.specs.Reading.{read, IsReading}
 
 abbrev pub size_people : List ℕ
 size_people = codes "size people"
+
+-- over the whole or a part of a catalog's partition
+abbrev pub of_size : Source
+of_size = plain_source size_people
 
 abbrev pub span : ℕ → ℕ → Span
 span from to = record { from = from; to = to }

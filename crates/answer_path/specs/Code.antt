@@ -1,5 +1,5 @@
 -- What the code's answers mean.
-use Rattle.std.specs.Prelude.{◌≡◌, ◌<◌, ◌≤◌, ℕ, ℤ, List, length, Some, ⊤}
+use Rattle.std.specs.Prelude.{◌≡◌, ◌<◌, ◌≤◌, ℕ, ℤ, List, length, Some, option_map, ⊤}
 use Rattle.partition_charge.specs.declared.view.View.{View}
 use Rattle.budget_core.specs.Entries.{Entry, HasView, IsEpsilon}
 use Rattle.sha2.specs.Sha256.{sha256}
@@ -140,7 +140,13 @@ TellsFault ts fault refusal = (f : Fault) → IsCheckFault ts fault f → refusa
 
 -- what a query in the program's memory asks
 abbrev pub query_of : QueryAt → Query
-query_of query = record { analyst = query.analyst; view = query.view; e = query.epsilon; program = query.program.now }
+query_of query = record {
+  analyst = query.analyst;
+  view = query.view;
+  e = query.epsilon;
+  program = query.program.now;
+  made = option_map (λ bytes. bytes.now) query.made;
+}
 
 -- a query is of an analyst and a view of the entry, at an epsilon in its range
 pub record IsQueryOf (entry : Entry) (query : Query) : Type 0 where

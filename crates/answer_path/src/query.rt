@@ -11,4 +11,6 @@ pub struct Query<'a> {
     /// In millionths, 1 to 10^9.
     pub epsilon: u32,
     pub program: &'a [u8],
+    /// In a part of a made partition, the bytes of its definition; else none.
+    pub made: Option<&'a [u8]>,
 }

@@ -1,6 +1,6 @@
 -- The test of an ask says whether it is of the entry.
 use Prim.Native.Nat.{◌∣◌}
-use Rattle.std.proofs.Common.{◌≡◌, ℕ, zero, suc, ◌+◌, ◌-◌, ◌%◌, ◌≤◌, ◌<◌, ◌^◌, Bool, true, false, not, ◌&&◌, ◌||◌, ◌==◌, nat_lt, nat_le, List, [], ◌∷◌, length, Option, Some, None, IsSomeAnd, unwrap_or, slice_get, slice_index, true≢false, refl, sym, ◌∙◌, ap, arith}
+use Rattle.std.proofs.Common.{◌≡◌, ℕ, zero, suc, ◌+◌, ◌-◌, ◌%◌, ◌≤◌, ◌<◌, ◌^◌, Bool, true, false, not, ◌&&◌, ◌||◌, ◌==◌, nat_lt, nat_le, List, [], ◌∷◌, length, Option, Some, None, IsSomeAnd, unwrap_or, slice_index, true≢false, refl, sym, ◌∙◌, ap, arith}
 use Rattle.std.specs.List.{list_any, list_all, range_with_len}
 use Rattle.std.specs.Int.{IsGcd}
 use mathlib.Core.Logic.{inl, inr}
@@ -9,8 +9,13 @@ use Rattle.std.proofs.lemmas.Nat.Gcd.{dvd_refl, le_of_dvd, dvd_of_mod-eq-zero, m
 use Rattle.partition_charge.specs.declared.view.View.{View}
 use Rattle.partition_charge.specs.declared.view.View.TheVariants.{Whole, Part}
 use Rattle.budget_core.specs.declared.entry.Ask.{Ask}
-use Rattle.budget_core.specs.Entries.{Entry, HasView}
-use Rattle.budget_core.specs.Events.{has_view, divides_both, is_lowest, is_epsilon, is_digest, is_ask_of}
+use Rattle.journal_records.specs.Encoding.{table_range}
+use Rattle.journal_records.specs.declared.records.Record.{Record}
+use Rattle.partition_charge.specs.Views.{made_part_limit}
+use Rattle.budget_core.specs.declared.definitions.Definition.{Definition}
+use Rattle.budget_core.specs.Defining.{IsDefinition}
+use Rattle.budget_core.specs.Entries.{Entry, HasView, keys_of}
+use Rattle.budget_core.specs.Events.{has_view, divides_both, is_lowest, is_epsilon, is_digest, is_ask_of, is_definition}
 use Rattle.budget_core.specs.Ledger.{IsAskOf}
 
 -- ---- tests
@@ -40,17 +45,17 @@ neither false b is = (refl, is)
 
 -- ---- views
 
-view-from : (entry : Entry) (view : View) → has_view entry view ≡ true → HasView entry view
-view-from entry Whole is = tt
-view-from entry (Part p j) is = part (slice_get entry.keys p) is
+view-from : (entry : Entry) (records : List Record) (view : View) → has_view entry records view ≡ true → HasView entry records view
+view-from entry records Whole is = tt
+view-from entry records (Part p j) is = part (keys_of entry records p) is
   where
     part : (found : Option ℕ) → nat_lt j (unwrap_or found 0) ≡ true → IsSomeAnd found (λ keys. j < keys)
     part None is = absurd (omega (arith, ltb-true j 0 is))
     part (Some keys) is = ltb-true j keys is
 
-view-test : (entry : Entry) (view : View) → HasView entry view → has_view entry view ≡ true
-view-test entry Whole has = refl
-view-test entry (Part p j) has = part (slice_get entry.keys p) has
+view-test : (entry : Entry) (records : List Record) (view : View) → HasView entry records view → has_view entry records view ≡ true
+view-test entry records Whole has = refl
+view-test entry records (Part p j) has = part (keys_of entry records p) has
   where
     part : (found : Option ℕ) → IsSomeAnd found (λ keys. j < keys) → nat_lt j (unwrap_or found 0) ≡ true
     part None has = absurd has
@@ -114,31 +119,60 @@ bytes-test (byte ∷ bytes) all = and_from (nat_lt byte 256) (list_all (λ b. na
 
 -- ---- asks
 
-pub ask-from : (entry : Entry) (ask : Ask) → is_ask_of entry ask ≡ true → IsAskOf entry ask
-ask-from entry ask is =
-    let first = both (nat_lt ask.analyst entry.analysts && has_view entry ask.view && is_epsilon ask.e && is_lowest ask.p ask.q) (is_digest ask.digest) is in
-    let second = both (nat_lt ask.analyst entry.analysts && has_view entry ask.view && is_epsilon ask.e) (is_lowest ask.p ask.q) first.0 in
-    let third = both (nat_lt ask.analyst entry.analysts && has_view entry ask.view) (is_epsilon ask.e) second.0 in
-    let fourth = both (nat_lt ask.analyst entry.analysts) (has_view entry ask.view) third.0 in
+pub ask-from : (entry : Entry) (records : List Record) (ask : Ask) → is_ask_of entry records ask ≡ true → IsAskOf entry records ask
+ask-from entry records ask is =
+    let first = both (nat_lt ask.analyst entry.analysts && has_view entry records ask.view && is_epsilon ask.e && is_lowest ask.p ask.q) (is_digest ask.digest) is in
+    let second = both (nat_lt ask.analyst entry.analysts && has_view entry records ask.view && is_epsilon ask.e) (is_lowest ask.p ask.q) first.0 in
+    let third = both (nat_lt ask.analyst entry.analysts && has_view entry records ask.view) (is_epsilon ask.e) second.0 in
+    let fourth = both (nat_lt ask.analyst entry.analysts) (has_view entry records ask.view) third.0 in
     let epsilon = both (nat_le 1 ask.e) (nat_le ask.e (10 ^ 9)) third.1 in
     let lowest = lowest-from ask.p ask.q second.1 in
     let digest = both (length ask.digest == 32) (list_all (λ byte. nat_lt byte 256) ask.digest) first.1 in
     record {
       analyst = ltb-true ask.analyst entry.analysts fourth.0;
-      view = view-from entry ask.view fourth.1;
+      view = view-from entry records ask.view fourth.1;
       terms = record { above = leb-true 1 ask.e epsilon.0; most = leb-true ask.e (10 ^ 9) epsilon.1; positive = lowest.0; lowest = lowest.1 };
       digest = (eqb-true (length ask.digest) 32 digest.0, bytes-from ask.digest digest.1);
     }
 
-pub ask-test : (entry : Entry) (ask : Ask) → IsAskOf entry ask → is_ask_of entry ask ≡ true
-ask-test entry ask of =
+pub ask-test : (entry : Entry) (records : List Record) (ask : Ask) → IsAskOf entry records ask → is_ask_of entry records ask ≡ true
+ask-test entry records ask of =
     let epsilon = and_from (nat_le 1 ask.e) (nat_le ask.e (10 ^ 9)) (le-leb 1 ask.e of.terms.above) (le-leb ask.e (10 ^ 9) of.terms.most) in
     let digest = and_from (length ask.digest == 32) (list_all (λ byte. nat_lt byte 256) ask.digest) (eq-eqb (length ask.digest) 32 of.digest.0) (bytes-test ask.digest of.digest.1) in
-    and_from (nat_lt ask.analyst entry.analysts && has_view entry ask.view && is_epsilon ask.e && is_lowest ask.p ask.q) (is_digest ask.digest)
-    (and_from (nat_lt ask.analyst entry.analysts && has_view entry ask.view && is_epsilon ask.e) (is_lowest ask.p ask.q)
-    (and_from (nat_lt ask.analyst entry.analysts && has_view entry ask.view) (is_epsilon ask.e)
-    (and_from (nat_lt ask.analyst entry.analysts) (has_view entry ask.view) (lt-ltb ask.analyst entry.analysts of.analyst) (view-test entry ask.view of.view)) epsilon)
+    and_from (nat_lt ask.analyst entry.analysts && has_view entry records ask.view && is_epsilon ask.e && is_lowest ask.p ask.q) (is_digest ask.digest)
+    (and_from (nat_lt ask.analyst entry.analysts && has_view entry records ask.view && is_epsilon ask.e) (is_lowest ask.p ask.q)
+    (and_from (nat_lt ask.analyst entry.analysts && has_view entry records ask.view) (is_epsilon ask.e)
+    (and_from (nat_lt ask.analyst entry.analysts) (has_view entry records ask.view) (lt-ltb ask.analyst entry.analysts of.analyst) (view-test entry records ask.view of.view)) epsilon)
     (lowest-test ask.p ask.q of.terms.positive of.terms.lowest)) digest
 
-pub ask-fails : (entry : Entry) (ask : Ask) → (IsAskOf entry ask → ⊥) → is_ask_of entry ask ≡ false
-ask-fails entry ask isnt = decide (is_ask_of entry ask) (λ holds. isnt (ask-from entry ask holds))
+pub ask-fails : (entry : Entry) (records : List Record) (ask : Ask) → (IsAskOf entry records ask → ⊥) → is_ask_of entry records ask ≡ false
+ask-fails entry records ask isnt = decide (is_ask_of entry records ask) (λ holds. isnt (ask-from entry records ask holds))
+
+-- ---- definitions
+
+pub definition-from : (definition : Definition) → is_definition definition ≡ true → IsDefinition definition
+definition-from d is =
+    let first = both (nat_lt d.table table_range && nat_le 1 d.keys && nat_le d.keys made_part_limit && nat_lt d.analyst (2 ^ 16)) (is_digest d.digest) is in
+    let second = both (nat_lt d.table table_range && nat_le 1 d.keys && nat_le d.keys made_part_limit) (nat_lt d.analyst (2 ^ 16)) first.0 in
+    let third = both (nat_lt d.table table_range && nat_le 1 d.keys) (nat_le d.keys made_part_limit) second.0 in
+    let fourth = both (nat_lt d.table table_range) (nat_le 1 d.keys) third.0 in
+    let digest = both (length d.digest == 32) (list_all (λ byte. nat_lt byte 256) d.digest) first.1 in
+    record {
+      of_table = ltb-true d.table table_range fourth.0;
+      some = leb-true 1 d.keys fourth.1;
+      few = leb-true d.keys made_part_limit third.1;
+      defined = ltb-true d.analyst (2 ^ 16) second.1;
+      hashed = (eqb-true (length d.digest) 32 digest.0, bytes-from d.digest digest.1);
+    }
+
+pub definition-test : (definition : Definition) → IsDefinition definition → is_definition definition ≡ true
+definition-test d of =
+    let digest = and_from (length d.digest == 32) (list_all (λ byte. nat_lt byte 256) d.digest) (eq-eqb (length d.digest) 32 of.hashed.0) (bytes-test d.digest of.hashed.1) in
+    and_from (nat_lt d.table table_range && nat_le 1 d.keys && nat_le d.keys made_part_limit && nat_lt d.analyst (2 ^ 16)) (is_digest d.digest)
+    (and_from (nat_lt d.table table_range && nat_le 1 d.keys && nat_le d.keys made_part_limit) (nat_lt d.analyst (2 ^ 16))
+    (and_from (nat_lt d.table table_range && nat_le 1 d.keys) (nat_le d.keys made_part_limit)
+    (and_from (nat_lt d.table table_range) (nat_le 1 d.keys) (lt-ltb d.table table_range of.of_table) (le-leb 1 d.keys of.some)) (le-leb d.keys made_part_limit of.few))
+    (lt-ltb d.analyst (2 ^ 16) of.defined)) digest
+
+pub definition-fails : (definition : Definition) → (IsDefinition definition → ⊥) → is_definition definition ≡ false
+definition-fails d isnt = decide (is_definition d) (λ holds. isnt (definition-from d holds))

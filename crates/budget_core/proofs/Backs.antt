@@ -12,16 +12,16 @@ use Rattle.partition_charge.proofs.Rests.{rest-charged}
 use Rattle.journal_records.specs.declared.records.Outcome.{Outcome}
 use Rattle.journal_records.specs.declared.records.Reservation.{Reservation}
 use Rattle.journal_records.specs.declared.records.Record.{Record}
-use Rattle.journal_records.specs.declared.records.Record.TheVariants.{Reserve, Settle, Grant}
+use Rattle.journal_records.specs.declared.records.Record.TheVariants.{Reserve, Settle, Grant, Define}
 use Rattle.journal_records.specs.Records.{settling_back, number_or_zero}
 use Rattle.budget_core.specs.Counts.{reservations_of, reservation_of, outcome_of}
 use Rattle.budget_core.specs.Cost.{charge_by, comes_back, counts_in, charges_in}
-use Rattle.budget_core.specs.Entries.{Entry, IsEntry, HasView}
+use Rattle.budget_core.specs.Entries.{Entry, IsEntry}
 use Rattle.budget_core.specs.Legal.{IsReservationAfter, MayFollow, IsOpen, IsHistory}
 use Rattle.budget_core.proofs.Charging.{view-valid}
 use Rattle.budget_core.proofs.Costs.{nothing-back, sum-filtered}
 use Rattle.budget_core.proofs.Histories.{history-induction}
-use Rattle.budget_core.proofs.Numbers.{sum_by-parts, option_or-None, eqb_turned, reservations-with, reservations-settled, reservations-granted, reservation_of-append, reserved_below, outcome_of-append-Settle}
+use Rattle.budget_core.proofs.Numbers.{sum_by-parts, option_or-None, eqb_turned, reservations-with, reservations-settled, reservations-granted, reservations-defined, reservation_of-append, reserved_below, outcome_of-append-Settle}
 
 -- Of a number's reservations a history has just the one that is found.
 pub only-one : (entry : Entry) (a : Reservation → ℕ) (records : List Record) → IsHistory entry records → (n : ℕ)
@@ -51,6 +51,9 @@ only-one entry a = history-induction entry (λ records. (n : ℕ) → sum_by (λ
     step xs (Grant grant) h may before n =
         ap (sum_by (λ (r : Reservation). cond (n == r.number) (a r) 0)) (reservations-granted xs grant) ∙ before n
         ∙ ap (number_or_zero a) (sym (reservation_of-append xs (Grant grant ∷ []) n ∙ option_or-None (reservation_of xs n)))
+    step xs (Define made) h may before n =
+        ap (sum_by (λ (r : Reservation). cond (n == r.number) (a r) 0)) (reservations-defined xs made) ∙ before n
+        ∙ ap (number_or_zero a) (sym (reservation_of-append xs (Define made ∷ []) n ∙ option_or-None (reservation_of xs n)))
 
 -- What an exhausted number was charged is what comes back, and nothing else does.
 module _ (entry : Entry) (records : List Record) (number returned : ℕ) (outcome : Outcome) (back : comes_back entry (Some outcome) ≡ true)
@@ -107,7 +110,7 @@ module _ (entry : Entry) (records : List Record) (number returned : ℕ) (outcom
       (charges_in entry records, stands, rest-charged (charges_in entry records) (charges_in entry settled) charge.view charge.amount (back-rest charge is))
 
 -- What holds of each reservation that may follow holds of each of a history.
-pub reserved-all : (entry : Entry) (P : Reservation → Type 0) → ((records : List Record) (r : Reservation) → IsReservationAfter entry records r → P r) → (records : List Record) → IsHistory entry records
+pub reserved-all : (entry : Entry) (P : Reservation → Type 0) → ((records : List Record) (r : Reservation) → IsHistory entry records → IsReservationAfter entry records r → P r) → (records : List Record) → IsHistory entry records
     → (n : ℕ) (r : Reservation) → reservation_of records n ≡ Some r → P r
 reserved-all entry P from = history-induction entry (λ records. (n : ℕ) (r : Reservation) → reservation_of records n ≡ Some r → P r) (λ n r is. absurd cc) step
   where
@@ -118,14 +121,15 @@ reserved-all entry P from = history-induction entry (λ records. (n : ℕ) (r : 
       where
         by : (old : Option Reservation) → reservation_of xs n ≡ old → (hit : Bool) → option_or old (cond hit (Some reservation) None) ≡ Some r → P r
         by (Some other) was hit now = before n r (was ∙ now)
-        by None was true now = let same : reservation ≡ r = cc now in subst P same (from xs reservation may)
+        by None was true now = let same : reservation ≡ r = cc now in subst P same (from xs reservation h may)
         by None was false now = absurd cc
     step xs (Settle settlement) h may before n r is = before n r (sym (reservation_of-append xs (Settle settlement ∷ []) n ∙ option_or-None (reservation_of xs n)) ∙ is)
     step xs (Grant grant) h may before n r is = before n r (sym (reservation_of-append xs (Grant grant ∷ []) n ∙ option_or-None (reservation_of xs n)) ∙ is)
+    step xs (Define made) h may before n r is = before n r (sym (reservation_of-append xs (Define made ∷ []) n ∙ option_or-None (reservation_of xs n)) ∙ is)
 
--- Each names a view of the entry.
-reserved-view : (entry : Entry) (records : List Record) → IsHistory entry records → (n : ℕ) (r : Reservation) → reservation_of records n ≡ Some r → HasView entry r.view
-reserved-view entry = reserved-all entry (λ (r : Reservation). HasView entry r.view) (λ records r may. may.looks_at)
+-- Each names a view within the limits of all views.
+reserved-view : (entry : Entry) (records : List Record) → IsEntry entry → IsHistory entry records → (n : ℕ) (r : Reservation) → reservation_of records n ≡ Some r → IsView r.view
+reserved-view entry records valid = reserved-all entry (λ (r : Reservation). IsView r.view) (λ xs r h may. view-valid entry xs r.view valid h may.looks_at) records
 
 pub charge-view : (entry : Entry) (records : List Record) → IsEntry entry → IsHistory entry records → (n : ℕ) (charge : Charge)
     → option_map charge_by (reservation_of records n) ≡ Some charge → IsView charge.view
@@ -133,4 +137,4 @@ charge-view entry records valid h n charge is = by (reservation_of records n) re
   where
     by : (found : Option Reservation) → reservation_of records n ≡ found → option_map charge_by found ≡ Some charge → IsView charge.view
     by None was some = absurd cc
-    by (Some r) was some = let same : charge_by r ≡ charge = cc some in subst (λ (z : Charge). IsView z.view) same (view-valid entry r.view valid (reserved-view entry records h n r was))
+    by (Some r) was some = let same : charge_by r ≡ charge = cc some in subst (λ (z : Charge). IsView z.view) same (reserved-view entry records valid h n r was)

@@ -7,7 +7,7 @@ use Rattle.journal_records.specs.declared.records.Outcome.{Outcome}
 use Rattle.journal_records.specs.declared.records.Outcome.TheVariants.{Answered, Exhausted, Lost}
 use Rattle.journal_records.specs.declared.records.Reservation.{Reservation}
 use Rattle.journal_records.specs.declared.records.Record.{Record}
-use Rattle.journal_records.specs.declared.records.Record.TheVariants.{Reserve, Settle, Grant}
+use Rattle.journal_records.specs.declared.records.Record.TheVariants.{Reserve, Settle, Grant, Define}
 use Rattle.budget_core.specs.declared.entry.Ask.{Ask}
 use Rattle.budget_core.specs.declared.entry.ReserveFault.TheVariants.{OverBudget, Full, OverShare}
 use Rattle.journal_records.specs.Records.{is_some_and}
@@ -33,6 +33,7 @@ same-reservations [] = refl
 same-reservations (Reserve reservation ∷ records) = ap (λ (rest : List Reservation). reservation ∷ rest) (same-reservations records)
 same-reservations (Settle settlement ∷ records) = same-reservations records
 same-reservations (Grant grant ∷ records) = same-reservations records
+same-reservations (Define made ∷ records) = same-reservations records
 
 bare-exhaustion : (outcome : Outcome) → is_exhaustion (Some (bare_outcome outcome)) ≡ is_exhaustion (Some outcome)
 bare-exhaustion (Answered value) = refl
@@ -43,6 +44,7 @@ same-exhausted : (records : List Record) (n : ℕ) → is_exhaustion (outcome_of
 same-exhausted [] n = refl
 same-exhausted (Reserve reservation ∷ records) n = same-exhausted records n
 same-exhausted (Grant grant ∷ records) n = same-exhausted records n
+same-exhausted (Define made ∷ records) n = same-exhausted records n
 same-exhausted (Settle settlement ∷ records) n = by (same-exhausted records n) (n == settlement.number)
   where
     by : is_exhaustion (outcome_of (without_answers records) n) ≡ is_exhaustion (outcome_of records n) → (hit : Bool) → is_exhaustion (cond hit (Some (bare_outcome settlement.outcome)) (outcome_of (without_answers records) n)) ≡ is_exhaustion (cond hit (Some settlement.outcome) (outcome_of records n))
@@ -61,6 +63,7 @@ budget_of-without_answers entry records = budget_of-same entry (without_answers 
     same (Reserve reservation) = refl
     same (Settle settlement) = refl
     same (Grant grant) = refl
+    same (Define made) = refl
 
 pub cost_with-without_answers : (entry : Entry) (records : List Record) (ask : Ask) → cost_with entry (without_answers records) ask ≡ cost_with entry records ask
 cost_with-without_answers entry records ask =
@@ -85,6 +88,7 @@ reservations_of-without_answers [] = refl
 reservations_of-without_answers (Reserve reservation ∷ records) = omega (arith, reservations_of-without_answers records)
 reservations_of-without_answers (Settle settlement ∷ records) = reservations_of-without_answers records
 reservations_of-without_answers (Grant grant ∷ records) = reservations_of-without_answers records
+reservations_of-without_answers (Define made ∷ records) = reservations_of-without_answers records
 
 settled_step : {X : Type 0} → (hit : Bool) (v w : X) (old new : Option X) → is_some old ≡ is_some new → is_some (cond hit (Some v) old) ≡ is_some (cond hit (Some w) new)
 settled_step true v w old new same = refl
@@ -94,6 +98,7 @@ settled-without_answers : (records : List Record) (n : ℕ) → is_some (outcome
 settled-without_answers [] n = refl
 settled-without_answers (Reserve reservation ∷ records) n = settled-without_answers records n
 settled-without_answers (Grant grant ∷ records) n = settled-without_answers records n
+settled-without_answers (Define made ∷ records) n = settled-without_answers records n
 settled-without_answers (Settle settlement ∷ records) n = settled_step (n == settlement.number) (bare_outcome settlement.outcome) settlement.outcome (outcome_of (without_answers records) n) (outcome_of records n) (settled-without_answers records n)
 
 pub open_from-without_answers : (start : ℕ) (records : List Record) → open_from start (without_answers records) ≡ open_from start records
@@ -103,6 +108,7 @@ open_from-without_answers start records = sum_by-mapped (λ r. one_if (is_open_i
     same (Reserve reservation) = ap (λ b. one_if (nat_le start reservation.number && not b)) (settled-without_answers records reservation.number)
     same (Settle settlement) = refl
     same (Grant grant) = refl
+    same (Define made) = refl
 
 pub money_verdict-without_answers : (entry : Entry) (start : ℕ) (records : List Record) (ask : Ask) → money_verdict entry start (without_answers records) ask ≡ money_verdict entry start records ask
 money_verdict-without_answers entry start records ask =

@@ -16,7 +16,8 @@ use Rattle.journal_records.specs.declared.records.Reservation.{Reservation}
 use Rattle.journal_records.specs.declared.records.Settlement.{Settlement}
 use Rattle.journal_records.specs.declared.records.BudgetGrant.{BudgetGrant}
 use Rattle.journal_records.specs.declared.records.Record.{Record}
-use Rattle.journal_records.specs.declared.records.Record.TheVariants.{Reserve, Settle, Grant}
+use Rattle.journal_records.specs.declared.records.MadePartition.{MadePartition}
+use Rattle.journal_records.specs.declared.records.Record.TheVariants.{Reserve, Settle, Grant, Define}
 use Rattle.journal_records.specs.Encoding.{MayReturn}
 use Rattle.journal_records.specs.Records.{settling_back}
 use Rattle.budget_core.specs.Counts.{reservations_of, outcome_of, is_exhaustion, taken_of, returned_of, amount_of}
@@ -24,7 +25,7 @@ use Rattle.budget_core.specs.Entries.{Entry, budget_limit}
 use Rattle.budget_core.specs.Legal.{MayFollow, IsSettlementAfter, IsHistory}
 use Rattle.budget_core.specs.Ledger.{returned_by, settlement_for}
 use Rattle.budget_core.proofs.Histories.{history-induction}
-use Rattle.budget_core.proofs.Numbers.{sum_by-le, reservations-with, reservations-settled, reservations-granted, outcome_of-append-Reserve, outcome_of-append-Settle, outcome_of-append-Grant}
+use Rattle.budget_core.proofs.Numbers.{sum_by-le, reservations-with, reservations-settled, reservations-granted, reservations-defined, outcome_of-append-Reserve, outcome_of-append-Settle, outcome_of-append-Grant, outcome_of-append-Define}
 use Rattle.budget_core.specs.Cost.{ceil_div, charge_by, comes_back, counts_in, charges_in, cost_of, budget_of}
 
 -- division that rounds up, in std's words
@@ -254,8 +255,15 @@ pub charges_in-append-Grant : (entry : Entry) (records : List Record) (grant : B
 charges_in-append-Grant entry records grant =
     charges_in-same entry (records ++ Grant grant ∷ []) records (reservations-granted records grant) (λ n. ap (comes_back entry) (outcome_of-append-Grant records grant n))
 
+pub charges_in-append-Define : (entry : Entry) (records : List Record) (made : MadePartition) → charges_in entry (records ++ Define made ∷ []) ≡ charges_in entry records
+charges_in-append-Define entry records made =
+    charges_in-same entry (records ++ Define made ∷ []) records (reservations-defined records made) (λ n. ap (comes_back entry) (outcome_of-append-Define records made n))
+
 pub cost_of-append-Grant : (entry : Entry) (records : List Record) (grant : BudgetGrant) → cost_of entry (records ++ Grant grant ∷ []) ≡ cost_of entry records
 cost_of-append-Grant entry records grant = cost_of-same entry (records ++ Grant grant ∷ []) records (charges_in-append-Grant entry records grant)
+
+pub cost_of-append-Define : (entry : Entry) (records : List Record) (made : MadePartition) → cost_of entry (records ++ Define made ∷ []) ≡ cost_of entry records
+cost_of-append-Define entry records made = cost_of-same entry (records ++ Define made ∷ []) records (charges_in-append-Define entry records made)
 
 -- the budget with one record more
 pub budget_of-append : (entry : Entry) (records : List Record) (next : Record) → budget_of entry (records ++ next ∷ []) ≡ budget_of entry records + amount_of next
@@ -268,6 +276,10 @@ unfolding budget_of
 budget_of-nil entry = omega arith
 
 -- Lists that grant as much have the same budget.
+-- A made partition leaves the budget as it is.
+pub budget_of-append-Define : (entry : Entry) (records : List Record) (made : MadePartition) → budget_of entry (records ++ Define made ∷ []) ≡ budget_of entry records
+budget_of-append-Define entry records made = omega (arith, budget_of-append entry records (Define made))
+
 pub budget_of-same : (entry : Entry) (xs ys : List Record) → sum_by amount_of xs ≡ sum_by amount_of ys → budget_of entry xs ≡ budget_of entry ys
 unfolding budget_of
 budget_of-same entry xs ys same = ap (λ (n : ℕ). entry.budget + n) same
@@ -280,6 +292,7 @@ limited entry records fits = history-induction entry (λ xs. budget_of entry xs 
     step xs (Reserve reservation) h may before = omega (arith, before, budget_of-append entry xs (Reserve reservation))
     step xs (Settle settlement) h may before = omega (arith, before, budget_of-append entry xs (Settle settlement))
     step xs (Grant grant) h may before = may.within
+    step xs (Define made) h may before = omega (arith, before, budget_of-append entry xs (Define made))
 
 -- What each reservation of a history took adds up to its cost and to what was given back.
 pub adds_up : (entry : Entry) (records : List Record) → IsHistory entry records → sum_by taken_of records ≡ cost_of entry records + sum_by returned_of records
@@ -293,3 +306,5 @@ adds_up entry = history-induction entry (λ records. sum_by taken_of records ≡
         omega (arith, before, may.fall, sum_by_push taken_of xs (Settle settlement), sum_by_push returned_of xs (Settle settlement))
     step xs (Grant grant) h may before =
         omega (arith, before, cost_of-append-Grant entry xs grant, sum_by_push taken_of xs (Grant grant), sum_by_push returned_of xs (Grant grant))
+    step xs (Define made) h may before =
+        omega (arith, before, cost_of-append-Define entry xs made, sum_by_push taken_of xs (Define made), sum_by_push returned_of xs (Define made))

@@ -200,16 +200,16 @@ opens_running = refl
 
 -- ---- asks of the entry
 
-of_the_entry : is_ask_of (entry_of 10 100) (ask_of (Part 0 1) 1) ≡ true
+of_the_entry : is_ask_of (entry_of 10 100) [] (ask_of (Part 0 1) 1) ≡ true
 of_the_entry = refl
 
-part_past_the_last : is_ask_of (entry_of 10 100) (ask_of (Part 0 2) 1) ≡ false
+part_past_the_last : is_ask_of (entry_of 10 100) [] (ask_of (Part 0 2) 1) ≡ false
 part_past_the_last = refl
 
-no_such_partition : has_view (entry_of 10 100) (Part 1 0) ≡ false
+no_such_partition : has_view (entry_of 10 100) [] (Part 1 0) ≡ false
 no_such_partition = refl
 
-short_digest : is_ask_of (entry_of 10 100) (record (ask_of Whole 1) { digest = replicate 31 9 }) ≡ false
+short_digest : is_ask_of (entry_of 10 100) [] (record (ask_of Whole 1) { digest = replicate 31 9 }) ≡ false
 short_digest = refl
 
 greatest_byte : is_digest (replicate 32 255) ≡ true
@@ -218,7 +218,7 @@ greatest_byte = refl
 past_a_byte : is_digest (replicate 32 256) ≡ false
 past_a_byte = refl
 
-no_epsilon : is_ask_of (entry_of 10 100) (ask_of Whole 0) ≡ false
+no_epsilon : is_ask_of (entry_of 10 100) [] (ask_of Whole 0) ≡ false
 no_epsilon = refl
 
 least_epsilon : is_epsilon 1 ≡ true
@@ -253,5 +253,5 @@ over_nothing : is_lowest 1 0 ≡ false
 over_nothing = refl
 
 -- An ask that is not in lowest terms is none.
-not_lowest : is_ask_of (entry_of 10 100) (record (ask_of Whole 1) { p = 2; q = 2 }) ≡ false
+not_lowest : is_ask_of (entry_of 10 100) [] (record (ask_of Whole 1) { p = 2; q = 2 }) ≡ false
 not_lowest = refl

@@ -9,24 +9,30 @@ use Rattle.budget_core.specs.declared.entry.Ask.{Ask}
 use Rattle.budget_core.specs.declared.entry.Grant.{Grant}
 use Rattle.budget_core.specs.declared.entry.ReserveFault.{ReserveFault}
 use Rattle.budget_core.specs.declared.events.Event.{Event}
-use Rattle.budget_core.specs.declared.events.Event.TheVariants.{Reserve as ToReserve, Settle as ToSettle, Grant as ToGrant, Send, Stop, Open}
+use Rattle.budget_core.specs.declared.events.Event.TheVariants.{Reserve as ToReserve, Settle as ToSettle, Grant as ToGrant, Define as ToDefine, Send, Stop, Open}
 use Rattle.budget_core.specs.Counts.{reservations_of, reservation_of, outcome_of, open_from}
 use Rattle.budget_core.specs.Entries.{Entry, IsEntry, budget_limit}
 use Rattle.budget_core.specs.declared.answers.GrantRefusal.{GrantRefusal}
 use Rattle.budget_core.specs.declared.answers.Left.{Left}
 use Rattle.budget_core.specs.Granting.{grant_behind, with_grant, grant_verdict, records_granted, IsAmount}
-use Rattle.budget_core.specs.Events.{World, first_world, is_ask_of, is_unsettled, is_amount, is_answer, stepped, ran}
-use Rattle.journal_records.specs.declared.records.Record.TheVariants.{Grant as Granted}
+use Rattle.budget_core.specs.Events.{World, first_world, is_ask_of, is_definition, is_unsettled, is_amount, is_answer, stepped, ran}
+use Rattle.journal_records.specs.declared.records.Record.TheVariants.{Grant as Granted, Define}
+use Rattle.budget_core.specs.declared.definitions.Definition.{Definition}
+use Rattle.budget_core.specs.declared.definitions.Made.{Made}
+use Rattle.budget_core.specs.declared.definitions.DefineFault.{DefineFault}
+use Rattle.budget_core.specs.Defining.{IsDefinition, made_behind, made_before, with_definition, definition_verdict, records_defined}
 use Rattle.budget_core.specs.Ledger.{Ledger, start_of, reservation_for, money_verdict, records_after, settlement_of, settlement_for, IsAskOf, IsUnsettled}
 use Rattle.budget_core.specs.Safe.{IsSafe}
 use Rattle.budget_core.specs.Sound.{IsSound}
 use Rattle.budget_core.proofs.Histories.{history-nil}
 use Rattle.budget_core.proofs.Numbers.{numbered_in_order, settled_once, outcome_of-append-old}
-use Rattle.budget_core.proofs.SoundLemmas.{sound-history, sound-Reserve, sound-Settle, sound-Grant, sound-found, may-raise}
+use Rattle.budget_core.proofs.SoundLemmas.{sound-history, sound-Reserve, sound-Settle, sound-Grant, sound-Define, sound-found, may-raise}
+use Rattle.budget_core.proofs.Defined.{may-define}
+use Rattle.budget_core.proofs.Partitions.{made-in-order, defines-once}
 use Rattle.budget_core.proofs.LegalLemmas.{settlement-may}
 use Rattle.budget_core.proofs.Costs.{cost_of-nil, budget_of-nil}
 use Rattle.budget_core.proofs.MineLemmas.{stays_within_limits}
-use Rattle.budget_core.proofs.Asks.{ask-from}
+use Rattle.budget_core.proofs.Asks.{ask-from, definition-from}
 
 -- each of these numbers is settled with an answer
 abbrev AreAnswered : List Record → List ℕ → Type 0
@@ -84,7 +90,7 @@ unsettled-from ledger start number is holds =
     none None holds = refl
     none (Some x) holds = absurd cc
 
-good-reserve : (entry : Entry) (world : World) (ask : Ask) → IsGood entry world → IsAskOf entry ask → (verdict : Result Grant ReserveFault) → money_verdict entry world.start world.records ask ≡ verdict
+good-reserve : (entry : Entry) (world : World) (ask : Ask) → IsGood entry world → IsAskOf entry world.records ask → (verdict : Result Grant ReserveFault) → money_verdict entry world.start world.records ask ≡ verdict
     → IsGood entry (record world { records = records_after world.records ask verdict })
 good-reserve entry world ask good asked (Err fault) is = good
 good-reserve entry world ask good asked (Ok grant) is =
@@ -126,6 +132,27 @@ good-grant entry world amount good valid (Ok left) is =
       answered = answers-stay world.records (Granted (grant_behind world.records amount)) world.sent good.answered;
     }
 
+good-define : (entry : Entry) (world : World) (definition : Definition) → IsGood entry world → IsDefinition definition → (verdict : Result Made DefineFault)
+    → definition_verdict entry world.start world.records definition ≡ verdict → IsGood entry (record world { records = records_defined world.records definition verdict })
+good-define entry world definition good valid (Err fault) is = good
+good-define entry world definition good valid (Ok made) is = by (made_before world.records definition) refl
+  where
+    ledger : Ledger
+    ledger = record { entry = entry; found = good.found; records = world.records }
+
+    granted : definition_verdict entry (start_of ledger) world.records definition ≡ Ok made
+    granted = ap (λ start. definition_verdict entry start world.records definition) (sym good.start) ∙ is
+
+    by : (found : Option Made) → made_before world.records definition ≡ found
+        → IsGood entry (record world { records = if is_some found then world.records else with_definition world.records definition })
+    by (Some before) at = good
+    by None at = record {
+      found = good.found;
+      sound = sound-Define ledger (made_behind world.records definition) good.sound (may-define ledger definition valid at (ap is_ok granted));
+      start = good.start;
+      answered = answers-stay world.records (Define (made_behind world.records definition)) world.sent good.answered;
+    }
+
 -- a world that changes where a test holds
 good-if : (entry : Entry) (world after : World) (test : Bool) → IsGood entry world → (test ≡ true → IsGood entry after) → IsGood entry (if test then after else world)
 good-if entry world after true good then_good = then_good refl
@@ -133,14 +160,17 @@ good-if entry world after false good then_good = good
 
 good-stepped : (entry : Entry) (world : World) (event : Event) → IsGood entry world → IsGood entry (stepped entry world event)
 good-stepped entry world (ToReserve ask) good =
-    good-if entry world (record world { records = records_after world.records ask (money_verdict entry world.start world.records ask) }) (world.running && is_ask_of entry ask) good
-    (λ holds. good-reserve entry world ask good (ask-from entry ask (test-both world.running (is_ask_of entry ask) holds).1) (money_verdict entry world.start world.records ask) refl)
+    good-if entry world (record world { records = records_after world.records ask (money_verdict entry world.start world.records ask) }) (world.running && is_ask_of entry world.records ask) good
+    (λ holds. good-reserve entry world ask good (ask-from entry world.records ask (test-both world.running (is_ask_of entry world.records ask) holds).1) (money_verdict entry world.start world.records ask) refl)
 good-stepped entry world (ToSettle number outcome) good =
     good-if entry world (record world { records = world.records ++ settlement_for entry world.records number outcome ∷ [] }) (world.running && is_unsettled world.start world.records number) good
     (λ holds. good-settle entry world number outcome good (test-both world.running (is_unsettled world.start world.records number) holds).1)
 good-stepped entry world (ToGrant amount) good =
     good-if entry world (record world { records = records_granted world.records amount (grant_verdict entry world.start world.records amount) }) (world.running && is_amount amount) good
     (λ holds. good-grant entry world amount good (amount-from amount (test-both world.running (is_amount amount) holds).1) (grant_verdict entry world.start world.records amount) refl)
+good-stepped entry world (ToDefine definition) good =
+    good-if entry world (record world { records = records_defined world.records definition (definition_verdict entry world.start world.records definition) }) (world.running && is_definition definition) good
+    (λ holds. good-define entry world definition good (definition-from definition (test-both world.running (is_definition definition) holds).1) (definition_verdict entry world.start world.records definition) refl)
 good-stepped entry world (Send number) good =
     good-if entry world (record world { sent = world.sent ++ number ∷ [] })
     (world.running && is_answer (outcome_of world.records number) && not (list_any (λ sent. sent == number) world.sent)) good
@@ -175,6 +205,8 @@ safe-good entry world good =
       limited = good.sound.limited;
       shares = λ analyst limit is. stays_within_limits entry world.records analyst limit h is;
       numbered = numbered_in_order entry world.records h;
+      partitions = made-in-order entry world.records h;
+      defined = λ table keys digest. defines-once entry world.records table keys digest h;
       once = λ number. omega (arith, settled_once entry world.records h number, at-most (is_some (outcome_of world.records number)));
       answered = λ number within. subst (λ n. IsTrue (is_answer (outcome_of world.records n))) within.2 (answers-at world.records world.sent good.answered within.0 number within.1);
       room = subst (λ start. length world.records + open_from start world.records ≤ entry.capacity) (sym good.start) good.sound.room;
@@ -200,11 +232,11 @@ if-right true false x y fails = refl
 if-right false b x y fails = refl
 
 -- a granted ask's reservation
-pub reserved-step : (entry : Entry) (world : World) (ask : Ask) (grant : Grant) → world.running ≡ true → is_ask_of entry ask ≡ true → money_verdict entry world.start world.records ask ≡ Ok grant
+pub reserved-step : (entry : Entry) (world : World) (ask : Ask) (grant : Grant) → world.running ≡ true → is_ask_of entry world.records ask ≡ true → money_verdict entry world.start world.records ask ≡ Ok grant
     → record world { records = world.records ++ reservation_for world.records ask grant.taken ∷ [] } ≡ stepped entry world (ToReserve ask)
 reserved-step entry world ask grant on of is =
     ap (λ (verdict : Result Grant ReserveFault). record world { records = records_after world.records ask verdict }) (sym is)
-    ∙ sym (if-left world.running (is_ask_of entry ask) (record world { records = records_after world.records ask (money_verdict entry world.start world.records ask) }) world on of)
+    ∙ sym (if-left world.running (is_ask_of entry world.records ask) (record world { records = records_after world.records ask (money_verdict entry world.start world.records ask) }) world on of)
 
 -- a grant that is made
 pub granted-step : (entry : Entry) (world : World) (amount : ℕ) → world.running ≡ true → is_amount amount ≡ true → IsOk (grant_verdict entry world.start world.records amount)
@@ -227,3 +259,27 @@ refused-step entry world amount refused =
     same (Ok left) never test = absurd (never refl)
     same (Err refusal) never true = refl
     same (Err refusal) never false = refl
+
+-- a definition that was made before, or is refused
+pub undefined-step : (entry : Entry) (world : World) (definition : Definition) → (IsOk (definition_verdict entry world.start world.records definition) → is_some (made_before world.records definition) ≡ true)
+    → world ≡ stepped entry world (ToDefine definition)
+undefined-step entry world definition refused =
+    same (definition_verdict entry world.start world.records definition) refused (world.running && is_definition definition)
+  where
+    same : (verdict : Result Made DefineFault) → (IsOk verdict → is_some (made_before world.records definition) ≡ true) → (test : Bool)
+        → world ≡ (if test then record world { records = records_defined world.records definition verdict } else world)
+    same (Ok made) before true = ap (λ (b : Bool). record world { records = if b then world.records else with_definition world.records definition }) (sym (before refl))
+    same (Ok made) before false = refl
+    same (Err fault) before true = refl
+    same (Err fault) before false = refl
+
+-- a partition that is made
+pub defined-step : (entry : Entry) (world : World) (definition : Definition) → world.running ≡ true → is_definition definition ≡ true → made_before world.records definition ≡ None
+    → IsOk (definition_verdict entry world.start world.records definition) → record world { records = with_definition world.records definition } ≡ stepped entry world (ToDefine definition)
+defined-step entry world definition on valid first ok =
+    made (definition_verdict entry world.start world.records definition) ok
+    ∙ sym (if-left world.running (is_definition definition) (record world { records = records_defined world.records definition (definition_verdict entry world.start world.records definition) }) world on valid)
+  where
+    made : (verdict : Result Made DefineFault) → IsOk verdict → record world { records = with_definition world.records definition } ≡ record world { records = records_defined world.records definition verdict }
+    made (Ok one) is = ap (λ (found : Option Made). record world { records = if is_some found then world.records else with_definition world.records definition }) (sym first)
+    made (Err fault) is = absurd cc

@@ -6,7 +6,7 @@ use mathlib.Core.Logic.{inl, inr}
 use mathlib.Core.List.{IsPrefix}
 use Rattle.journal_records.specs.declared.records.Reservation.{Reservation}
 use Rattle.journal_records.specs.declared.records.Record.{Record}
-use Rattle.journal_records.specs.declared.records.Record.TheVariants.{Reserve, Settle, Grant as Granted}
+use Rattle.journal_records.specs.declared.records.Record.TheVariants.{Reserve, Settle, Grant as Granted, Define}
 use Rattle.budget_core.specs.declared.entry.Ask.{Ask}
 use Rattle.budget_core.specs.declared.entry.Grant.{Grant}
 use Rattle.budget_core.specs.declared.entry.ReserveFault.TheVariants.{OverBudget, Full}
@@ -27,9 +27,11 @@ counts-behind (x ∷ records) j zero one at lt = absurd (omega (arith, lt))
 counts-behind (Reserve first ∷ records) zero (suc k) one at lt = omega arith
 counts-behind (Settle settlement ∷ records) zero (suc k) one at lt = absurd cc
 counts-behind (Granted raised ∷ records) zero (suc k) one at lt = absurd cc
+counts-behind (Define made ∷ records) zero (suc k) one at lt = absurd cc
 counts-behind (Reserve first ∷ records) (suc j) (suc k) one at lt = omega (arith, counts-behind records j k one at (omega (arith, lt)))
 counts-behind (Settle settlement ∷ records) (suc j) (suc k) one at lt = counts-behind records j k one at (omega (arith, lt))
 counts-behind (Granted raised ∷ records) (suc j) (suc k) one at lt = counts-behind records j k one at (omega (arith, lt))
+counts-behind (Define made ∷ records) (suc j) (suc k) one at lt = counts-behind records j k one at (omega (arith, lt))
 
 pub never-shared : NumbersNeverShared
 never-shared entry records j k one other h first second same =

@@ -14,36 +14,39 @@ use Rattle.journal_records.specs.declared.records.Reservation.{Reservation}
 use Rattle.journal_records.specs.declared.records.Settlement.{Settlement}
 use Rattle.journal_records.specs.declared.records.BudgetGrant.{BudgetGrant}
 use Rattle.journal_records.specs.declared.records.Record.{Record}
-use Rattle.journal_records.specs.declared.records.Record.TheVariants.{Reserve, Settle, Grant}
+use Rattle.journal_records.specs.declared.records.MadePartition.{MadePartition}
+use Rattle.journal_records.specs.declared.records.Record.TheVariants.{Reserve, Settle, Grant, Define}
 use Rattle.journal_records.specs.Records.{settling_back}
 use Rattle.budget_core.specs.declared.totals.Row.{Row}
 use Rattle.budget_core.specs.declared.totals.Totals.{Totals}
 use Rattle.budget_core.specs.Cost.{charge_of, comes_back, counts_in, charges_in, cost_of, budget_of}
 use Rattle.budget_core.specs.Ledger.{returned_by}
-use Rattle.budget_core.specs.Legal.{IsReservationAfter, IsOpen, IsSettlementAfter, IsGrantAfter, IsHistory}
+use Rattle.budget_core.specs.Legal.{IsReservationAfter, IsOpen, IsSettlementAfter, IsGrantAfter, IsDefinitionAfter, IsHistory}
 use Rattle.budget_core.specs.Answers.{is_answered, is_exhausted}
 use Rattle.budget_core.specs.Counts.{reservations_of, grants_of}
 use Rattle.budget_core.specs.Entries.{Entry, HasView, limit_of}
-use Rattle.budget_core.specs.Kept.{IsRowOf, HasRows, HasRoomFor, HasShares, IsTotalOf}
+use Rattle.budget_core.specs.Kept.{IsRowOf, HasRows, HasPartRoom, HasShares, IsTotalOf}
 use Rattle.budget_core.specs.Mine.{spent_by, spent_after}
-use Rattle.budget_core.proofs.Charging.{rises, view-valid}
-use Rattle.budget_core.proofs.Costs.{counts-unsettled, cost_of-charges, cost_of-append-Reserve, cost_of-append-returned, cost_of-le-Settle, cost_of-append-Grant, budget_of-append, charges_in-append-Grant, charges_in-append-Reserve, charges_in-append-Settle, returned-is}
+use Rattle.budget_core.proofs.Charging.{rises}
+use Rattle.budget_core.proofs.Partitions.{definitions-with, definitions-other}
+use Rattle.partition_charge.specs.Views.{IsView}
+use Rattle.budget_core.proofs.Costs.{counts-unsettled, cost_of-charges, cost_of-append-Reserve, cost_of-append-returned, cost_of-le-Settle, cost_of-append-Grant, cost_of-append-Define, budget_of-append, charges_in-append-Grant, charges_in-append-Define, charges_in-append-Reserve, charges_in-append-Settle, returned-is}
 use Rattle.budget_core.proofs.Backs.{back-rest}
 use Rattle.budget_core.proofs.Histories.{history-append}
-use Rattle.budget_core.proofs.MineKept.{shares-Grant}
+use Rattle.budget_core.proofs.MineKept.{shares-Grant, shares-Define, room-later}
 use Rattle.budget_core.proofs.MineLemmas.{spent-mine}
 use Rattle.budget_core.proofs.Numbers.{one_if, outcome_past, reserved_below, grants-append}
-use Rattle.budget_core.proofs.Standings.{reservations-within, new-row, rows-Reserve, rows-Grant}
+use Rattle.budget_core.proofs.Standings.{reservations-within, new-row, rows-Reserve, rows-Grant, rows-Define}
 
 -- There are fewer rows than a u32 has numbers.
 pub kept-count : (entry : Entry) (records : List Record) (totals : Totals) → IsTotalOf entry records totals → length totals.rows.items ≤ 262144
 kept-count entry records totals k = omega (arith, k.rows.count, reservations-within records, k.fits, k.valid.capacity)
 
 -- The totals have room for one charge more.
-pub kept-charging : (entry : Entry) (records : List Record) (totals : Totals) (view : View) (amount : ℕ) → IsTotalOf entry records totals → HasView entry view → amount ≤ 2 ^ 62 → HasRoom totals.costs view amount
-kept-charging entry records totals view amount k has bounded =
+pub kept-charging : (entry : Entry) (records : List Record) (totals : Totals) (view : View) (amount : ℕ) → IsTotalOf entry records totals → IsView view → amount ≤ 2 ^ 62 → HasRoom totals.costs view amount
+kept-charging entry records totals view amount k viewed bounded =
     let charges : List Charge = charges_in entry records in
-    (charges, k.costs, omega (arith, rises charges view amount (view-valid entry view k.valid has), cost_of-charges entry records, k.within, k.limited))
+    (charges, k.costs, omega (arith, rises charges view amount viewed, cost_of-charges entry records, k.within, k.limited))
 
 pub kept-grows : (entry : Entry) (records : List Record) (view : View) (amount : ℕ) → cost_of entry records ≤ cost_of_charges (charges_in entry records ++ record { view = view; amount = amount } ∷ [])
 kept-grows entry records view amount = omega (arith, cost_of-charges entry records, never-falls (charges_in entry records) (record { view = view; amount = amount }))
@@ -71,7 +74,7 @@ may-share entry records r charge h is may =
     subst (λ (n : ℕ). IfSome (limit_of entry r.analyst) (λ limit. n ≤ limit)) (with-mine entry records r charge h may.numbered is) may.limited
 
 -- Whether a reservation within its budget and its analyst's limit may follow goes by what it says of the cost.
-pub may-reserve : (entry : Entry) (records : List Record) (r : Reservation) (charge after spent : ℕ) → IsHistory entry records → r.number ≡ length (reservations_of records) → r.analyst < entry.analysts → HasView entry r.view
+pub may-reserve : (entry : Entry) (records : List Record) (r : Reservation) (charge after spent : ℕ) → IsHistory entry records → r.number ≡ length (reservations_of records) → r.analyst < entry.analysts → HasView entry records r.view
     → charge ≡ charge_of r.e r.p r.q → after ≡ cost_of_charges (charges_in entry records ++ record { view = r.view; amount = charge } ∷ [])
     → cost_of entry records ≤ after → spent ≡ cost_of entry records → IfSome (limit_of entry r.analyst) (λ limit. spent_after entry records r.analyst (record { view = r.view; amount = charge }) ≤ limit)
     → after ≤ budget_of entry records → IsTrue (nat_eq (after - spent) r.taken) ↔ IsReservationAfter entry records r
@@ -97,7 +100,7 @@ may-not-reserve entry records r charge after h is cost over may =
 -- after a reservation
 pub kept-Reserve : (entry : Entry) (records : List Record) (totals : Totals) (r : Reservation) (charge : ℕ) (costs : Costs) (shares : Vec Costs Global) (rows : Vec Row Global) → IsTotalOf entry records totals
     → IsReservationAfter entry records r → charge ≡ charge_of r.e r.p r.q → length records < entry.capacity → AreTotalsOf costs (charges_in entry records ++ record { view = r.view; amount = charge } ∷ [])
-    → HasShares entry (records ++ Reserve r ∷ []) shares.items → rows.items ≡ totals.rows.items ++ new-row r ∷ [] → vec_capacity rows ≡ vec_capacity totals.rows → HasRoomFor costs entry.keys
+    → HasShares entry (records ++ Reserve r ∷ []) shares.items → rows.items ≡ totals.rows.items ++ new-row r ∷ [] → vec_capacity rows ≡ vec_capacity totals.rows → HasPartRoom entry (records ++ Reserve r ∷ []) costs
     → IsTotalOf entry (records ++ Reserve r ∷ []) (record totals { costs = costs; shares = shares; rows = rows })
 kept-Reserve entry records totals r charge costs shares rows k may is short stand own lines broad roomy =
     let all : List Record = records ++ Reserve r ∷ [] in
@@ -119,13 +122,15 @@ kept-Reserve entry records totals r charge costs shares rows k may is short stan
       fits = omega (arith, length-append records (Reserve r ∷ []), short);
       row_room = omega (arith, k.row_room, broad);
       part_room = roomy;
+      made = k.made ∙ sym (definitions-other records (Reserve r) refl);
+      made_room = k.made_room;
     }
 
 -- after a settlement
 pub kept-Settle : (entry : Entry) (records : List Record) (totals : Totals) (settlement : Settlement) (costs : Costs) (shares : Vec Costs Global) (rows : Vec Row Global) (one other : ℕ) → IsTotalOf entry records totals
     → IsSettlementAfter entry records settlement → length records < entry.capacity → AreTotalsOf costs (charges_in entry (records ++ Settle settlement ∷ []))
     → HasShares entry (records ++ Settle settlement ∷ []) shares.items → HasRows rows.items (records ++ Settle settlement ∷ []) → vec_capacity rows ≡ vec_capacity totals.rows
-    → one ≡ one_if (is_answered (Settle settlement)) → other ≡ one_if (is_exhausted (Settle settlement)) → HasRoomFor costs entry.keys
+    → one ≡ one_if (is_answered (Settle settlement)) → other ≡ one_if (is_exhausted (Settle settlement)) → HasPartRoom entry (records ++ Settle settlement ∷ []) costs
     → IsTotalOf entry (records ++ Settle settlement ∷ []) (record totals { costs = costs; shares = shares; rows = rows; answered = totals.answered + one; exhausted = totals.exhausted + other })
 kept-Settle entry records totals settlement costs shares rows one other k may short stand own has broad answers exhausts roomy = record {
   valid = k.valid;
@@ -142,6 +147,8 @@ kept-Settle entry records totals settlement costs shares rows one other k may sh
   fits = omega (arith, length-append records (Settle settlement ∷ []), short);
   row_room = omega (arith, k.row_room, broad);
   part_room = roomy;
+  made = k.made ∙ sym (definitions-other records (Settle settlement) refl);
+  made_room = k.made_room;
 }
 
 -- after a grant
@@ -162,7 +169,31 @@ kept-Grant entry records totals grant k may short = record {
   budget = omega (arith, k.budget, budget_of-append entry records (Grant grant));
   fits = omega (arith, length-append records (Grant grant ∷ []), short);
   row_room = k.row_room;
-  part_room = k.part_room;
+  part_room = room-later entry records (Grant grant) totals.costs k.part_room;
+  made = k.made ∙ sym (definitions-other records (Grant grant) refl);
+  made_room = k.made_room;
+}
+
+pub kept-Define : (entry : Entry) (records : List Record) (totals : Totals) (made : MadePartition) (list : Vec MadePartition Global) → IsTotalOf entry records totals → IsDefinitionAfter records made
+    → length records < entry.capacity → list.items ≡ totals.made.items ++ made ∷ [] → vec_capacity list ≡ vec_capacity totals.made
+    → IsTotalOf entry (records ++ Define made ∷ []) (record totals { made = list })
+kept-Define entry records totals made list k may short items broad = record {
+  valid = k.valid;
+  history = history-append entry records (Define made) k.history may;
+  within = omega (arith, k.within, cost_of-append-Define entry records made, budget_of-append entry records (Define made));
+  limited = omega (arith, k.limited, budget_of-append entry records (Define made));
+  costs = subst (AreTotalsOf totals.costs) (sym (charges_in-append-Define entry records made)) k.costs;
+  shares = shares-Define entry records totals.shares.items made k.shares;
+  rows = rows-Define records totals.rows.items made k.rows;
+  answered = k.answered ∙ sym (sum_by_push (λ x. one_if (is_answered x)) records (Define made) ∙ add-zero (count_by is_answered records));
+  exhausted = k.exhausted ∙ sym (sum_by_push (λ x. one_if (is_exhausted x)) records (Define made) ∙ add-zero (count_by is_exhausted records));
+  grants = omega (arith, k.grants, grants-append records (Define made));
+  budget = omega (arith, k.budget, budget_of-append entry records (Define made));
+  fits = omega (arith, length-append records (Define made ∷ []), short);
+  row_room = k.row_room;
+  part_room = room-later entry records (Define made) totals.costs k.part_room;
+  made = items ∙ ap (λ all. all ++ made ∷ []) k.made ∙ sym (definitions-with records made);
+  made_room = omega (arith, k.made_room, broad);
 }
 
 -- There are no more grants than records.
@@ -171,6 +202,7 @@ grants-within [] = omega arith
 grants-within (Reserve reservation ∷ records) = omega (arith, grants-within records)
 grants-within (Settle settlement ∷ records) = omega (arith, grants-within records)
 grants-within (Grant grant ∷ records) = omega (arith, grants-within records)
+grants-within (Define made ∷ records) = omega (arith, grants-within records)
 
 -- the totals of what is charged after a settlement
 pub settled-costs : (entry : Entry) (records : List Record) (totals : Totals) (number : ℕ) (outcome : Outcome) (returned : ℕ) (row : Row) (costs : Costs) → IsTotalOf entry records totals

@@ -94,19 +94,19 @@ too_many_keys : IsEntry (entry_of 1 2 1 (4001 ∷ [])) → ⊥
 too_many_keys entry = omega (arith, (entry.keys 0 0 (omega arith)).1)
 
 -- Of a partition with two keys there are the parts 0 and 1.
-last_part : HasView (entry_of 1 2 1 (2 ∷ [])) (Part 0 1)
+last_part : HasView (entry_of 1 2 1 (2 ∷ [])) [] (Part 0 1)
 last_part = omega arith
 
-last_part_of_all : HasView (entry_of 1 2 1 eight) (Part 1 3999)
+last_part_of_all : HasView (entry_of 1 2 1 eight) [] (Part 1 3999)
 last_part_of_all = omega arith
 
-part_past_all : HasView (entry_of 1 2 1 eight) (Part 1 4000) → ⊥
+part_past_all : HasView (entry_of 1 2 1 eight) [] (Part 1 4000) → ⊥
 part_past_all has = omega (arith, has)
 
-part_past_the_last : HasView (entry_of 1 2 1 (2 ∷ [])) (Part 0 2) → ⊥
+part_past_the_last : HasView (entry_of 1 2 1 (2 ∷ [])) [] (Part 0 2) → ⊥
 part_past_the_last has = omega (arith, has)
 
-no_such_partition : HasView (entry_of 1 2 1 (2 ∷ [])) (Part 1 0) → ⊥
+no_such_partition : HasView (entry_of 1 2 1 (2 ∷ [])) [] (Part 1 0) → ⊥
 no_such_partition has = has
 
 -- Epsilon is 1 to 10^9 millionths.
@@ -205,7 +205,7 @@ fits : IsLegal (entry_of 10 2 2 (2 ∷ [])) [] left_open
 unfolding cost_of cost_of_charges parts_cost partition_cost budget_of
 fits = legal-append (entry_of 10 2 2 (2 ∷ [])) [] [] (made 0 (Part 0 0) 6 6 0) (legal-nil (entry_of 10 2 2 (2 ∷ [])))
     (record { numbered = refl; asked_by = omega arith; looks_at = omega arith; rise = refl; within = omega arith; limited = tt })
-    (ask-from (entry_of 10 2 2 (2 ∷ [])) (record { analyst = 0; view = Whole; e = 6; p = 1; q = 1; digest = digest }) refl).terms
+    (ask-from (entry_of 10 2 2 (2 ∷ [])) [] (record { analyst = 0; view = Whole; e = 6; p = 1; q = 1; digest = digest }) refl).terms
     (λ settlement other. cc) (λ within. omega arith)
 
 no_room : IsLegal (entry_of 10 1 2 (2 ∷ [])) [] left_open → ⊥
@@ -222,10 +222,10 @@ found_is_settled legal = omega (arith, legal.settles 1 (record { number = 0; out
 abbrev ask_of : ℕ → View → ℕ → Ask
 ask_of analyst view e = record { analyst = analyst; view = view; e = e; p = 3; q = 2; digest = digest }
 
-an_ask : IsAskOf small (ask_of 1 (Part 0 1) 1)
-an_ask = ask-from small (ask_of 1 (Part 0 1) 1) refl
+an_ask : IsAskOf small [] (ask_of 1 (Part 0 1) 1)
+an_ask = ask-from small [] (ask_of 1 (Part 0 1) 1) refl
 
-ask_of_a_third : IsAskOf small (ask_of 2 Whole 1) → ⊥
+ask_of_a_third : IsAskOf small [] (ask_of 2 Whole 1) → ⊥
 ask_of_a_third ask = omega (arith, ask.analyst)
 
 -- A reservation of this run is unsettled until it is settled; an unknown number and one of an earlier run aren't.

@@ -10,7 +10,8 @@ use mathlib.Core.Logic.{inl, inr}
 use Rattle.journal_records.specs.declared.records.Outcome.{Outcome}
 use Rattle.journal_records.specs.declared.records.Reservation.{Reservation}
 use Rattle.journal_records.specs.declared.records.Record.{Record}
-use Rattle.journal_records.specs.declared.records.Record.TheVariants.{Reserve, Settle, Grant as Granted}
+use Rattle.journal_records.specs.declared.records.MadePartition.{MadePartition}
+use Rattle.journal_records.specs.declared.records.Record.TheVariants.{Reserve, Settle, Grant as Granted, Define}
 use Rattle.journal_records.specs.declared.records.Settlement.{Settlement}
 use Rattle.journal_records.specs.declared.records.BudgetGrant.{BudgetGrant}
 use Rattle.journal_records.specs.Records.{reservation_in, settlement_in, settling_back, is_some_and, number_or_zero}
@@ -22,11 +23,12 @@ use Rattle.budget_core.specs.Counts.{reservations_of, open_from}
 use Rattle.budget_core.specs.Entries.{Entry, limit_of}
 use Rattle.budget_core.specs.Legal.{MayFollow, IsSettlementAfter, HasTerms, IsHistory, IsLegal}
 use Rattle.budget_core.specs.Granting.{MayGrant}
+use Rattle.budget_core.specs.Defining.{MayDefine}
 use Rattle.budget_core.specs.Ledger.{Ledger, start_of, next_number, reservation_numbered, reservation_for, cost_with, rise_of, spent_with, is_over_share, over_share, grant_for, money_verdict, settlement_of, IsAskOf, MayReserve, MaySettle, IsUnsettled}
-use Rattle.budget_core.proofs.Costs.{cost_of-append-taken, cost_of-le-append, cost_of-append-Grant, budget_of-append, returned-falls}
+use Rattle.budget_core.proofs.Costs.{cost_of-append-taken, cost_of-le-append, cost_of-append-Grant, cost_of-append-Define, budget_of-append, returned-falls}
 use Rattle.budget_core.proofs.Histories.{push_cases, follows-push, prefix_split, legal-induction}
 use Rattle.budget_core.proofs.MineLemmas.{spent-taken}
-use Rattle.budget_core.proofs.Numbers.{reserved_below, outcome_past, outcome_of-append-Reserve, outcome_of-append-Settle, open_from-append-Grant, outcome_of-append-Grant, reserved-append, reservation_of-next, open_from-append-Reserve, open_from-Settle}
+use Rattle.budget_core.proofs.Numbers.{reserved_below, outcome_past, outcome_of-append-Reserve, outcome_of-append-Settle, open_from-append-Grant, open_from-append-Define, outcome_of-append-Grant, outcome_of-append-Define, reserved-append, reservation_of-next, open_from-append-Reserve, open_from-Settle}
 
 -- Legal records cost at most the budget, where the found ones do.
 pub legal-cost : (entry : Entry) (found records : List Record) → cost_of entry found ≤ budget_of entry found → IsLegal entry found records
@@ -37,6 +39,7 @@ legal-cost entry found records base l = legal-induction entry found (λ xs. cost
     step xs (Reserve reservation) may known = may.within
     step xs (Settle settlement) may known = omega (arith, known, may.fall, budget_of-append entry xs (Settle settlement))
     step xs (Granted grant) may known = omega (arith, known, cost_of-append-Grant entry xs grant, budget_of-append entry xs (Granted grant))
+    step xs (Define made) may known = omega (arith, known, cost_of-append-Define entry xs made, budget_of-append entry xs (Define made))
 
 -- what was found is no longer than the records
 found_within : (found records : List Record) → take (length found) records ≡ found → length found ≤ length records
@@ -106,7 +109,7 @@ pub cost-granted : (ledger : Ledger) (ask : Ask) (taken : ℕ) → cost_of ledge
 cost-granted ledger ask taken = cost_of-append-taken ledger.entry ledger.records (reservation_numbered (next_number ledger.records) ask taken) 0
 
 -- A granted reservation may be made.
-pub may-grant : (ledger : Ledger) (ask : Ask) (grant : Grant) → IsAskOf ledger.entry ask → money_verdict ledger.entry (start_of ledger) ledger.records ask ≡ Ok grant
+pub may-grant : (ledger : Ledger) (ask : Ask) (grant : Grant) → IsAskOf ledger.entry ledger.records ask → money_verdict ledger.entry (start_of ledger) ledger.records ask ≡ Ok grant
     → MayReserve ledger (reservation_numbered (next_number ledger.records) ask grant.taken)
 may-grant ledger ask grant asked is =
     let g : IsGranted ledger ask grant = granted ledger ask grant is in
@@ -142,7 +145,7 @@ legal-reserved ledger reservation h l may =
     (λ settlement other. cc) (λ fits. omega (arith, open-reserved ledger reservation h l may.follows.numbered, may.room))
 
 -- A granted reservation is legal.
-pub legal-Reserve : (ledger : Ledger) (ask : Ask) (grant : Grant) → IsHistory ledger.entry ledger.records → IsLegal ledger.entry ledger.found ledger.records → IsAskOf ledger.entry ask
+pub legal-Reserve : (ledger : Ledger) (ask : Ask) (grant : Grant) → IsHistory ledger.entry ledger.records → IsLegal ledger.entry ledger.found ledger.records → IsAskOf ledger.entry ledger.records ask
     → money_verdict ledger.entry (start_of ledger) ledger.records ask ≡ Ok grant → IsLegal ledger.entry ledger.found (ledger.records ++ reservation_for ledger.records ask grant.taken ∷ [])
 legal-Reserve ledger ask grant h l asked is =
     legal-reserved ledger (reservation_numbered (next_number ledger.records) ask grant.taken) h l (may-grant ledger ask grant asked is)
@@ -153,6 +156,12 @@ pub legal-granted : (ledger : Ledger) (grant : BudgetGrant) → IsLegal ledger.e
 legal-granted ledger grant l may =
     legal-append ledger.entry ledger.found ledger.records (Granted grant) l may.follows tt
     (λ settlement other. cc) (λ fits. omega (arith, open_from-append-Grant (start_of ledger) ledger.records grant, may.room))
+
+pub legal-defined : (ledger : Ledger) (made : MadePartition) → IsLegal ledger.entry ledger.found ledger.records → MayDefine ledger made
+    → IsLegal ledger.entry ledger.found (ledger.records ++ Define made ∷ [])
+legal-defined ledger made l may =
+    legal-append ledger.entry ledger.found ledger.records (Define made) l may.follows tt
+    (λ settlement other. cc) (λ fits. omega (arith, open_from-append-Define (start_of ledger) ledger.records made, may.room))
 
 -- The reservation that a history makes next is of this run and unsettled.
 pub unsettled-Reserve : (ledger : Ledger) (reservation : Reservation) → IsHistory ledger.entry ledger.records → reservation.number ≡ next_number ledger.records
@@ -182,6 +191,14 @@ unsettled-append-Grant ledger n grant u = record {
   ours = u.ours;
   reserved = reserved-append ledger.records (Granted grant) n u.reserved;
   unsettled = outcome_of-append-Grant ledger.records grant n ∙ u.unsettled;
+}
+
+pub unsettled-append-Define : (ledger : Ledger) (n : ℕ) (made : MadePartition) → IsUnsettled ledger n
+    → IsUnsettled (record ledger { records = ledger.records ++ Define made ∷ [] }) n
+unsettled-append-Define ledger n made u = record {
+  ours = u.ours;
+  reserved = reserved-append ledger.records (Define made) n u.reserved;
+  unsettled = outcome_of-append-Define ledger.records made n ∙ u.unsettled;
 }
 
 pub unsettled-append-Settle : (ledger : Ledger) (n number : ℕ) (outcome : Outcome) (returned : ℕ) → n ≢ number → IsUnsettled ledger n

@@ -2,6 +2,7 @@ pub mod Costs
 pub mod Charging
 pub mod Histories
 pub mod Numbers
+pub mod Partitions
 pub mod Standings
 pub mod Backs
 pub mod MineLemmas
@@ -12,6 +13,7 @@ pub mod BareLemmas
 pub mod LegalLemmas
 pub mod KeptLemmas
 pub mod SoundLemmas
+pub mod Defined
 pub mod RunLemmas
 pub mod Asks
 pub mod Grants
@@ -22,3 +24,4 @@ mod EventExamples
 mod AnswerExamples
 mod GrantExamples
 mod MineExamples
+mod DefinitionExamples

@@ -1,84 +1,99 @@
 -- Running totals of what each analyst is charged.
 use Rattle.std.proofs.Common.{◌≡◌, ℕ, zero, suc, ◌+◌, ◌-◌, ◌≤◌, ◌<◌, ◌^◌, Bool, true, false, not, min, set, get_or, List, [], ◌∷◌, ◌++◌, length, length-append, length-set, map, All, slice_get, Option, Some, None, option_map, refl, sym, ◌∙◌, ap, subst, arith, ⊎_elim, inl, inr, ◌⊎◌}
 use Rattle.std.specs.List.{filter}
-use Rattle.std.proofs.lemmas.Bool.{cases_eq, cases_lt, ne_eqb}
+use Rattle.std.proofs.lemmas.Bool.{cases_eq, ne_eqb}
 use Rattle.std.proofs.lemmas.List.{get_or-set_same, get_or-set_other}
 use Rattle.std.proofs.lemmas.Option.{slice_get-get_or, slice_get_within, get_or_from_slice_get}
 use Rattle.partition_charge.specs.declared.costs.Costs.{Costs}
 use Rattle.partition_charge.specs.declared.view.View.{View}
-use Rattle.partition_charge.specs.Views.{IsPartBelow, part_limit}
+use Rattle.partition_charge.specs.Views.{IsView, IsPartWithin, part_limit}
 use Rattle.partition_charge.specs.Cost.{Charge}
-use Rattle.partition_charge.specs.Totals.{AreTotalsOf, HasCharged, HasRoom, HasPlace, HasPlaces, HasRoomBelow, IsRest}
+use Rattle.partition_charge.specs.Totals.{AreTotalsOf, HasCharged, HasRoom, HasPlace, HasPlaces, IsRest}
 use Rattle.partition_charge.proofs.Rests.{rest-charged}
-use Rattle.partition_charge.proofs.Rooms.{place-below, place-free}
+use Rattle.partition_charge.proofs.Rooms.{place-for, places-fewer}
 use Rattle.journal_records.specs.declared.records.Outcome.{Outcome}
 use Rattle.journal_records.specs.declared.records.Reservation.{Reservation}
 use Rattle.journal_records.specs.declared.records.BudgetGrant.{BudgetGrant}
 use Rattle.journal_records.specs.declared.records.Record.{Record}
-use Rattle.journal_records.specs.declared.records.Record.TheVariants.{Reserve, Grant}
+use Rattle.journal_records.specs.declared.records.MadePartition.{MadePartition}
+use Rattle.journal_records.specs.declared.records.Record.TheVariants.{Reserve, Grant, Define}
 use Rattle.journal_records.specs.Records.{settling_back}
 use Rattle.budget_core.specs.declared.totals.Row.{Row}
 use Rattle.budget_core.specs.Cost.{charge_by, charge_of, comes_back, cost_of, budget_of}
 use Rattle.budget_core.specs.Counts.{reservations_of, reservation_of}
 use Rattle.budget_core.specs.Entries.{Entry, IsEntry, HasView, budget_limit}
-use Rattle.budget_core.specs.Kept.{IsRowOf, HasShareRoom, IsShareOf, HasShares}
+use Rattle.budget_core.specs.Kept.{IsRowOf, HasPartRoom, IsShareOf, HasShares}
 use Rattle.budget_core.specs.Legal.{IsOpen, IsHistory}
 use Rattle.budget_core.specs.Mine.{is_by, charges_by}
 use Rattle.budget_core.proofs.Backs.{reserved-all}
-use Rattle.budget_core.proofs.Charging.{rises, view-valid, view-below}
+use Rattle.budget_core.proofs.Charging.{rises, view-within}
 use Rattle.budget_core.proofs.Costs.{counts-unsettled, ended-alike}
-use Rattle.budget_core.proofs.MineLemmas.{charges-granted, charges-mine, charges-others, spent_by-charges, spent_is_within}
+use Rattle.budget_core.proofs.MineLemmas.{charges-granted, charges-defined, charges-mine, charges-others, spent_by-charges, spent_is_within}
 use Rattle.budget_core.proofs.MineTotals.{charges-others-settled, mine-rest}
 use Rattle.budget_core.proofs.Numbers.{outcome_past, reservations-settled}
 
 -- ---- one analyst's
 
--- A new record takes no place of those whose charges stay.
+-- A new record takes no place.
+pub room-later : (entry : Entry) (records : List Record) (next : Record) (costs : Costs) → HasPartRoom entry records costs → HasPartRoom entry (records ++ next ∷ []) costs
+room-later entry records next costs room =
+    (room.0, places-fewer costs room.0 (entry.capacity - length records) (entry.capacity - length (records ++ next ∷ [])) (omega (arith, length-append records (next ∷ []))) room.1, room.2)
+
 share-later : (entry : Entry) (records : List Record) (next : Record) (analyst : ℕ) (costs : Costs)
     → charges_by entry (records ++ next ∷ []) analyst ≡ charges_by entry records analyst → IsShareOf entry records analyst costs → IsShareOf entry (records ++ next ∷ []) analyst costs
-share-later entry records next analyst costs same is = record { totals = subst (AreTotalsOf costs) (sym same) is.totals; room = by is.room }
-  where
-    by : HasShareRoom entry records costs → HasShareRoom entry (records ++ next ∷ []) costs
-    by (inl room) = inl room
-    by (inr places) = inr (λ p parts found. omega (arith, places p parts found, length-append records (next ∷ [])))
+share-later entry records next analyst costs same is = record { totals = subst (AreTotalsOf costs) (sym same) is.totals; room = room-later entry records next costs is.room }
+
+-- one place less, where one more is free
+room-next : (entry : Entry) (records : List Record) (costs : Costs) (most : ℕ) → length records < entry.capacity → HasPlaces costs most (entry.capacity - length records)
+    → HasPlaces costs most (entry.capacity - (length records + 1) + 1)
+room-next entry records costs most short places = subst (HasPlaces costs most) (omega (arith, short)) places
 
 -- There is a place for a charge, as long as there is one for a record.
-pub share-place : (entry : Entry) (records : List Record) (analyst : ℕ) (costs : Costs) (view : View) → IsShareOf entry records analyst costs → HasView entry view
-    → length records < entry.capacity → HasPlace costs view
-share-place entry records analyst costs view is has short = by is.room
-  where
-    by : HasShareRoom entry records costs → HasPlace costs view
-    by (inl room) = place-below costs (charges_by entry records analyst) view room.0 is.totals room.1 (view-below entry view room.0 room.2 has)
-    by (inr places) = place-free costs view (entry.capacity - (length records + 1)) (λ p parts found. omega (arith, places p parts found, short))
+pub room-place : (entry : Entry) (records : List Record) (charges : List Charge) (costs : Costs) (view : View) → IsEntry entry → IsHistory entry records → AreTotalsOf costs charges
+    → HasPartRoom entry records costs → HasView entry records view → length records < entry.capacity → HasPlace costs view
+room-place entry records charges costs view valid h stands room has short =
+    place-for costs charges view room.0 (entry.capacity - (length records + 1)) stands (room-next entry records costs room.0 short room.1)
+    (view-within entry records view room.0 valid h room.2 has)
 
-pub share-charging : (entry : Entry) (records : List Record) (analyst : ℕ) (costs : Costs) (view : View) (amount : ℕ) → IsEntry entry → IsShareOf entry records analyst costs
-    → cost_of entry records ≤ budget_of entry records → budget_of entry records ≤ budget_limit → HasView entry view → amount ≤ 2 ^ 62 → HasRoom costs view amount
-share-charging entry records analyst costs view amount valid is within limited has bounded =
+-- With a charge more there are as many places as records may still come.
+pub room-added : (entry : Entry) (records : List Record) (r : Reservation) (costs new : Costs) → IsEntry entry → IsHistory entry records → HasView entry records r.view → length records < entry.capacity
+    → ((most more : ℕ) → IsPartWithin most r.view → HasPlaces costs most (more + 1) → HasPlaces new most more) → HasPartRoom entry records costs
+    → HasPartRoom entry (records ++ Reserve r ∷ []) new
+room-added entry records r costs new valid h has short places room = (
+  room.0,
+  subst (HasPlaces new room.0) (omega (arith, length-append records (Reserve r ∷ [])))
+      (places room.0 (entry.capacity - (length records + 1)) (view-within entry records r.view room.0 valid h room.2 has) (room-next entry records costs room.0 short room.1)),
+  room.2,
+)
+
+-- So it is where a charge comes back.
+pub room-settled : (entry : Entry) (records : List Record) (next : Record) (costs new : Costs) → ((most more : ℕ) → HasPlaces costs most more → HasPlaces new most more)
+    → HasPartRoom entry records costs → HasPartRoom entry (records ++ next ∷ []) new
+room-settled entry records next costs new places room =
+    room-later entry records next new (room.0, places room.0 (entry.capacity - length records) room.1, room.2)
+
+pub share-charging : (entry : Entry) (records : List Record) (analyst : ℕ) (costs : Costs) (view : View) (amount : ℕ) → IsView view → IsShareOf entry records analyst costs
+    → cost_of entry records ≤ budget_of entry records → budget_of entry records ≤ budget_limit → amount ≤ 2 ^ 62 → HasRoom costs view amount
+share-charging entry records analyst costs view amount viewed is within limited bounded =
     let charges : List Charge = charges_by entry records analyst in (
       charges,
       is.totals,
-      omega (arith, rises charges view amount (view-valid entry view valid has), spent_by-charges entry records analyst, spent_is_within entry records analyst, within, limited),
+      omega (arith, rises charges view amount viewed, spent_by-charges entry records analyst, spent_is_within entry records analyst, within, limited),
     )
 
 -- with a charge more
-pub share-added : (entry : Entry) (records : List Record) (r : Reservation) (charge : ℕ) (costs new : Costs) → IsHistory entry records → r.number ≡ length (reservations_of records) → HasView entry r.view
+pub share-added : (entry : Entry) (records : List Record) (r : Reservation) (charge : ℕ) (costs new : Costs) → IsEntry entry → IsHistory entry records → r.number ≡ length (reservations_of records) → HasView entry records r.view
     → charge ≡ charge_of r.e r.p r.q → length records < entry.capacity → IsShareOf entry records r.analyst costs
     → ((charges : List Charge) → AreTotalsOf costs charges → AreTotalsOf new (charges ++ record { view = r.view; amount = charge } ∷ []))
-    → ((n : ℕ) → HasPlaces costs (n + 1) → HasPlaces new n) → ((n : ℕ) → IsPartBelow n r.view → HasRoomBelow costs n → HasRoomBelow new n)
+    → ((most more : ℕ) → IsPartWithin most r.view → HasPlaces costs most (more + 1) → HasPlaces new most more)
     → IsShareOf entry (records ++ Reserve r ∷ []) r.analyst new
-share-added entry records r charge costs new h numbered has is short share totals places below = record {
+share-added entry records r charge costs new valid h numbered has is short share totals places = record {
   totals = subst (AreTotalsOf new)
       (ap (λ (n : ℕ). charges_by entry records r.analyst ++ record { view = r.view; amount = n } ∷ []) is
       ∙ sym (charges-mine entry records r (counts-unsettled entry records r (outcome_past entry records h r.number (omega (arith, numbered))))))
       (totals (charges_by entry records r.analyst) share.totals);
-  room = by share.room;
+  room = room-added entry records r costs new valid h has short places share.room;
 }
-  where
-    by : HasShareRoom entry records costs → HasShareRoom entry (records ++ Reserve r ∷ []) new
-    by (inl room) = inl (room.0, below room.0 (view-below entry r.view room.0 room.2 has) room.1, room.2)
-    by (inr free) =
-        let left : HasPlaces new (entry.capacity - (length records + 1)) = places (entry.capacity - (length records + 1)) (λ p parts found. omega (arith, free p parts found, short)) in
-        inr (λ p parts found. omega (arith, left p parts found, length-append records (Reserve r ∷ [])))
 
 -- Where a charge doesn't come back, every analyst's stay.
 charges-kept : (entry : Entry) (records : List Record) (analyst number returned : ℕ) (outcome : Outcome) → comes_back entry (Some outcome) ≡ false
@@ -121,17 +136,17 @@ row-known entry records number row h is = by (reservation_of records number) ref
     by None at who = absurd cc
     by (Some asked) at who =
         let whose : asked.analyst ≡ row.analyst = cc who in
-        omega (arith, whose, reserved-all entry (λ (r : Reservation). r.analyst < entry.analysts) (λ xs r may. may.asked_by) records h number asked at)
+        omega (arith, whose, reserved-all entry (λ (r : Reservation). r.analyst < entry.analysts) (λ xs r before may. may.asked_by) records h number asked at)
 
 -- with a number settled that this analyst reserved
 pub share-settled : (entry : Entry) (records : List Record) (number returned : ℕ) (outcome : Outcome) (row : Row) (costs new : Costs) → IsHistory entry records → IsOpen records number
     → IsRowOf records number row → IsShareOf entry records row.analyst costs
     → ((charges rest : List Charge) → AreTotalsOf costs charges → comes_back entry (Some outcome) ≡ true → IsRest charges row.view row.charge rest → AreTotalsOf new rest)
     → ((charges : List Charge) → AreTotalsOf costs charges → comes_back entry (Some outcome) ≡ false → AreTotalsOf new charges)
-    → ((n : ℕ) → HasPlaces costs n → HasPlaces new n) → ((n : ℕ) → HasRoomBelow costs n → HasRoomBelow new n)
+    → ((most more : ℕ) → HasPlaces costs most more → HasPlaces new most more)
     → IsShareOf entry (records ++ settling_back number outcome returned ∷ []) row.analyst new
-share-settled entry records number returned outcome row costs new h open_before is share given kept places below =
-    record { totals = by (comes_back entry (Some outcome)) refl; room = roomy share.room }
+share-settled entry records number returned outcome row costs new h open_before is share given kept places =
+    record { totals = by (comes_back entry (Some outcome)) refl; room = room-settled entry records (settling_back number outcome returned) costs new places share.room }
   where
     settled : List Record
     settled = records ++ settling_back number outcome returned ∷ []
@@ -142,21 +157,18 @@ share-settled entry records number returned outcome row costs new h open_before 
     by false none = subst (AreTotalsOf new) (sym (charges-kept entry records row.analyst number returned outcome none))
         (kept (charges_by entry records row.analyst) share.totals none)
 
-    roomy : HasShareRoom entry records costs → HasShareRoom entry settled new
-    roomy (inl room) = inl (room.0, below room.0 room.1, room.2)
-    roomy (inr free) =
-        let left : HasPlaces new (entry.capacity - length records) = places (entry.capacity - length records) free in
-        inr (λ p parts found. omega (arith, left p parts found, length-append records (settling_back number outcome returned ∷ [])))
+-- There is room for all parts, or for as many as records may come.
+pub room-new : (entry : Entry) (costs : Costs) (most : ℕ) → most ≤ part_limit → All (λ (keys : ℕ). keys ≤ most) entry.keys → HasPlaces costs (min most part_limit) entry.capacity
+    → HasPartRoom entry [] costs
+room-new entry costs most limited keys places =
+    (most, subst (HasPlaces costs most) (omega arith) (subst (λ (n : ℕ). HasPlaces costs n entry.capacity) (omega (arith, limited)) places), keys)
 
 -- an analyst's of no records
-pub share-new : (entry : Entry) (costs : Costs) (room most : ℕ) → room ≡ min entry.capacity most → most ≤ part_limit → All (λ (keys : ℕ). keys ≤ most) entry.keys
-    → AreTotalsOf costs [] → HasPlaces costs (min room part_limit) → HasRoomBelow costs (min room part_limit) → IsShareOf entry [] 0 costs
-share-new entry costs room most is limited keys totals places below = record {
+pub share-new : (entry : Entry) (costs : Costs) (most : ℕ) → most ≤ part_limit → All (λ (keys : ℕ). keys ≤ most) entry.keys
+    → AreTotalsOf costs [] → HasPlaces costs (min most part_limit) entry.capacity → IsShareOf entry [] 0 costs
+share-new entry costs most limited keys totals places = record {
   totals = totals;
-  room = ⊎_elim
-      (λ small. inr (subst (HasPlaces costs) (omega (arith, is, small, limited)) places))
-      (λ large. inl (most, subst (HasRoomBelow costs) (omega (arith, is, large, limited)) below, keys))
-      (cases_lt entry.capacity most);
+  room = room-new entry costs most limited keys places;
 }
 
 -- ---- all analysts'
@@ -215,6 +227,12 @@ pub shares-Grant : (entry : Entry) (records : List Record) (shares : List Costs)
 shares-Grant entry records shares grant all = record {
   count = all.count;
   each = λ k costs at. share-later entry records (Grant grant) k costs (charges-granted entry records k grant) (all.each k costs at);
+}
+
+pub shares-Define : (entry : Entry) (records : List Record) (shares : List Costs) (made : MadePartition) → HasShares entry records shares → HasShares entry (records ++ Define made ∷ []) shares
+shares-Define entry records shares made all = record {
+  count = all.count;
+  each = λ k costs at. share-later entry records (Define made) k costs (charges-defined entry records k made) (all.each k costs at);
 }
 
 -- one more that has P

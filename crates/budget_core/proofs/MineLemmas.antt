@@ -15,7 +15,8 @@ use Rattle.journal_records.specs.declared.records.Reservation.{Reservation}
 use Rattle.journal_records.specs.declared.records.Settlement.{Settlement}
 use Rattle.journal_records.specs.declared.records.BudgetGrant.{BudgetGrant}
 use Rattle.journal_records.specs.declared.records.Record.{Record}
-use Rattle.journal_records.specs.declared.records.Record.TheVariants.{Reserve, Settle, Grant}
+use Rattle.journal_records.specs.declared.records.MadePartition.{MadePartition}
+use Rattle.journal_records.specs.declared.records.Record.TheVariants.{Reserve, Settle, Grant, Define}
 use Rattle.journal_records.specs.Records.{is_some_and}
 use Rattle.budget_core.specs.declared.entry.Ask.{Ask}
 use Rattle.budget_core.specs.Cost.{charge_by, comes_back, counts_in, charges_in, cost_of}
@@ -26,7 +27,7 @@ use Rattle.budget_core.specs.Legal.{MayFollow, IsHistory}
 use Rattle.budget_core.specs.Mine.{is_by, has_asked, is_asked_by, asked_by, charges_by, spent_by, spent_after}
 use Rattle.budget_core.proofs.Costs.{nothing-back, counts-unsettled, sum-filtered, cost_of-charges}
 use Rattle.budget_core.proofs.Histories.{history-induction}
-use Rattle.budget_core.proofs.Numbers.{sum_by-le, reservations-with, reservations-settled, reservations-granted, reservation_of-append-old, reservation_of-next, outcome_of-append-Reserve, outcome_of-append-Settle, outcome_of-append-Grant, outcome_past}
+use Rattle.budget_core.proofs.Numbers.{sum_by-le, reservations-with, reservations-settled, reservations-granted, reservations-defined, reservation_of-append-old, reservation_of-next, outcome_of-append-Reserve, outcome_of-append-Settle, outcome_of-append-Grant, outcome_of-append-Define, outcome_past}
 
 pub spent_by-charges : (entry : Entry) (records : List Record) (analyst : ℕ) → spent_by entry records analyst ≡ cost_of_charges (charges_by entry records analyst)
 unfolding spent_by
@@ -92,6 +93,9 @@ each-reserved entry = history-induction entry (λ records. Each (λ (r : Reserva
     step xs (Grant grant) h may before =
         subst (Each (λ (r : Reservation). reservation_of (xs ++ Grant grant ∷ []) r.number ≡ Some r)) (sym (reservations-granted xs grant))
         (on xs (Grant grant) before)
+    step xs (Define made) h may before =
+        subst (Each (λ (r : Reservation). reservation_of (xs ++ Define made ∷ []) r.number ≡ Some r)) (sym (reservations-defined xs made))
+        (on xs (Define made) before)
 
 -- ---- an analyst's own records
 
@@ -114,6 +118,7 @@ module _ (records : List Record) (analyst : ℕ) where
       by true rest = rest
       by false rest = rest
   own-reservations (Grant g ∷ xs) = own-reservations xs
+  own-reservations (Define made ∷ xs) = own-reservations xs
 
   own-outcomes : (n : ℕ) → has_asked records analyst n ≡ true → (xs : List Record) → outcome_of (filter test xs) n ≡ outcome_of xs n
   own-outcomes n asked [] = refl
@@ -136,6 +141,7 @@ module _ (records : List Record) (analyst : ℕ) where
       by true is rest = ap (cond (n == s.number) (Some s.outcome)) rest
       by false is rest = rest ∙ sym (ap (λ (b : Bool). cond b (Some s.outcome) (outcome_of xs n)) (other (n == s.number) refl is))
   own-outcomes n asked (Grant g ∷ xs) = own-outcomes n asked xs
+  own-outcomes n asked (Define made ∷ xs) = own-outcomes n asked xs
 
 -- The analyst's own records charge what its reservations do.
 pub own-charges : (entry : Entry) (records : List Record) (analyst : ℕ) → IsHistory entry records
@@ -215,6 +221,10 @@ pub charges-granted : (entry : Entry) (records : List Record) (analyst : ℕ) (g
 charges-granted entry records analyst grant =
     λ i. map charge_by (filter (λ (other : Reservation). not (comes_back entry (outcome_of-append-Grant records grant other.number i))) (filter (is_by analyst) (reservations-granted records grant i)))
 
+pub charges-defined : (entry : Entry) (records : List Record) (analyst : ℕ) (made : MadePartition) → charges_by entry (records ++ Define made ∷ []) analyst ≡ charges_by entry records analyst
+charges-defined entry records analyst made =
+    λ i. map charge_by (filter (λ (other : Reservation). not (comes_back entry (outcome_of-append-Define records made other.number i))) (filter (is_by analyst) (reservations-defined records made i)))
+
 pub charges-reserved : (entry : Entry) (records : List Record) (analyst : ℕ) (reservation : Reservation)
     → charges_by entry (records ++ Reserve reservation ∷ []) analyst
     ≡ charges_by entry records analyst ++ map charge_by (filter (counts_in entry records) (filter (is_by analyst) (reservation ∷ [])))
@@ -286,6 +296,8 @@ stays_within_limits entry records analyst limit h limited =
     step xs (Settle s) g may before = omega (arith, spent-settled entry xs analyst s, before)
     step xs (Grant gr) g may before =
         omega (arith, spent_by-charges entry (xs ++ Grant gr ∷ []) analyst, spent_by-charges entry xs analyst, ap cost_of_charges (charges-granted entry xs analyst gr), before)
+    step xs (Define made) g may before =
+        omega (arith, spent_by-charges entry (xs ++ Define made ∷ []) analyst, spent_by-charges entry xs analyst, ap cost_of_charges (charges-defined entry xs analyst made), before)
 
 -- ---- with a reservation more
 

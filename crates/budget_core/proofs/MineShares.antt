@@ -11,7 +11,7 @@ use Rattle.partition_charge.specs.Cost.{Charge, charged_to, charges_of, total_be
 use Rattle.partition_charge.proofs.Charges.{cost-nil, dearest-at, dearest-le}
 use Rattle.journal_records.specs.declared.records.Reservation.{Reservation}
 use Rattle.journal_records.specs.declared.records.Record.{Record}
-use Rattle.journal_records.specs.declared.records.Record.TheVariants.{Reserve, Settle, Grant}
+use Rattle.journal_records.specs.declared.records.Record.TheVariants.{Reserve, Settle, Grant, Define}
 use Rattle.budget_core.specs.declared.entry.Ask.{Ask}
 use Rattle.budget_core.specs.Cost.{charge_by, counts_in, charges_in, cost_of, budget_of}
 use Rattle.budget_core.specs.Counts.{reservations_of}
@@ -22,7 +22,7 @@ use Rattle.budget_core.specs.Mine.{is_by, charges_by, spent_by}
 use Rattle.budget_core.proofs.Costs.{sum-filtered, cost_of-charges}
 use Rattle.budget_core.proofs.Histories.{history-induction}
 use Rattle.budget_core.proofs.MineLemmas.{Each, each-push, spent_by-charges, spent-others, stays_within_limits, view-by}
-use Rattle.budget_core.proofs.Numbers.{reservations-with, reservations-settled, reservations-granted}
+use Rattle.budget_core.proofs.Numbers.{reservations-with, reservations-settled, reservations-granted, reservations-defined}
 
 -- ---- sums of sums
 
@@ -110,6 +110,7 @@ each-known entry = history-induction entry (λ records. Each (λ (r : Reservatio
         (each-push (λ (r : Reservation). r.analyst < entry.analysts) (reservations_of xs) r before may.asked_by)
     step xs (Settle s) h may before = subst (Each (λ (r : Reservation). r.analyst < entry.analysts)) (sym (reservations-settled xs s)) before
     step xs (Grant g) h may before = subst (Each (λ (r : Reservation). r.analyst < entry.analysts)) (sym (reservations-granted xs g)) before
+    step xs (Define made) h may before = subst (Each (λ (r : Reservation). r.analyst < entry.analysts)) (sym (reservations-defined xs made)) before
 
 cost-covered : (entry : Entry) (records : List Record) → Each (λ (r : Reservation). r.analyst < entry.analysts) (reservations_of records)
     → cost_of entry records ≤ total_below entry.analysts (λ a. cost_of_charges (charges_by entry records a))

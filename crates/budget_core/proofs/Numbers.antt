@@ -13,7 +13,8 @@ use Rattle.journal_records.specs.declared.records.Reservation.{Reservation}
 use Rattle.journal_records.specs.declared.records.Settlement.{Settlement}
 use Rattle.journal_records.specs.declared.records.BudgetGrant.{BudgetGrant}
 use Rattle.journal_records.specs.declared.records.Record.{Record}
-use Rattle.journal_records.specs.declared.records.Record.TheVariants.{Reserve, Settle, Grant}
+use Rattle.journal_records.specs.declared.records.MadePartition.{MadePartition}
+use Rattle.journal_records.specs.declared.records.Record.TheVariants.{Reserve, Settle, Grant, Define}
 use Rattle.journal_records.specs.Records.{reservation_in, settlement_in, grant_in, settling_back, is_some_and}
 use Rattle.budget_core.specs.Counts.{reservations_of, reservation_number, is_numbered, reservation_of, outcome_by, outcome_of, grants_of, settles, is_open_in, open_from}
 use Rattle.budget_core.specs.Entries.{Entry}
@@ -52,8 +53,14 @@ reservations-settled records settlement = filter_map-append reservation_in recor
 pub reservations-granted : (records : List Record) (grant : BudgetGrant) → reservations_of (records ++ Grant grant ∷ []) ≡ reservations_of records
 reservations-granted records grant = filter_map-append reservation_in records (Grant grant ∷ []) ∙ append-nil (reservations_of records)
 
+pub reservations-defined : (records : List Record) (made : MadePartition) → reservations_of (records ++ Define made ∷ []) ≡ reservations_of records
+reservations-defined records made = filter_map-append reservation_in records (Define made ∷ []) ∙ append-nil (reservations_of records)
+
 pub reservations_of-append-Grant : (records : List Record) (grant : BudgetGrant) → length (reservations_of (records ++ Grant grant ∷ [])) ≡ length (reservations_of records)
 reservations_of-append-Grant records grant = ap length (reservations-granted records grant)
+
+pub reservations_of-append-Define : (records : List Record) (made : MadePartition) → length (reservations_of (records ++ Define made ∷ [])) ≡ length (reservations_of records)
+reservations_of-append-Define records made = ap length (reservations-defined records made)
 
 -- how many grants there are with one record more
 pub grants-append : (records : List Record) (next : Record) → length (grants_of (records ++ next ∷ [])) ≡ length (grants_of records) + length (grants_of (next ∷ []))
@@ -74,6 +81,9 @@ outcome_of-append-Reserve records reservation n = unsettling records (Reserve re
 pub outcome_of-append-Grant : (records : List Record) (grant : BudgetGrant) (n : ℕ) → outcome_of (records ++ Grant grant ∷ []) n ≡ outcome_of records n
 outcome_of-append-Grant records grant n = unsettling records (Grant grant) n refl
 
+pub outcome_of-append-Define : (records : List Record) (made : MadePartition) (n : ℕ) → outcome_of (records ++ Define made ∷ []) n ≡ outcome_of records n
+outcome_of-append-Define records made n = unsettling records (Define made) n refl
+
 option_or-cond : {X : Type 0} → (b : Bool) (x y z : Option X) (v : X) → option_or (cond b (Some v) y) z ≡ cond b (Some v) (option_or y z)
 option_or-cond true x y z v = refl
 option_or-cond false x y z v = refl
@@ -83,6 +93,7 @@ pub outcome_of-append-Settle : (records : List Record) (number : ℕ) (outcome :
 outcome_of-append-Settle [] number outcome returned n = refl
 outcome_of-append-Settle (Reserve reservation ∷ records) number outcome returned n = outcome_of-append-Settle records number outcome returned n
 outcome_of-append-Settle (Grant grant ∷ records) number outcome returned n = outcome_of-append-Settle records number outcome returned n
+outcome_of-append-Settle (Define made ∷ records) number outcome returned n = outcome_of-append-Settle records number outcome returned n
 outcome_of-append-Settle (Settle settlement ∷ records) number outcome returned n =
     ap (cond (n == settlement.number) (Some settlement.outcome)) (outcome_of-append-Settle records number outcome returned n) ∙ sym (option_or-cond (n == settlement.number) None (outcome_of records n) (cond (n == number) (Some outcome) None) settlement.outcome)
 
@@ -119,6 +130,9 @@ reserved_below entry = history-induction entry (λ records. (n : ℕ) → is_som
     step xs (Grant grant) h may before n =
         ap is_some (reservation_of-append xs (Grant grant ∷ []) n) ∙ ap is_some (option_or-None (reservation_of xs n)) ∙ before n
         ∙ ap (nat_lt n) (sym (reservations_of-append-Grant xs grant))
+    step xs (Define made) h may before n =
+        ap is_some (reservation_of-append xs (Define made ∷ []) n) ∙ ap is_some (option_or-None (reservation_of xs n)) ∙ before n
+        ∙ ap (nat_lt n) (sym (reservations_of-append-Define xs made))
 
 none_from : {X : Type 0} → (o : Option X) → is_some o ≡ false → o ≡ None
 none_from None is = refl
@@ -147,6 +161,7 @@ reserved-append records next n is = ap is_some (reservation_of-append records (n
 pub outcome_of-append-old : (records : List Record) (next : Record) (n : ℕ) (old : Outcome) → outcome_of records n ≡ Some old → outcome_of (records ++ next ∷ []) n ≡ Some old
 outcome_of-append-old records (Reserve reservation) n old is = outcome_of-append-Reserve records reservation n ∙ is
 outcome_of-append-old records (Grant grant) n old is = outcome_of-append-Grant records grant n ∙ is
+outcome_of-append-old records (Define made) n old is = outcome_of-append-Define records made n ∙ is
 outcome_of-append-old records (Settle settlement) n old is = outcome_of-append-Settle records settlement.number settlement.outcome settlement.returned n ∙ ap (λ o. option_or o (cond (n == settlement.number) (Some settlement.outcome) None)) is
 
 -- how a number was settled just now
@@ -164,6 +179,8 @@ outcome_past entry = history-induction entry (λ records. (n : ℕ) → length (
         outcome_of-append-Reserve xs reservation n ∙ before n (omega (arith, reservations_of-append-Reserve xs reservation))
     step xs (Grant grant) h may before n past =
         outcome_of-append-Grant xs grant n ∙ before n (omega (arith, reservations_of-append-Grant xs grant))
+    step xs (Define made) h may before n past =
+        outcome_of-append-Define xs made n ∙ before n (omega (arith, reservations_of-append-Define xs made))
     step xs (Settle settlement) h may before n past =
         let count : ℕ = length (reservations_of xs) in
         let beyond : count ≤ n = omega (arith, reservations_of-append-Settle xs settlement.number settlement.outcome settlement.returned) in
@@ -193,6 +210,9 @@ reserved_once entry = history-induction entry (λ records. (n : ℕ) → count_b
     step xs (Grant grant) h may before n =
         sum_by_push (λ r. one_if (reserves n r)) xs (Grant grant) ∙ add-zero (count_by (reserves n) xs) ∙ before n
         ∙ ap (λ m. one_if (nat_lt n m)) (sym (reservations_of-append-Grant xs grant))
+    step xs (Define made) h may before n =
+        sum_by_push (λ r. one_if (reserves n r)) xs (Define made) ∙ add-zero (count_by (reserves n) xs) ∙ before n
+        ∙ ap (λ m. one_if (nat_lt n m)) (sym (reservations_of-append-Define xs made))
 
 -- A grant opens and closes none.
 pub open_from-append-Grant : (start : ℕ) (records : List Record) (grant : BudgetGrant) → open_from start (records ++ Grant grant ∷ []) ≡ open_from start records
@@ -206,6 +226,20 @@ open_from-append-Grant start records grant =
     same (Reserve other) = ap (λ o. one_if (nat_le start other.number && is_none o)) (outcome_of-append-Grant records grant other.number)
     same (Settle settlement) = refl
     same (Grant other) = refl
+    same (Define made) = refl
+
+pub open_from-append-Define : (start : ℕ) (records : List Record) (made : MadePartition) → open_from start (records ++ Define made ∷ []) ≡ open_from start records
+open_from-append-Define start records made =
+    let next : Record = Define made in
+    let all : List Record = records ++ next ∷ [] in
+    sum_by_push (λ r. one_if (is_open_in all start r)) records next ∙ add-zero (count_by (is_open_in all start) records)
+    ∙ sum_by-same (λ r. one_if (is_open_in all start r)) (λ r. one_if (is_open_in records start r)) same records
+  where
+    same : (r : Record) → one_if (is_open_in (records ++ Define made ∷ []) start r) ≡ one_if (is_open_in records start r)
+    same (Reserve other) = ap (λ o. one_if (nat_le start other.number && is_none o)) (outcome_of-append-Define records made other.number)
+    same (Settle settlement) = refl
+    same (Grant other) = refl
+    same (Define made) = refl
 
 -- One reservation more is open where it is of this run and not settled.
 pub open_from-append-Reserve : (start : ℕ) (records : List Record) (reservation : Reservation) → start ≤ reservation.number → outcome_of records reservation.number ≡ None
@@ -222,6 +256,7 @@ open_from-append-Reserve start records reservation ours fresh =
     same (Reserve other) = ap (λ o. one_if (nat_le start other.number && is_none o)) (outcome_of-append-Reserve records reservation other.number)
     same (Settle settlement) = refl
     same (Grant grant) = refl
+    same (Define made) = refl
 
 -- A reservation numbered below start isn't counted.
 pub open_from-early : (start : ℕ) (records : List Record) (reservation : Reservation) → reservation.number < start
@@ -238,6 +273,7 @@ open_from-early start records reservation early =
     same (Reserve other) = ap (λ o. one_if (nat_le start other.number && is_none o)) (outcome_of-append-Reserve records reservation other.number)
     same (Settle settlement) = refl
     same (Grant grant) = refl
+    same (Define made) = refl
 
 pub sum_by-le : {X : Type 0} → (f g : X → ℕ) → ((x : X) → f x ≤ g x) → (xs : List X) → sum_by f xs ≤ sum_by g xs
 sum_by-le f g below [] = omega arith
@@ -266,6 +302,7 @@ open_from-le-Settle start records number outcome returned =
         (still (nat_le start reservation.number) (outcome_of records reservation.number) (cond (reservation.number == number) (Some outcome) None))
     fewer (Settle settlement) = omega arith
     fewer (Grant grant) = omega arith
+    fewer (Define made) = omega arith
 
 pub eqb_turned : (n m : ℕ) → (n == m) ≡ (m == n)
 eqb_turned n m = grind (arith, nat_tests)
@@ -297,6 +334,7 @@ open_from-append-Settle start records number outcome returned ours fresh =
         ∙ closes (nat_le start m) (number == m) (outcome_of records m) outcome (λ hit. le-leb start m (omega (arith, eqb-true number m hit))) (λ hit. ap (outcome_of records) (sym (eqb-true number m hit)) ∙ fresh)
     parts (Settle settlement) = refl
     parts (Grant grant) = refl
+    parts (Define made) = refl
 
 -- In a history a settlement closes just one reservation.
 pub open_from-Settle : (entry : Entry) (start : ℕ) (records : List Record) (number : ℕ) (outcome : Outcome) (returned : ℕ) → IsHistory entry records → start ≤ number
@@ -307,7 +345,7 @@ open_from-Settle entry start records number outcome returned h ours reserved fre
     let once : count_by (reserves number) records ≡ 1 = reserved_once entry records h number ∙ ap one_if (lt-ltb number count below) in
     ap (λ k. open_from start (records ++ settling_back number outcome returned ∷ []) + k) (sym once) ∙ open_from-append-Settle start records number outcome returned ours fresh
 
-range-push : (a n : ℕ) → range_with_len a (n + 1) ≡ range_with_len a n ++ (a + n) ∷ []
+pub range-push : (a n : ℕ) → range_with_len a (n + 1) ≡ range_with_len a n ++ (a + n) ∷ []
 range-push a zero = ap (λ x. x ∷ []) (sym (add-zero a))
 range-push a (suc n) =
     let more : suc n + 1 ≡ suc (n + 1) = omega arith in
@@ -331,6 +369,8 @@ numbered_in_order entry = history-induction entry (λ records. map reservation_n
         ap (map reservation_number) (filter_map-append reservation_in xs (next ∷ []) ∙ append-nil (reservations_of xs)) ∙ before ∙ ap (range_with_len 0) (sym (reservations_of-append-Settle xs settlement.number settlement.outcome settlement.returned))
     step xs (Grant grant) h may before =
         ap (map reservation_number) (reservations-granted xs grant) ∙ before ∙ ap (range_with_len 0) (sym (reservations_of-append-Grant xs grant))
+    step xs (Define made) h may before =
+        ap (map reservation_number) (reservations-defined xs made) ∙ before ∙ ap (range_with_len 0) (sym (reservations_of-append-Define xs made))
 
 -- the grants are numbered 0, 1, 2, .. in order
 abbrev AreNumbered : List BudgetGrant → Type 0
@@ -350,6 +390,7 @@ granted_in_order entry = history-induction entry (λ records. map (λ (grant : B
         (map-append (λ (g : BudgetGrant). g.number) (grants_of xs) (grant ∷ [])
         ∙ ap (λ all. all ++ grant.number ∷ []) before ∙ ap (λ m. range_with_len 0 count ++ m ∷ []) (may.numbered ∙ sym (zero-add count))
         ∙ sym (range-push 0 count) ∙ ap (range_with_len 0) (sym (length-append (grants_of xs) (grant ∷ []))))
+    step xs (Define made) h may before = subst AreNumbered (sym (filter_map-append grant_in xs (Define made ∷ []) ∙ append-nil (grants_of xs))) before
 
 settles_more : {X : Type 0} → (old : Option X) (hit : Bool) (v : X) → (hit ≡ true → old ≡ None) → one_if (is_some old) + one_if hit ≡ one_if (is_some (option_or old (cond hit (Some v) None)))
 settles_more None true v fresh = refl
@@ -369,6 +410,9 @@ settled_once entry = history-induction entry (λ records. (n : ℕ) → count_by
     step xs (Grant grant) h may before n =
         sum_by_push (λ r. one_if (settles n r)) xs (Grant grant) ∙ add-zero (count_by (settles n) xs) ∙ before n
         ∙ ap (λ o. one_if (is_some o)) (sym (outcome_of-append-Grant xs grant n))
+    step xs (Define made) h may before n =
+        sum_by_push (λ r. one_if (settles n r)) xs (Define made) ∙ add-zero (count_by (settles n) xs) ∙ before n
+        ∙ ap (λ o. one_if (is_some o)) (sym (outcome_of-append-Define xs made n))
     step xs (Settle settlement) h may before n =
         sum_by_push (λ r. one_if (settles n r)) xs (Settle settlement) ∙ ap (λ k. k + one_if (n == settlement.number)) (before n)
         ∙ settles_more (outcome_of xs n) (n == settlement.number) settlement.outcome (λ hit. ap (outcome_of xs) (eqb-true n settlement.number hit) ∙ may.unsettled)

@@ -6,18 +6,20 @@ use Rattle.journal_records.specs.declared.records.Reservation.{Reservation}
 use Rattle.journal_records.specs.declared.records.Settlement.{Settlement}
 use Rattle.journal_records.specs.declared.records.BudgetGrant.{BudgetGrant}
 use Rattle.journal_records.specs.declared.records.Record.{Record}
-use Rattle.journal_records.specs.declared.records.Record.TheVariants.{Reserve, Settle, Grant}
+use Rattle.journal_records.specs.declared.records.MadePartition.{MadePartition}
+use Rattle.journal_records.specs.declared.records.Record.TheVariants.{Reserve, Settle, Grant, Define}
 use Rattle.budget_core.specs.declared.ledger.Ledger.TheInside.{Inside}
 use Rattle.budget_core.specs.Counts.{reservations_of, open_from}
+use Rattle.budget_core.specs.Defining.{MayDefine}
 use Rattle.budget_core.specs.Granting.{MayGrant}
 use Rattle.budget_core.specs.Ledger.{Ledger, start_of, next_number, MayReserve, MaySettle, IsUnsettled}
 use Rattle.budget_core.specs.History.{History}
 use Rattle.budget_core.specs.Run.{ledger_in, HoldsRun}
 use Rattle.budget_core.specs.Sound.{IsSound}
 use Rattle.budget_core.proofs.LegalLemmas.{open-reserved, unsettled-Reserve, reservations_within}
-use Rattle.budget_core.proofs.Numbers.{open_from-append-Grant}
+use Rattle.budget_core.proofs.Numbers.{open_from-append-Grant, open_from-append-Define}
 use Rattle.budget_core.proofs.Standings.{open-past}
-use Rattle.budget_core.proofs.SoundLemmas.{sound-history, sound-reserved, sound-Settle, sound-Grant, open-settled, sound-found}
+use Rattle.budget_core.proofs.SoundLemmas.{sound-history, sound-reserved, sound-Settle, sound-Grant, sound-Define, open-settled, sound-found}
 
 -- how many are open
 pub run-open : (l : Inside) → HoldsRun l → l.unsettled ≡ open_from (start_of (ledger_in l)) l.history.records
@@ -63,6 +65,14 @@ run-Grant l history grant k may grew =
     let sound = sound-Grant (ledger_in l) grant k.sound may in
     let count = open_from-append-Grant (start_of (ledger_in l)) l.history.records grant in
     let kept = run-append l (Grant grant) l.unsettled k sound (run-open l k ∙ sym count) in
+    subst (λ (h : History). HoldsRun (record l { history = h })) (sym grew) kept
+
+pub run-Define : (l : Inside) (history : History) (made : MadePartition) → HoldsRun l → MayDefine (ledger_in l) made → Grew l.history history (Define made)
+    → HoldsRun (record l { history = history })
+run-Define l history made k may grew =
+    let sound = sound-Define (ledger_in l) made k.sound may in
+    let count = open_from-append-Define (start_of (ledger_in l)) l.history.records made in
+    let kept = run-append l (Define made) l.unsettled k sound (run-open l k ∙ sym count) in
     subst (λ (h : History). HoldsRun (record l { history = h })) (sym grew) kept
 
 -- a ledger all of whose records were found

@@ -11,7 +11,8 @@ use Rattle.journal_records.specs.declared.records.Reservation.{Reservation}
 use Rattle.journal_records.specs.declared.records.Settlement.{Settlement}
 use Rattle.journal_records.specs.declared.records.BudgetGrant.{BudgetGrant}
 use Rattle.journal_records.specs.declared.records.Record.{Record}
-use Rattle.journal_records.specs.declared.records.Record.TheVariants.{Reserve, Settle, Grant as Granted}
+use Rattle.journal_records.specs.declared.records.MadePartition.{MadePartition}
+use Rattle.journal_records.specs.declared.records.Record.TheVariants.{Reserve, Settle, Grant as Granted, Define}
 use Rattle.journal_records.specs.Records.{settling_back, is_some_and}
 use Rattle.budget_core.specs.declared.entry.Ask.{Ask}
 use Rattle.budget_core.specs.declared.entry.Grant.{Grant}
@@ -24,15 +25,16 @@ use Rattle.budget_core.specs.Legal.{IsHistory, IsLegal}
 use Rattle.budget_core.specs.declared.answers.GrantRefusal.TheVariants.{TooLarge, Full as IsFull}
 use Rattle.budget_core.specs.declared.answers.Left.{Left}
 use Rattle.budget_core.specs.Answers.{left_by}
+use Rattle.budget_core.specs.Defining.{MayDefine}
 use Rattle.budget_core.specs.Granting.{grant_behind, with_grant, grant_verdict, IsAmount, MayGrant}
 use Rattle.budget_core.specs.Ledger.{Ledger, start_of, next_number, reservation_numbered, reservation_for, cost_with, spent_with, is_over_share, over_share, grant_for, money_verdict, IsAskOf, MayReserve, MaySettle, IsUnsettled}
 use Rattle.budget_core.specs.Mine.{spent_by, spent_after}
 use Rattle.budget_core.specs.Sound.{IsSound}
-use Rattle.budget_core.proofs.Costs.{cost_of-append-Reserve, cost_of-append-Grant, budget_of-append, counts-unsettled}
+use Rattle.budget_core.proofs.Costs.{cost_of-append-Reserve, cost_of-append-Grant, cost_of-append-Define, budget_of-append, counts-unsettled}
 use Rattle.budget_core.proofs.Histories.{legal-history}
 use Rattle.budget_core.proofs.MineLemmas.{spent-mine, stays_within_limits}
-use Rattle.budget_core.proofs.Numbers.{open_from-Settle, open_from-append-Grant, outcome_past}
-use Rattle.budget_core.proofs.LegalLemmas.{may-grant, may-settle, open-reserved, legal-reserved, legal-granted, legal-Settle}
+use Rattle.budget_core.proofs.Numbers.{open_from-Settle, open_from-append-Grant, open_from-append-Define, outcome_past}
+use Rattle.budget_core.proofs.LegalLemmas.{may-grant, may-settle, open-reserved, legal-reserved, legal-granted, legal-defined, legal-Settle}
 use Rattle.budget_core.proofs.Standings.{open-past}
 
 pub sound-history : (ledger : Ledger) → IsSound ledger → IsHistory ledger.entry ledger.records
@@ -58,7 +60,7 @@ sound-reserved ledger reservation s may =
     }
 
 -- one granted reservation more
-pub sound-Reserve : (ledger : Ledger) (ask : Ask) (grant : Grant) → IsSound ledger → IsAskOf ledger.entry ask → money_verdict ledger.entry (start_of ledger) ledger.records ask ≡ Ok grant
+pub sound-Reserve : (ledger : Ledger) (ask : Ask) (grant : Grant) → IsSound ledger → IsAskOf ledger.entry ledger.records ask → money_verdict ledger.entry (start_of ledger) ledger.records ask ≡ Ok grant
     → IsSound (record ledger { records = ledger.records ++ reservation_for ledger.records ask grant.taken ∷ [] })
 sound-Reserve ledger ask grant s asked is =
     sound-reserved ledger (reservation_numbered (next_number ledger.records) ask grant.taken) s (may-grant ledger ask grant asked is)
@@ -93,6 +95,17 @@ sound-Grant ledger grant s may = record {
   within = omega (arith, s.within, cost_of-append-Grant ledger.entry ledger.records grant, budget_of-append ledger.entry ledger.records (Granted grant));
   limited = may.follows.within;
   room = omega (arith, may.room, open_from-append-Grant (start_of ledger) ledger.records grant, length-append ledger.records (Granted grant ∷ []));
+}
+
+pub sound-Define : (ledger : Ledger) (made : MadePartition) → IsSound ledger → MayDefine ledger made
+    → IsSound (record ledger { records = ledger.records ++ Define made ∷ [] })
+sound-Define ledger made s may = record {
+  entry = s.entry;
+  found = s.found;
+  legal = legal-defined ledger made s.legal may;
+  within = omega (arith, s.within, cost_of-append-Define ledger.entry ledger.records made, budget_of-append ledger.entry ledger.records (Define made));
+  limited = omega (arith, s.limited, budget_of-append ledger.entry ledger.records (Define made));
+  room = omega (arith, may.room, open_from-append-Define (start_of ledger) ledger.records made, length-append ledger.records (Define made ∷ []));
 }
 
 -- records that were all found

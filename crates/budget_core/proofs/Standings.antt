@@ -10,8 +10,9 @@ use Rattle.journal_records.specs.declared.records.Outcome.{Outcome}
 use Rattle.journal_records.specs.declared.records.Outcome.TheVariants.{Answered, Exhausted, Lost}
 use Rattle.journal_records.specs.declared.records.Reservation.{Reservation}
 use Rattle.journal_records.specs.declared.records.Record.{Record}
+use Rattle.journal_records.specs.declared.records.MadePartition.{MadePartition}
 use Rattle.journal_records.specs.declared.records.BudgetGrant.{BudgetGrant}
-use Rattle.journal_records.specs.declared.records.Record.TheVariants.{Reserve, Settle, Grant}
+use Rattle.journal_records.specs.declared.records.Record.TheVariants.{Reserve, Settle, Grant, Define}
 use Rattle.journal_records.specs.Records.{settling_back}
 use Rattle.budget_core.specs.declared.totals.Row.{Row}
 use Rattle.budget_core.specs.Cost.{charge_of, charge_by}
@@ -21,7 +22,7 @@ use Rattle.budget_core.specs.Answers.{is_answered, is_exhausted}
 use Rattle.budget_core.specs.Entries.{Entry}
 use Rattle.budget_core.specs.Legal.{MayFollow, IsOpen, IsHistory, IsReservationAfter}
 use Rattle.budget_core.proofs.Histories.{push_cases, history-induction}
-use Rattle.budget_core.proofs.Numbers.{reserved_below, reservation_of-append-old, reservation_of-next, one_if, open_from-append-Reserve, open_from-Settle, open_from-early, open_from-le-Settle, reservations_of-append-Reserve, reservations_of-append-Settle, reservations_of-append-Grant, open_from-append-Grant, outcome_of-append-Grant, outcome_of-append-Reserve, outcome_of-append-Settle, outcome_of-append-new, outcome_past, option_or-None}
+use Rattle.budget_core.proofs.Numbers.{reserved_below, reservation_of-append-old, reservation_of-next, one_if, open_from-append-Reserve, open_from-Settle, open_from-early, open_from-le-Settle, reservations_of-append-Reserve, reservations_of-append-Settle, reservations_of-append-Grant, reservations_of-append-Define, open_from-append-Grant, open_from-append-Define, outcome_of-append-Grant, outcome_of-append-Define, outcome_of-append-Reserve, outcome_of-append-Settle, outcome_of-append-new, outcome_past, option_or-None}
 
 -- There are no more reservations than records.
 pub reservations-within : (records : List Record) → length (reservations_of records) ≤ length records
@@ -29,6 +30,7 @@ reservations-within [] = omega arith
 reservations-within (Reserve reservation ∷ records) = omega (arith, reservations-within records)
 reservations-within (Settle settlement ∷ records) = omega (arith, reservations-within records)
 reservations-within (Grant grant ∷ records) = omega (arith, reservations-within records)
+reservations-within (Define made ∷ records) = omega (arith, reservations-within records)
 
 -- A number is reserved exactly where someone reserved it.
 pub reserved-asker : (records : List Record) (n : ℕ) → is_some (asker_of records n) ≡ is_some (reservation_of records n)
@@ -120,6 +122,18 @@ rows-Grant records rows grant has = record {
       };
 }
 
+pub rows-Define : (records : List Record) (rows : List Row) (made : MadePartition) → HasRows rows records → HasRows rows (records ++ Define made ∷ [])
+rows-Define records rows made has = record {
+  count = has.count ∙ sym (reservations_of-append-Define records made);
+  each = λ n row at.
+      let was = has.each n row at in
+      record {
+        analyst = asker-append records (Define made) n row.analyst was.analyst;
+        charge = read-append charge_by records (Define made) n (record { view = row.view; amount = row.charge }) was.charge;
+        outcome = outcome_of-append-Define records made n ∙ was.outcome;
+      };
+}
+
 -- Where nothing stands, the list has ended.
 none-past : {X : Type 0} → (xs : List X) (n : ℕ) → slice_get xs n ≡ None → length xs ≤ n
 none-past [] n none = omega arith
@@ -191,6 +205,14 @@ settled-within entry = history-induction entry (λ records. count_by is_answered
       reservations_of-append-Grant xs grant,
       open_from-append-Grant 0 xs grant,
     )
+    step xs (Define made) h may before = omega (
+      arith,
+      before,
+      sum_by_push (λ r. one_if (is_answered r)) xs (Define made),
+      sum_by_push (λ r. one_if (is_exhausted r)) xs (Define made),
+      reservations_of-append-Define xs made,
+      open_from-append-Define 0 xs made,
+    )
 
 -- Those numbered from the next number on are none.
 pub open-past : (entry : Entry) (records : List Record) → IsHistory entry records → open_from (length (reservations_of records)) records ≡ 0
@@ -205,3 +227,5 @@ open-past entry records h = history-induction entry (λ xs. (start : ℕ) → le
         omega (arith, none, open_from-le-Settle start xs settlement.number settlement.outcome settlement.returned)
     step xs (Grant grant) h may before start past =
         open_from-append-Grant start xs grant ∙ before start (omega (arith, reservations_of-append-Grant xs grant, past))
+    step xs (Define made) h may before start past =
+        open_from-append-Define start xs made ∙ before start (omega (arith, reservations_of-append-Define xs made, past))

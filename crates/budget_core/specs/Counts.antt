@@ -1,13 +1,14 @@
 -- What is counted and found in records.
 use Rattle.std.specs.Prelude.{ℕ, Bool, true, false, ◌==◌, ◌&&◌, nat_le, List, [], ◌∷◌, filter_map, find}
-use Rattle.std.specs.Prelude.{count_by, Option, Some, None, is_none, option_map, if◌then◌else◌}
+use Rattle.std.specs.Prelude.{count_by, Option, Some, None, is_none, option_map, if◌then◌else◌, bytes_eq}
 use Rattle.journal_records.specs.declared.records.Reservation.{Reservation}
 use Rattle.journal_records.specs.declared.records.Settlement.{Settlement}
 use Rattle.journal_records.specs.declared.records.BudgetGrant.{BudgetGrant}
+use Rattle.journal_records.specs.declared.records.MadePartition.{MadePartition}
 use Rattle.journal_records.specs.declared.records.Record.{Record}
 use Rattle.journal_records.specs.declared.records.Outcome.{Outcome}
 use Rattle.journal_records.specs.declared.records.Outcome.TheVariants.{Answered, Exhausted, Lost}
-use Rattle.journal_records.specs.Records.{reservation_in, settlement_in, grant_in, is_some_and, number_or_zero}
+use Rattle.journal_records.specs.Records.{reservation_in, settlement_in, grant_in, define_in, is_some_and, number_or_zero}
 
 -- the reservations, in order
 abbrev pub reservations_of : List Record → List Reservation
@@ -64,6 +65,29 @@ grants_of records = filter_map grant_in records
 -- how much a record adds to the budget
 abbrev pub amount_of : Record → ℕ
 amount_of next = number_or_zero (λ (grant : BudgetGrant). grant.amount) (grant_in next)
+
+-- the made partitions, in order
+abbrev pub definitions_of : List Record → List MadePartition
+definitions_of records = filter_map define_in records
+
+abbrev pub partition_number : MadePartition → ℕ
+partition_number made = made.partition
+
+-- the made partition is of this number
+abbrev pub is_partition : ℕ → MadePartition → Bool
+is_partition n made = n == made.partition
+
+-- the made partition of this number, if there is one
+abbrev pub definition_of : List Record → ℕ → Option MadePartition
+definition_of records n = find (is_partition n) (definitions_of records)
+
+-- the partition was made of this table, with so many keys, by a definition of this digest
+abbrev pub is_made_of : (table keys : ℕ) → (digest : List ℕ) → MadePartition → Bool
+is_made_of table keys digest made = (made.table == table) && (made.keys == keys) && bytes_eq made.digest digest
+
+-- the partition that was made so, if one was
+abbrev pub made_of : List Record → (table keys : ℕ) → (digest : List ℕ) → Option MadePartition
+made_of records table keys digest = find (is_made_of table keys digest) (definitions_of records)
 
 -- the reservation is numbered from start on, and isn't settled in these records
 abbrev pub is_unsettled_in : List Record → ℕ → Reservation → Bool

@@ -1,7 +1,11 @@
 -- What the catalog says of an owner's budget.
-use Rattle.std.specs.Prelude.{ℕ, ◌^◌, ◌≤◌, ◌<◌, List, length, All, slice_get, Option, None, unwrap_or, IsSomeAnd, ⊤}
+use Rattle.std.specs.Prelude.{ℕ, ◌^◌, ◌≤◌, ◌<◌, List, length, All, slice_get, Option, None, option_map, unwrap_or, IsSomeAnd, ⊤}
+use Rattle.std.specs.Option.{option_or}
 use Rattle.partition_charge.specs.Views.{partition_limit, part_limit}
 use Rattle.journal_records.specs.Encoding.{epsilon_limit}
+use Rattle.journal_records.specs.declared.records.MadePartition.{MadePartition}
+use Rattle.journal_records.specs.declared.records.Record.{Record}
+use Rattle.budget_core.specs.Counts.{definition_of}
 use Rattle.partition_charge.specs.declared.view.View.{View}
 use Rattle.partition_charge.specs.declared.view.View.TheVariants.{Whole, Part}
 
@@ -41,10 +45,14 @@ pub record IsEntry (entry : Entry) : Type 0 where
 abbrev pub limit_of : Entry → (analyst : ℕ) → Option ℕ
 limit_of entry analyst = unwrap_or (slice_get entry.limits analyst) None
 
--- the entry has this view: the whole, or a part of one of its partitions
-abbrev pub HasView : Entry → View → Type 0
-HasView entry Whole = ⊤
-HasView entry (Part partition part) = IsSomeAnd (slice_get entry.keys partition) (λ keys. part < keys)
+-- how many keys a partition has: the entry's say, or that of the record that made it
+abbrev pub keys_of : Entry → List Record → (partition : ℕ) → Option ℕ
+keys_of entry records partition = option_or (slice_get entry.keys partition) (option_map (λ (made : MadePartition). made.keys) (definition_of records partition))
+
+-- There is this view: the whole, or a part of a partition that is the entry's, or that these records make. With no records it is the entry's.
+abbrev pub HasView : Entry → List Record → View → Type 0
+HasView entry records Whole = ⊤
+HasView entry records (Part partition part) = IsSomeAnd (keys_of entry records partition) (λ keys. part < keys)
 
 -- epsilon in millionths
 pub record IsEpsilon (e : ℕ) : Type 0 where

@@ -1,18 +1,21 @@
 -- The pure machine: what each event does.
-use Rattle.std.specs.Prelude.{ℕ, ◌-◌, ◌%◌, ◌==◌, ◌&&◌, nat_lt, nat_le, Bool, true, false, not, List, [], ◌∷◌, ◌++◌, length}
-use Rattle.std.specs.Prelude.{slice_get, is_some, is_none, unwrap_or, fold, Option, Some, None, if◌then◌else◌}
+use Rattle.std.specs.Prelude.{ℕ, ◌-◌, ◌^◌, ◌%◌, ◌==◌, ◌&&◌, nat_lt, nat_le, Bool, true, false, not, List, [], ◌∷◌, ◌++◌, length}
+use Rattle.std.specs.Prelude.{is_some, is_none, unwrap_or, fold, Option, Some, None, if◌then◌else◌}
 use Rattle.std.specs.List.{list_any, list_all, range_with_len}
 use Rattle.partition_charge.specs.declared.view.View.{View}
 use Rattle.partition_charge.specs.declared.view.View.TheVariants.{Whole, Part}
-use Rattle.journal_records.specs.Encoding.{epsilon_limit}
+use Rattle.journal_records.specs.Encoding.{epsilon_limit, table_range}
+use Rattle.partition_charge.specs.Views.{made_part_limit}
 use Rattle.journal_records.specs.declared.records.Outcome.{Outcome}
 use Rattle.journal_records.specs.declared.records.Outcome.TheVariants.{Answered, Exhausted, Lost}
 use Rattle.journal_records.specs.declared.records.Record.{Record}
 use Rattle.budget_core.specs.declared.entry.Ask.{Ask}
 use Rattle.budget_core.specs.declared.events.Event.{Event}
-use Rattle.budget_core.specs.declared.events.Event.TheVariants.{Reserve as ToReserve, Settle as ToSettle, Grant as ToGrant, Send, Stop, Open}
+use Rattle.budget_core.specs.declared.events.Event.TheVariants.{Reserve as ToReserve, Settle as ToSettle, Grant as ToGrant, Define as ToDefine, Send, Stop, Open}
 use Rattle.budget_core.specs.Counts.{reservation_of, outcome_of}
-use Rattle.budget_core.specs.Entries.{Entry, budget_limit}
+use Rattle.budget_core.specs.Entries.{Entry, budget_limit, keys_of}
+use Rattle.budget_core.specs.Defining.{definition_verdict, records_defined}
+use Rattle.budget_core.specs.declared.definitions.Definition.{Definition}
 use Rattle.budget_core.specs.Granting.{grant_verdict, records_granted}
 use Rattle.budget_core.specs.Ledger.{next_number, money_verdict, records_after, settlement_for}
 
@@ -29,9 +32,9 @@ first_world = record { records = []; start = 0; running = true; sent = [] }
 
 -- ---- asks of an entry, as a test
 
-abbrev pub has_view : Entry → View → Bool
-has_view entry Whole = true
-has_view entry (Part partition part) = nat_lt part (unwrap_or (slice_get entry.keys partition) 0)
+abbrev pub has_view : Entry → List Record → View → Bool
+has_view entry records Whole = true
+has_view entry records (Part partition part) = nat_lt part (unwrap_or (keys_of entry records partition) 0)
 
 abbrev pub divides_both : (p q d : ℕ) → Bool
 divides_both p q d = (p % d == 0) && (q % d == 0)
@@ -46,9 +49,15 @@ is_epsilon e = nat_le 1 e && nat_le e epsilon_limit
 abbrev pub is_digest : List ℕ → Bool
 is_digest bytes = (length bytes == 32) && list_all (λ byte. nat_lt byte 256) bytes
 
--- the ask is of the entry
-abbrev pub is_ask_of : Entry → Ask → Bool
-is_ask_of entry ask = nat_lt ask.analyst entry.analysts && has_view entry ask.view && is_epsilon ask.e && is_lowest ask.p ask.q && is_digest ask.digest
+-- the ask is of the entry, and its view is one that there is
+abbrev pub is_ask_of : Entry → List Record → Ask → Bool
+is_ask_of entry records ask = nat_lt ask.analyst entry.analysts && has_view entry records ask.view && is_epsilon ask.e && is_lowest ask.p ask.q && is_digest ask.digest
+
+-- the definition is of a table, with some keys, but not too many
+abbrev pub is_definition : Definition → Bool
+is_definition definition =
+    nat_lt definition.table table_range && nat_le 1 definition.keys && nat_le definition.keys made_part_limit && nat_lt definition.analyst (2 ^ 16)
+    && is_digest definition.digest
 
 -- ---- events
 
@@ -71,12 +80,13 @@ is_answer None = false
 -- Reserve: an ask of the entry that is neither over budget nor full, nor above its analyst's limit, adds its reservation.
 -- Settle: a number of this run that is reserved and unsettled is settled, and its record says by how much the cost falls.
 -- Grant: an amount that may be granted at once, and is neither too large nor finds the journal full, adds its grant.
+-- Define: a definition that no earlier one is equal to, where there is room for its record and for one partition more, adds that record.
 -- Send: a number that is settled with an answer is sent, once.
 -- Stop: the machine stops, and the records stay.
 -- Open: the machine runs, and what is reserved from here on is of a new run.
 abbrev pub stepped : Entry → World → Event → World
 stepped entry world (ToReserve ask) =
-    if world.running && is_ask_of entry ask
+    if world.running && is_ask_of entry world.records ask
     then record world { records = records_after world.records ask (money_verdict entry world.start world.records ask) }
     else world
 stepped entry world (ToSettle number outcome) =
@@ -86,6 +96,10 @@ stepped entry world (ToSettle number outcome) =
 stepped entry world (ToGrant amount) =
     if world.running && is_amount amount
     then record world { records = records_granted world.records amount (grant_verdict entry world.start world.records amount) }
+    else world
+stepped entry world (ToDefine definition) =
+    if world.running && is_definition definition
+    then record world { records = records_defined world.records definition (definition_verdict entry world.start world.records definition) }
     else world
 stepped entry world (Send number) =
     if world.running && is_answer (outcome_of world.records number) && not (list_any (λ sent. sent == number) world.sent)

@@ -1,6 +1,6 @@
 -- What a history keeps beside its records.
-use Rattle.std.specs.Prelude.{◌≡◌, ◌⊎◌, ℕ, ◌-◌, ◌<◌, ◌≤◌, List, [], ◌∷◌, ◌++◌, length, All, count_by, slice_get, Some, option_map, vec_capacity}
-use Rattle.partition_charge.specs.Totals.{AreTotalsOf, HasPlaces, HasRoomBelow}
+use Rattle.std.specs.Prelude.{◌≡◌, ℕ, ◌-◌, ◌<◌, ◌≤◌, List, [], ◌∷◌, ◌++◌, length, All, count_by, slice_get, Some, option_map, vec_capacity}
+use Rattle.partition_charge.specs.Totals.{AreTotalsOf, HasPlaces}
 use Rattle.partition_charge.specs.declared.costs.Costs.{Costs}
 use Rattle.journal_records.specs.declared.records.Record.{Record}
 use Rattle.budget_core.specs.declared.totals.Row.{Row}
@@ -8,8 +8,9 @@ use Rattle.budget_core.specs.declared.totals.Totals.{Totals}
 use Rattle.budget_core.specs.declared.history.History.TheInside.{Inside}
 use Rattle.budget_core.specs.Answers.{is_answered, is_exhausted}
 use Rattle.budget_core.specs.Cost.{charge_by, charges_in, cost_of, budget_of}
-use Rattle.budget_core.specs.Counts.{reservations_of, reservation_of, asker_of, outcome_of, grants_of}
+use Rattle.budget_core.specs.Counts.{reservations_of, reservation_of, asker_of, outcome_of, grants_of, definitions_of}
 use Rattle.budget_core.specs.Entries.{Entry, IsEntry, budget_limit}
+use Rattle.budget_core.specs.Defining.{made_limit}
 use Rattle.budget_core.specs.Legal.{MayFollow, IsOpen, IsHistory}
 use Rattle.budget_core.specs.Mine.{charges_by}
 
@@ -24,18 +25,14 @@ pub record HasRows (rows : List Row) (records : List Record) : Type 0 where
   pub count : length rows ≡ length (reservations_of records)
   pub each : (number : ℕ) (row : Row) → slice_get rows number ≡ Some row → IsRowOf records number row
 
--- There is room for a charge of each part of partitions with so many keys.
-abbrev pub HasRoomFor : Costs → (keys : List ℕ) → Type 0
-HasRoomFor costs keys = (n : ℕ) × HasRoomBelow costs n × All (λ count. count ≤ n) keys
-
--- There is room for as many parts as records may still come, or as there are keys: one is enough.
-abbrev pub HasShareRoom : Entry → List Record → Costs → Type 0
-HasShareRoom entry records costs = HasRoomFor costs entry.keys ⊎ HasPlaces costs (entry.capacity - length records)
+-- Each partition has room for all its parts, or for as many more as records may still come.
+abbrev pub HasPartRoom : Entry → List Record → Costs → Type 0
+HasPartRoom entry records costs = (most : ℕ) × HasPlaces costs most (entry.capacity - length records) × All (λ keys. keys ≤ most) entry.keys
 
 -- The totals are those of what this analyst was charged.
 pub record IsShareOf (entry : Entry) (records : List Record) (analyst : ℕ) (costs : Costs) : Type 0 where
   pub totals : AreTotalsOf costs (charges_by entry records analyst)
-  pub room : HasShareRoom entry records costs
+  pub room : HasPartRoom entry records costs
 
 -- Each analyst has totals of its own.
 pub record HasShares (entry : Entry) (records : List Record) (shares : List Costs) : Type 0 where
@@ -57,7 +54,9 @@ pub record IsTotalOf (entry : Entry) (records : List Record) (totals : Totals) :
   pub budget : totals.budget ≡ budget_of entry records
   pub fits : length records ≤ entry.capacity
   pub row_room : entry.capacity ≤ vec_capacity totals.rows
-  pub part_room : HasRoomFor totals.costs entry.keys
+  pub part_room : HasPartRoom entry records totals.costs
+  pub made : totals.made.items ≡ definitions_of records
+  pub made_room : made_limit ≤ vec_capacity totals.made
 
 -- what is known of a number that is reserved and isn't settled, by these totals
 abbrev pub IsOpenIn : Entry → Totals → ℕ → Type 0

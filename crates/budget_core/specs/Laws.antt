@@ -6,15 +6,20 @@ use Rattle.journal_records.specs.declared.records.Record.{Record}
 use Rattle.journal_records.specs.declared.records.Reservation.{Reservation}
 use Rattle.journal_records.specs.declared.records.Settlement.{Settlement}
 use Rattle.journal_records.specs.declared.records.BudgetGrant.{BudgetGrant}
-use Rattle.journal_records.specs.declared.records.Record.TheVariants.{Reserve, Settle, Grant as Granted}
+use Rattle.journal_records.specs.declared.records.Record.TheVariants.{Reserve, Settle, Grant as Granted, Define}
+use Rattle.journal_records.specs.declared.records.MadePartition.{MadePartition}
 use Rattle.budget_core.specs.declared.entry.Ask.{Ask}
 use Rattle.budget_core.specs.declared.entry.Grant.{Grant}
 use Rattle.budget_core.specs.Bare.{without_answers}
 use Rattle.budget_core.specs.Cost.{comes_back, cost_of, budget_of}
-use Rattle.budget_core.specs.Counts.{reservations_of, grants_of, settles, reservation_number, taken_of, returned_of, open_from}
-use Rattle.budget_core.specs.Entries.{Entry, IsEntry, budget_limit}
+use Rattle.budget_core.specs.Counts.{reservations_of, grants_of, settles, reservation_number, taken_of, returned_of, open_from, definitions_of, definition_of, partition_number, is_made_of}
+use Rattle.budget_core.specs.Entries.{Entry, IsEntry, HasView, budget_limit}
+use Rattle.budget_core.specs.Defining.{IsDefinition, made_limit}
+use Rattle.budget_core.specs.declared.definitions.Definition.{Definition}
+use Rattle.partition_charge.specs.declared.view.View.{View}
+use Rattle.partition_charge.specs.Views.{partition_limit}
 use Rattle.budget_core.specs.declared.events.Event.{Event}
-use Rattle.budget_core.specs.Events.{is_ask_of, ran}
+use Rattle.budget_core.specs.Events.{is_ask_of, is_definition, ran}
 use Rattle.budget_core.specs.declared.answers.Left.{Left}
 use Rattle.budget_core.specs.Answers.{left_by}
 use Rattle.budget_core.specs.Granting.{grant_verdict, with_grant}
@@ -87,6 +92,27 @@ abbrev pub GrantsTellWhatIsLeft : Type 0
 GrantsTellWhatIsLeft = (entry : Entry) (start : ℕ) (records : List Record) (amount : ℕ) (left : Left)
     → grant_verdict entry start records amount ≡ Ok left → left ≡ left_by entry (with_grant records amount)
 
+-- The made partitions of a history are numbered 8, 9, 10, .. in order, 247 at most.
+abbrev pub PartitionsInOrder : Type 0
+PartitionsInOrder = (entry : Entry) (records : List Record) → IsHistory entry records
+    → (map partition_number (definitions_of records) ≡ range_with_len partition_limit (length (definitions_of records))) × (length (definitions_of records) ≤ made_limit)
+
+-- A history makes a partition of a table, with so many keys and by a definition of this digest, at most once.
+abbrev pub DefinesOnce : Type 0
+DefinesOnce = (entry : Entry) (records : List Record) (table keys : ℕ) (digest : List ℕ) → IsHistory entry records
+    → count_by (is_made_of table keys digest) (definitions_of records) ≤ 1
+
+-- A made partition costs nothing, and leaves the budget as it is.
+abbrev pub MadeForNothing : Type 0
+MadeForNothing = (entry : Entry) (records : List Record) (made : MadePartition)
+    → (cost_of entry (records ++ Define made ∷ []) ≡ cost_of entry records) × (budget_of entry (records ++ Define made ∷ []) ≡ budget_of entry records)
+
+-- A made partition stays as records grow, and so does each view.
+abbrev pub PartitionsStay : Type 0
+PartitionsStay = (entry : Entry) (records more : List Record)
+    → ((partition : ℕ) (made : MadePartition) → definition_of records partition ≡ Some made → definition_of (records ++ more) partition ≡ Some made)
+    × ((view : View) → HasView entry records view → HasView entry (records ++ more) view)
+
 -- There is always room to settle what is open.
 abbrev pub KeepsRoom : Type 0
 KeepsRoom = (entry : Entry) (records : List Record) → IsLegal entry [] records
@@ -97,9 +123,13 @@ abbrev pub IgnoresAnswers : Type 0
 IgnoresAnswers = (entry : Entry) (start : ℕ) (records : List Record) (ask : Ask)
     → money_verdict entry start (without_answers records) ask ≡ money_verdict entry start records ask
 
--- The test of an ask says exactly whether it is of the entry.
+-- The test of an ask says exactly whether it is of the entry, with a view that there is.
 abbrev pub AsksAreTested : Type 0
-AsksAreTested = (entry : Entry) (ask : Ask) → IsTrue (is_ask_of entry ask) ↔ IsAskOf entry ask
+AsksAreTested = (entry : Entry) (records : List Record) (ask : Ask) → IsTrue (is_ask_of entry records ask) ↔ IsAskOf entry records ask
+
+-- The test of a definition says exactly whether it is one.
+abbrev pub DefinitionsAreTested : Type 0
+DefinitionsAreTested = (definition : Definition) → IsTrue (is_definition definition) ↔ IsDefinition definition
 
 -- After every list of events the world is safe.
 abbrev pub EventsAreSafe : Type 0

@@ -94,10 +94,10 @@ settlement_of entry records number outcome = record { number = number; outcome =
 abbrev pub settlement_for : Entry → List Record → ℕ → Outcome → Record
 settlement_for entry records number outcome = Settle (settlement_of entry records number outcome)
 
--- an ask is of the entry
-pub record IsAskOf (entry : Entry) (ask : Ask) : Type 0 where
+-- an ask is of the entry, and its view is one that there is
+pub record IsAskOf (entry : Entry) (records : List Record) (ask : Ask) : Type 0 where
   pub analyst : ask.analyst < entry.analysts
-  pub view : HasView entry ask.view
+  pub view : HasView entry records ask.view
   pub terms : AreChargeTerms ask.e ask.p ask.q
   pub digest : IsByteList 32 ask.digest
 

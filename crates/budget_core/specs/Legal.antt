@@ -4,20 +4,22 @@ use Rattle.journal_records.specs.declared.records.Reservation.{Reservation}
 use Rattle.journal_records.specs.declared.records.Record.{Record}
 use Rattle.journal_records.specs.declared.records.Settlement.{Settlement}
 use Rattle.journal_records.specs.declared.records.BudgetGrant.{BudgetGrant}
+use Rattle.journal_records.specs.declared.records.MadePartition.{MadePartition}
 use Rattle.journal_records.specs.declared.records.Record.TheVariants.{Reserve, Settle, Grant}
-use Rattle.journal_records.specs.Records.{reservation_in, settlement_in, grant_in}
+use Rattle.journal_records.specs.Records.{reservation_in, settlement_in, grant_in, define_in}
 use Rattle.budget_core.specs.Cost.{cost_of, budget_of}
-use Rattle.budget_core.specs.Counts.{reservations_of, reservation_of, outcome_of, grants_of, open_from}
+use Rattle.budget_core.specs.Counts.{reservations_of, reservation_of, outcome_of, grants_of, definitions_of, made_of, open_from}
 use Rattle.budget_core.specs.Entries.{Entry, HasView, budget_limit, limit_of}
 use Rattle.budget_core.specs.Mine.{spent_by}
-use Rattle.journal_records.specs.Encoding.{AreChargeTerms}
+use Rattle.journal_records.specs.Encoding.{AreChargeTerms, AreMadeTerms}
+use Rattle.partition_charge.specs.Views.{partition_limit}
 
--- A reservation is numbered by those before it, names an analyst and a view of the entry, says by how much
+-- A reservation is numbered by those before it, names an analyst of the entry and a view that there is, says by how much
 -- the cost rose, and keeps to the budget and to its analyst's limit, where that one has one.
 pub record IsReservationAfter (entry : Entry) (records : List Record) (reservation : Reservation) : Type 0 where
   pub numbered : reservation.number ≡ length (reservations_of records)
   pub asked_by : reservation.analyst < entry.analysts
-  pub looks_at : HasView entry reservation.view
+  pub looks_at : HasView entry records reservation.view
   pub rise : cost_of entry (records ++ Reserve reservation ∷ []) ≡ cost_of entry records + reservation.taken
   pub within : cost_of entry (records ++ Reserve reservation ∷ []) ≤ budget_of entry (records ++ Reserve reservation ∷ [])
   pub limited : IfSome (limit_of entry reservation.analyst) (λ limit. spent_by entry (records ++ Reserve reservation ∷ []) reservation.analyst ≤ limit)
@@ -39,11 +41,20 @@ pub record IsGrantAfter (entry : Entry) (records : List Record) (grant : BudgetG
   pub some : 1 ≤ grant.amount
   pub within : budget_of entry (records ++ Grant grant ∷ []) ≤ budget_limit
 
+-- A made partition is numbered by those before it, behind a catalog's, and no earlier one was made of its table, with as many keys and
+-- its digest. By its terms it is at most 254.
+pub record IsDefinitionAfter (records : List Record) (made : MadePartition) : Type 0 where
+  pub terms : AreMadeTerms made.partition made.table made.keys
+  pub numbered : made.partition ≡ partition_limit + length (definitions_of records)
+  pub first : made_of records made.table made.keys made.digest ≡ None
+
 -- the record may follow these records
 abbrev pub MayFollow : Entry → List Record → Record → Type 0
 MayFollow entry records next =
     MatchOption (reservation_in next)
-    (MatchOption (settlement_in next) (IfSome (grant_in next) (IsGrantAfter entry records)) (IsSettlementAfter entry records))
+    (MatchOption (settlement_in next)
+    (MatchOption (grant_in next) (IfSome (define_in next) (IsDefinitionAfter records)) (IsGrantAfter entry records))
+    (IsSettlementAfter entry records))
     (IsReservationAfter entry records)
 
 -- each record may follow those before it

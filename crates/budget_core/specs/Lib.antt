@@ -1,6 +1,7 @@
 pub mod Cost
 pub mod Entries
 pub mod Counts
+pub mod Defining
 pub mod Mine
 pub mod Legal
 pub mod Bars

@@ -1,12 +1,10 @@
 //! What the catalog says of an owner's budget, and what is asked of it.
 
-ghost use Rattle.std.specs.Prelude.{◌≡◌, ◌≤◌, ◌↔◌, [], length, All, IsTrue};
+ghost use Rattle.std.specs.Prelude.{◌≡◌, ◌≤◌, [], length, All};
 ghost use Rattle.partition_charge.specs.Views.{part_limit};
-ghost use Rattle.journal_records.specs.Encoding.{newest_version, IsByteList};
-ghost use Rattle.budget_core.specs.Entries.{IsEntry, HasView, limit_of};
-ghost use Rattle.budget_core.specs.Ledger.{IsAskOf};
+ghost use Rattle.journal_records.specs.Encoding.{newest_version};
+ghost use Rattle.budget_core.specs.Entries.{IsEntry, limit_of};
 
-use journal_records::decoding::are_terms;
 use journal_records::records::NEWEST_VERSION;
 use partition_charge::view::View;
 use std::marker::Model;
@@ -89,13 +87,6 @@ pub enum ReserveFault {
 
 /// The greatest budget, and the greatest amount that may be granted at once, in millionths of epsilon.
 pub const BUDGET_LIMIT: u64 = 1_000_000_000_000_000_000;
-
-// Thirty-two bytes are a digest. The look at them tells the proof that each is a byte.
-fn are_bytes(digest: [u8; 32])
-    ensures { IsByteList 32 digest }
-{
-    let _digest = digest;
-}
 
 impl Entry {
     /// An owner's entry, for a new journal. Where the list of limits is empty no analyst has one.
@@ -204,29 +195,5 @@ impl Entry {
             most = most.max(*keys);
         }
         most
-    }
-
-    /// Whether the entry has this view.
-    pub fn has_view(&self, view: View) -> bool
-        ensures { IsTrue result ↔ HasView self.now view }
-    {
-        match view {
-            View::Whole => true,
-            View::Part { partition, part } => match self.keys.get(partition as usize) {
-                Some(keys) => part < *keys,
-                None => false,
-            },
-        }
-    }
-
-    /// Whether an ask is of the entry.
-    pub fn has_ask(&self, ask: &Ask) -> bool
-        ensures { IsTrue result ↔ IsAskOf self.now ask.now }
-    {
-        are_bytes(ask.digest);
-        if ask.analyst >= self.analysts || !self.has_view(ask.view) {
-            return false;
-        }
-        are_terms(ask.e, ask.p, ask.q)
     }
 }

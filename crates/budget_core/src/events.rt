@@ -1,12 +1,13 @@
-//! The machine of reservations, settlements, grants and stops, without a disk.
+//! The machine of reservations, settlements, grants, definitions and stops, without a disk.
 
 ghost use Rattle.std.specs.Prelude.{◌≡◌, IfOk};
-ghost use Rattle.budget_core.specs.declared.events.Event.TheVariants.{Reserve, Settle, Grant, Send};
+ghost use Rattle.budget_core.specs.declared.events.Event.TheVariants.{Reserve, Settle, Grant, Define, Send};
 ghost use Rattle.budget_core.specs.Entries.{IsEntry};
 ghost use Rattle.budget_core.specs.Events.{stepped, ran};
 ghost use Rattle.budget_core.specs.Machine.{world_of};
 ghost use Rattle.budget_core.specs.Safe.{IsSafe};
 
+use crate::definitions::Definition;
 use crate::entry::{Ask, BUDGET_LIMIT, Entry};
 use crate::ledger::Ledger;
 use journal_records::records::{Outcome, Record};
@@ -22,6 +23,8 @@ pub enum Event {
     Settle(u32, Outcome),
     /// The owner grants this amount, in millionths of epsilon.
     Grant(u64),
+    /// An analyst defines a partition.
+    Define(Definition),
     /// The answer of that number is sent.
     Send(u32),
     /// The machine stops.
@@ -62,7 +65,7 @@ impl Machine {
         ensures stepped { world_of self.new ≡ stepped self.old.ledger.entry (world_of self.old) (Reserve ask.now) }
         ensures entry { self.new.ledger.entry ≡ self.old.ledger.entry }
     {
-        if !self.running || !self.ledger.entry().has_ask(ask) {
+        if !self.running || !self.ledger.has_ask(ask) {
             return;
         }
         if let Ok(grant) = self.ledger.verdict(ask) {
@@ -96,6 +99,23 @@ impl Machine {
         }
     }
 
+    // Makes the partition of a definition that no earlier one is equal to, where there is room for it.
+    fn define(&mut self, definition: &Definition)
+        ensures stepped { world_of self.new ≡ stepped self.old.ledger.entry (world_of self.old) (Define definition.now) }
+        ensures entry { self.new.ledger.entry ≡ self.old.ledger.entry }
+    {
+        if !self.running
+            || !definition.is_valid()
+            || self.ledger.made_before(definition).is_some()
+        {
+            return;
+        }
+        if self.ledger.definition_verdict(definition).is_ok() {
+            let made = self.ledger.made_behind(definition);
+            self.ledger.define(&made);
+        }
+    }
+
     // Sends an answer, once.
     fn send(&mut self, number: u32) -> Result<(), AllocError>
         ensures stepped { IfOk result (λ _. world_of self.new ≡ stepped self.old.ledger.entry (world_of self.old) (Send number)) }
@@ -116,6 +136,7 @@ impl Machine {
             Event::Reserve(ask) => self.reserve(ask),
             Event::Settle(number, outcome) => self.settle(*number, *outcome),
             Event::Grant(amount) => self.grant(*amount),
+            Event::Define(definition) => self.define(definition),
             Event::Send(number) => self.send(*number)?,
             Event::Stop => self.running = false,
             Event::Open => {

@@ -1,12 +1,13 @@
 //! The records of one owner, with running totals and a table by number: no call but `new` and `found` goes over the records.
 
-ghost use Rattle.std.specs.Prelude.{◌≡◌, ℕ, ◌<◌, ◌≤◌, ◌∷◌, ◌++◌, [], ◌^◌, length, IfOk, IfErr};
+ghost use Rattle.std.specs.Prelude.{◌≡◌, ℕ, ◌<◌, ◌≤◌, ◌∷◌, ◌++◌, [], ◌^◌, ◌↔◌, length, option_map, IsTrue, IfOk, IfErr};
 ghost use Rattle.std.specs.List.{All};
 ghost use Rattle.partition_charge.specs.Cost.{cost_of_charges};
 ghost use Rattle.journal_records.specs.Encoding.{IsValid};
 ghost use Rattle.budget_core.specs.Answers.{counts_of, IsFoundFault};
 ghost use Rattle.budget_core.specs.Cost.{charges_in, cost_of, budget_of};
-ghost use Rattle.budget_core.specs.Counts.{reservations_of, asker_of, outcome_of, grants_of};
+ghost use Rattle.budget_core.specs.Counts.{reservations_of, asker_of, outcome_of, grants_of, definitions_of, made_of, partition_number};
+ghost use Rattle.budget_core.specs.Defining.{made_limit};
 ghost use Rattle.budget_core.specs.Entries.{IsEntry, HasView, budget_limit};
 ghost use Rattle.budget_core.specs.Ledger.{returned_by};
 ghost use Rattle.budget_core.specs.Mine.{spent_by, spent_after};
@@ -126,6 +127,28 @@ impl History {
         self.totals.budget
     }
 
+    /// How many made partitions there are.
+    pub fn made(&self) -> u32
+        ensures count { result ≡ length (definitions_of self.now.records) }
+        ensures limited { result ≤ made_limit }
+    {
+        self.totals.made.len() as u32
+    }
+
+    /// The number of the partition that was made of this table, with so many keys and this digest.
+    pub fn made_of(&self, table: u8, keys: u16, digest: &[u8; 32]) -> Option<u8>
+        ensures { result ≡ option_map partition_number (made_of self.now.records table keys digest.now) }
+    {
+        self.totals.made_of(table, keys, digest)
+    }
+
+    /// Whether there is this view.
+    pub fn has_view(&self, view: View) -> bool
+        ensures { IsTrue result ↔ HasView self.now.entry self.now.records view }
+    {
+        self.totals.has_view(&self.entry, view)
+    }
+
     /// What the records cost.
     pub fn spent(&self) -> u64
         ensures { result ≡ cost_of self.now.entry self.now.records }
@@ -135,7 +158,7 @@ impl History {
 
     /// What they cost with one charge more.
     pub fn cost_after(&self, view: View, charge: u64) -> u64
-        requires view { HasView self.now.entry view }
+        requires view { HasView self.now.entry self.now.records view }
         requires bounded { charge ≤ 2 ^ 62 }
         ensures cost { result ≡ cost_of_charges (charges_in self.now.entry self.now.records ++ record { view = view; amount = charge } ∷ []) }
         ensures grows { cost_of self.now.entry self.now.records ≤ result }
@@ -153,7 +176,7 @@ impl History {
     /// What an analyst would have spent with one charge more.
     pub fn spent_after(&self, analyst: u16, view: View, charge: u64) -> u64
         requires analyst { analyst < self.now.entry.analysts }
-        requires view { HasView self.now.entry view }
+        requires view { HasView self.now.entry self.now.records view }
         requires bounded { charge ≤ 2 ^ 62 }
         ensures { result ≡ spent_after self.now.entry self.now.records analyst (record { view = view; amount = charge }) }
     {

@@ -4,7 +4,8 @@ ghost use Rattle.budget_core.specs.Laws.{StaysWithinBudget, StaysHistory, Number
 ghost use Rattle.budget_core.specs.Laws.{SettlesOnce, AddsUp, OnlyExhaustedGiveBack, SettlementsNeverRaise};
 ghost use Rattle.budget_core.specs.Laws.{GrantsRaise, GrantsInOrder, BudgetsAreLimited, GrantsTellWhatIsLeft};
 ghost use Rattle.budget_core.specs.MineLaws.{SpentIsCost, SpentIsWithin, SettlementsNeverRaiseSpent, SpentGoesByOwn, StaysWithinLimits, GivesBackToItsAnalyst, SettlesForItsAnalyst, SharesCover, SharesAreKept};
-ghost use Rattle.budget_core.specs.Laws.{KeepsRoom, IgnoresAnswers, AsksAreTested, EventsAreSafe};
+ghost use Rattle.budget_core.specs.Laws.{PartitionsInOrder, DefinesOnce, MadeForNothing, PartitionsStay};
+ghost use Rattle.budget_core.specs.Laws.{KeepsRoom, IgnoresAnswers, AsksAreTested, DefinitionsAreTested, EventsAreSafe};
 
 /// Legal records cost at most the budget, where those found at the start do.
 pub fn stays_within_budget()
@@ -71,6 +72,14 @@ pub fn grants_tell_what_is_left()
     ensures { GrantsTellWhatIsLeft }
 {}
 
+/// Made partitions are numbered 8, 9, 10, .. in order, 247 at most, each from another definition. They cost nothing, and stay as records grow.
+pub fn partitions_are_made_once()
+    ensures order { PartitionsInOrder }
+    ensures once { DefinesOnce }
+    ensures free { MadeForNothing }
+    ensures stay { PartitionsStay }
+{}
+
 /// The records and a settlement for each open reservation fit into the capacity.
 pub fn keeps_room()
     ensures { KeepsRoom }
@@ -84,6 +93,11 @@ pub fn ignores_answers()
 /// The test of an ask says exactly whether it is of the entry.
 pub fn asks_are_tested()
     ensures { AsksAreTested }
+{}
+
+/// The test of a definition says exactly whether it is one.
+pub fn definitions_are_tested()
+    ensures { DefinitionsAreTested }
 {}
 
 /// After every list of events the cost is within the budget and each analyst within its limit, reservations are numbered

@@ -2,11 +2,12 @@
 
 ghost use Rattle.std.specs.Prelude.{◌≡◌, ℕ, ◌<◌, ◌≤◌, ◌∷◌, ◌++◌, [], ◌↔◌, length, if◌then◌else◌, IsTrue, IsOk, IfOk, IfErr, IfSome, Ok, Some, None};
 ghost use Rattle.std.specs.List.{All};
-ghost use Rattle.journal_records.specs.declared.records.Record.TheVariants.{Reserve, Settle, Grant as Granted};
-ghost use Rattle.journal_records.specs.Encoding.{IsReservation, IsSettlement, IsGrant, IsValid};
+ghost use Rattle.journal_records.specs.declared.records.Record.TheVariants.{Reserve, Settle, Grant as Granted, Define};
+ghost use Rattle.journal_records.specs.Encoding.{IsReservation, IsSettlement, IsGrant, IsMadePartition, IsValid};
 ghost use Rattle.budget_core.specs.Answers.{standing, recalled, left_of, mine_of, counts_of, IsFoundFault};
 ghost use Rattle.budget_core.specs.Cost.{cost_of};
 ghost use Rattle.budget_core.specs.Counts.{outcome_of};
+ghost use Rattle.budget_core.specs.Defining.{made_before, made_behind, next_verdict, definition_verdict, IsDefinition, MayDefine};
 ghost use Rattle.budget_core.specs.Entries.{IsEntry, budget_limit};
 ghost use Rattle.budget_core.specs.Events.{is_answer};
 ghost use Rattle.budget_core.specs.Granting.{grant_behind, grant_verdict, IsAmount, MayGrant};
@@ -15,10 +16,15 @@ ghost use Rattle.budget_core.specs.Ledger.{settlement_of, IsAskOf, MayReserve, M
 ghost use Rattle.budget_core.specs.Sound.{IsSound};
 
 use crate::answers::{Counts, FoundFault, GrantRefusal, Left, Mine, Recall};
+use crate::definitions::{DefineFault, Definition, MADE_PARTITIONS, Made, are_bytes};
 use crate::entry::{Ask, BUDGET_LIMIT, Entry, Grant, ReserveFault};
 use crate::history::History;
 use crate::totals::charge_for;
-use journal_records::records::{BudgetGrant, Outcome, Record, Reservation, Settlement};
+use journal_records::decoding::are_terms;
+use journal_records::records::{
+    BudgetGrant, MadePartition, Outcome, Record, Reservation, Settlement,
+};
+use partition_charge::view::CATALOG_PARTITIONS;
 use std::alloc::{AllocError, Global};
 use std::marker::Model;
 
@@ -81,9 +87,20 @@ impl Ledger {
         })
     }
 
+    /// Whether an ask is of the entry, and its view is one that there is.
+    pub fn has_ask(&self, ask: &Ask) -> bool
+        ensures { IsTrue result ↔ IsAskOf self.now.entry self.now.records ask.now }
+    {
+        are_bytes(ask.digest);
+        if ask.analyst >= self.history.entry().analysts() || !self.history.has_view(ask.view) {
+            return false;
+        }
+        are_terms(ask.e, ask.p, ask.q)
+    }
+
     // What is said of an ask that is over its analyst's share.
     fn over_share(&self, ask: &Ask) -> Option<ReserveFault>
-        requires { IsAskOf self.now.entry ask.now }
+        requires { IsAskOf self.now.entry self.now.records ask.now }
         ensures { result ≡ if is_over_share self.now.entry self.now.records ask.now then Some (over_share self.now.entry self.now.records ask.now) else None }
     {
         let limit = self.history.entry().limit(ask.analyst)?;
@@ -102,7 +119,7 @@ impl Ledger {
 
     /// Whether an ask is granted: over budget comes first, then full, then over its analyst's share.
     pub fn verdict(&self, ask: &Ask) -> Result<Grant, ReserveFault>
-        requires { IsAskOf self.now.entry ask.now }
+        requires { IsAskOf self.now.entry self.now.records ask.now }
         ensures verdict { result ≡ money_verdict self.now.entry (start_of self.now) self.now.records ask.now }
         ensures sound { IsSound self.now }
     {
@@ -140,7 +157,7 @@ impl Ledger {
 
     /// The reservation of a granted ask.
     pub fn reservation(&self, ask: &Ask, grant: &Grant) -> Reservation
-        requires asked { IsAskOf self.now.entry ask.now }
+        requires asked { IsAskOf self.now.entry self.now.records ask.now }
         requires granted { money_verdict self.now.entry (start_of self.now) self.now.records ask.now ≡ Ok grant.now }
         ensures reservation { result ≡ reservation_numbered (next_number self.now.records) ask.now grant.now.taken }
         ensures valid { IsReservation result }
@@ -244,6 +261,81 @@ impl Ledger {
         ensures sound { IsSound self.new }
     {
         self.history.add(&Record::Grant(*grant));
+    }
+
+    /// The partition that an equal definition made, whoever's, and how many records there are.
+    pub fn made_before(&self, definition: &Definition) -> Option<Made>
+        ensures { result ≡ made_before self.now.records definition.now }
+    {
+        let partition = self
+            .history
+            .made_of(definition.table, definition.keys, &definition.digest)?;
+        Some(Made {
+            partition,
+            seen: self.history.len(),
+        })
+    }
+
+    // Whether one partition more may be made: full comes first, then too many.
+    fn next_verdict(&self) -> Result<Made, DefineFault>
+        ensures { result ≡ next_verdict self.now.entry (start_of self.now) self.now.records }
+    {
+        let (used, made) = (self.history.len(), self.history.made());
+        let capacity = self.history.entry().capacity();
+        if used + self.unsettled + 1 > capacity {
+            return Err(DefineFault::Full {
+                used,
+                unsettled: self.unsettled,
+                capacity,
+            });
+        }
+        if made as usize >= MADE_PARTITIONS {
+            return Err(DefineFault::TooMany { made });
+        }
+        Ok(Made {
+            partition: (CATALOG_PARTITIONS + made as usize) as u8,
+            seen: used + 1,
+        })
+    }
+
+    /// The partition of a definition: that of an equal one, or else the next, where there is room for it.
+    pub fn definition_verdict(&self, definition: &Definition) -> Result<Made, DefineFault>
+        ensures verdict { result ≡ definition_verdict self.now.entry (start_of self.now) self.now.records definition.now }
+        ensures sound { IsSound self.now }
+    {
+        // The look at a field tells the proof what a ledger keeps.
+        let _start = self.start;
+        match self.made_before(definition) {
+            Some(made) => Ok(made),
+            None => self.next_verdict(),
+        }
+    }
+
+    /// What a definition makes that no earlier one is equal to.
+    pub fn made_behind(&self, definition: &Definition) -> MadePartition
+        requires definition { IsDefinition definition.now }
+        requires first { made_before self.now.records definition.now ≡ None }
+        requires granted { IsOk (definition_verdict self.now.entry (start_of self.now) self.now.records definition.now) }
+        ensures made { result ≡ made_behind self.now.records definition.now }
+        ensures valid { IsMadePartition result }
+        ensures may { MayDefine self.now result }
+    {
+        MadePartition {
+            partition: (CATALOG_PARTITIONS + self.history.made() as usize) as u8,
+            table: definition.table,
+            keys: definition.keys,
+            analyst: definition.analyst,
+            digest: definition.digest,
+        }
+    }
+
+    /// Adds a made partition that may be added.
+    pub fn define(&mut self, made: &MadePartition)
+        requires { MayDefine self.old made.now }
+        ensures after { self.new ≡ record self.old { records = self.old.records ++ Define made.now ∷ [] } }
+        ensures sound { IsSound self.new }
+    {
+        self.history.add(&Record::Define(*made));
     }
 
     /// What an analyst is told of a number.

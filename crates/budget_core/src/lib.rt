@@ -2,6 +2,7 @@
 #![tactic(auto)]
 
 pub mod answers;
+pub mod definitions;
 pub mod entry;
 pub mod events;
 mod history;

@@ -1,27 +1,31 @@
 //! What is known of records without going over them: what they cost, and a row for each number.
 
-ghost use Rattle.std.specs.Prelude.{◌≡◌, ℕ, ◌<◌, ◌≤◌, ◌∷◌, ◌++◌, [], ◌↔◌, ◌^◌, List, length, slice_get, Some, true, false, IsTrue, IfSome, IfOk, IfErr};
+ghost use Rattle.std.specs.Prelude.{◌≡◌, ℕ, ◌<◌, ◌≤◌, ◌∷◌, ◌++◌, [], ◌↔◌, ◌^◌, List, length, slice_get, Some, option_map, true, false, IsTrue, IfSome, IfOk, IfErr};
 ghost use Rattle.std.specs.List.{All};
-ghost use Rattle.journal_records.specs.Encoding.{AreChargeTerms, IsReservation, IsGrant, IsValid};
+ghost use Rattle.journal_records.specs.Encoding.{AreChargeTerms, IsReservation, IsGrant, IsMadePartition, IsValid};
+ghost use Rattle.journal_records.specs.declared.records.MadePartition.{MadePartition as Defined};
 ghost use Rattle.journal_records.specs.declared.records.Record.{Record as Entered};
-ghost use Rattle.journal_records.specs.declared.records.Record.TheVariants.{Reserve, Settle, Grant};
+ghost use Rattle.journal_records.specs.declared.records.Record.TheVariants.{Reserve, Settle, Grant, Define};
 ghost use Rattle.budget_core.specs.declared.totals.Row.{Row as Known};
-ghost use Rattle.budget_core.specs.Counts.{is_exhaustion};
+ghost use Rattle.budget_core.specs.Counts.{is_exhaustion, definition_of, is_made_of, made_of, partition_number};
 ghost use Rattle.budget_core.specs.Events.{is_answer};
 ghost use Rattle.budget_core.specs.Cost.{charge_of, comes_back};
 ghost use Rattle.budget_core.specs.Ledger.{returned_by};
 ghost use Rattle.partition_charge.specs.Cost.{Charge as Charged};
-ghost use Rattle.partition_charge.specs.Totals.{AreTotalsOf, HasCharged, HasPlaces, HasRoomBelow, IsRest};
+ghost use Rattle.partition_charge.specs.Totals.{AreTotalsOf, HasCharged, HasPlaces, IsRest};
 ghost use Rattle.partition_charge.specs.Views.{IsView};
-ghost use Rattle.budget_core.specs.Entries.{Entry as Terms, HasView, limit_of};
+ghost use Rattle.budget_core.specs.Entries.{Entry as Terms, HasView, keys_of, limit_of};
 ghost use Rattle.budget_core.specs.Kept.{HasShares, IsTotalOf, IsTotal, IsOpenIn, MayCount, HasCounted};
 ghost use Rattle.budget_core.specs.Mine.{spent_by, spent_after};
-ghost use Rattle.budget_core.specs.Legal.{MayFollow, HasTerms, IsReservationAfter, IsOpen, IsSettlementAfter, IsGrantAfter, IsFirstAstray};
+ghost use Rattle.budget_core.specs.Legal.{MayFollow, HasTerms, IsReservationAfter, IsOpen, IsSettlementAfter, IsGrantAfter, IsDefinitionAfter, IsFirstAstray};
 
+use crate::definitions::MADE_PARTITIONS;
 use crate::entry::{BUDGET_LIMIT, Entry};
-use journal_records::records::{BudgetGrant, Outcome, Record, Reservation, Settlement};
+use journal_records::records::{
+    BudgetGrant, MadePartition, Outcome, Record, Reservation, Settlement,
+};
 use partition_charge::costs::Costs;
-use partition_charge::view::View;
+use partition_charge::view::{CATALOG_PARTITIONS, View};
 use std::alloc::{AllocError, Global};
 
 // What is known of a number.
@@ -47,6 +51,8 @@ pub(crate) struct Totals {
     pub(crate) grants: u32,
     /// The entry's budget, and all that was granted.
     pub(crate) budget: u64,
+    /// The made partitions, in order.
+    pub(crate) made: Vec<MadePartition>,
 }
 
 /// What a query of sensitivity p/q costs at epsilon e, in millionths: p * e / q, rounded up.
@@ -86,8 +92,7 @@ fn take_back(costs: &mut Costs, entry: &Entry, row: Row, outcome: Outcome)
     ensures given { (charges rest : List Charged) → AreTotalsOf costs.old charges → comes_back entry.now (Some outcome) ≡ true
         → IsRest charges row.view row.charge rest → AreTotalsOf costs.new rest }
     ensures kept { (charges : List Charged) → AreTotalsOf costs.old charges → comes_back entry.now (Some outcome) ≡ false → AreTotalsOf costs.new charges }
-    ensures places { (n : ℕ) → HasPlaces costs.old n → HasPlaces costs.new n }
-    ensures room { (n : ℕ) → HasRoomBelow costs.old n → HasRoomBelow costs.new n }
+    ensures places { (most more : ℕ) → HasPlaces costs.old most more → HasPlaces costs.new most more }
 {
     if comes_back(entry, outcome) {
         costs.give_back(row.view, row.charge);
@@ -103,14 +108,21 @@ fn settle_row(rows: &mut [Row], number: u32, outcome: Outcome)
     rows[number as usize].outcome = Some(outcome);
 }
 
+// Whether the partition was made of this table, with so many keys and this digest.
+fn is_made_of(made: &MadePartition, table: u8, keys: u16, digest: &[u8; 32]) -> bool
+    ensures { result ≡ is_made_of table keys digest.now made.now }
+{
+    made.table == table && made.keys == keys && made.digest == *digest
+}
+
 // The totals of no charges of each analyst, with room for as many parts as there are keys, or as records may come.
 fn new_shares(alloc: Global, entry: &Entry) -> Result<Vec<Costs>, AllocError>
     ensures { IfOk result (λ shares. HasShares entry.now [] shares.items) }
 {
-    let room = entry.capacity().min(u32::from(entry.most_keys()));
+    let most = u32::from(entry.most_keys());
     let mut shares = Vec::with_capacity(alloc, entry.analysts() as usize)?;
     for _analyst in 0..entry.analysts() {
-        shares.push_reserved(Costs::new(alloc, room)?);
+        shares.push_reserved(Costs::new(alloc, most, entry.capacity())?);
     }
     Ok(shares)
 }
@@ -121,8 +133,9 @@ impl Totals {
         ensures { IfOk result (λ totals. IsTotalOf entry.now [] totals) }
     {
         let rows = Vec::with_capacity(alloc, entry.capacity() as usize)?;
-        let costs = Costs::new(alloc, u32::from(entry.most_keys()))?;
+        let costs = Costs::new(alloc, u32::from(entry.most_keys()), entry.capacity())?;
         let shares = new_shares(alloc, entry)?;
+        let made = Vec::with_capacity(alloc, MADE_PARTITIONS)?;
         Ok(Totals {
             costs,
             shares,
@@ -131,7 +144,61 @@ impl Totals {
             exhausted: 0,
             grants: 0,
             budget: entry.budget(),
+            made,
         })
+    }
+
+    // How many keys the made partition of this number has, if there is one.
+    fn made_keys(&self, partition: u8) -> Option<u16>
+        requires { (entry : Terms) × IsTotal entry self.now }
+        ensures { (entry : Terms) (records : List Entered) → IsTotalOf entry records self.now
+            → result ≡ option_map (λ (made : Defined). made.keys) (definition_of records partition) }
+    {
+        if (partition as usize) < CATALOG_PARTITIONS {
+            return None;
+        }
+        match self.made.get(partition as usize - CATALOG_PARTITIONS) {
+            Some(made) => Some(made.keys),
+            None => None,
+        }
+    }
+
+    // How many keys a partition has, if there is one of this number.
+    fn keys_of(&self, entry: &Entry, partition: u8) -> Option<u16>
+        requires { IsTotal entry.now self.now }
+        ensures { (records : List Entered) → IsTotalOf entry.now records self.now → result ≡ keys_of entry.now records partition }
+    {
+        match entry.keys().get(partition as usize) {
+            Some(keys) => Some(*keys),
+            None => self.made_keys(partition),
+        }
+    }
+
+    /// Whether there is this view.
+    pub fn has_view(&self, entry: &Entry, view: View) -> bool
+        requires { IsTotal entry.now self.now }
+        ensures { (records : List Entered) → IsTotalOf entry.now records self.now → (IsTrue result ↔ HasView entry.now records view) }
+    {
+        match view {
+            View::Whole => true,
+            View::Part { partition, part } => match self.keys_of(entry, partition) {
+                Some(keys) => part < keys,
+                None => false,
+            },
+        }
+    }
+
+    /// The number of the partition that was made of this table, with so many keys and this digest.
+    pub fn made_of(&self, table: u8, keys: u16, digest: &[u8; 32]) -> Option<u8>
+        ensures { (entry : Terms) (records : List Entered) → IsTotalOf entry records self.now
+            → result ≡ option_map partition_number (made_of records table keys digest.now) }
+    {
+        for made in &self.made {
+            if is_made_of(made, table, keys, digest) {
+                return Some(made.partition);
+            }
+        }
+        None
     }
 
     /// What an analyst has spent.
@@ -148,7 +215,7 @@ impl Totals {
     pub fn spent_after(&self, entry: &Entry, analyst: u16, view: View, charge: u64) -> u64
         requires total { IsTotal entry.now self.now }
         requires analyst { analyst < entry.now.analysts }
-        requires view { HasView entry.now view }
+        requires view { IsView view }
         requires bounded { charge ≤ 2 ^ 62 }
         ensures { (records : List Entered) → IsTotalOf entry.now records self.now
             → result ≡ spent_after entry.now records analyst (record { view = view; amount = charge }) }
@@ -162,7 +229,7 @@ impl Totals {
     fn keeps_limit(&self, entry: &Entry, analyst: u16, view: View, charge: u64) -> bool
         requires total { IsTotal entry.now self.now }
         requires analyst { analyst < entry.now.analysts }
-        requires view { HasView entry.now view }
+        requires view { IsView view }
         requires bounded { charge ≤ 2 ^ 62 }
         ensures { (records : List Entered) → IsTotalOf entry.now records self.now → (IsTrue result ↔ IfSome (limit_of entry.now analyst)
             (λ limit. spent_after entry.now records analyst (record { view = view; amount = charge }) ≤ limit)) }
@@ -182,7 +249,7 @@ impl Totals {
     {
         if reservation.number as usize != self.rows.len()
             || reservation.analyst >= entry.analysts()
-            || !entry.has_view(reservation.view)
+            || !self.has_view(entry, reservation.view)
         {
             return false;
         }
@@ -241,6 +308,16 @@ impl Totals {
         grant.amount <= BUDGET_LIMIT - self.budget
     }
 
+    // Whether this made partition may follow.
+    fn may_define(&self, made: &MadePartition) -> bool
+        requires total { (entry : Terms) × IsTotal entry self.now }
+        requires valid { IsMadePartition made.now }
+        ensures { (entry : Terms) (records : List Entered) → IsTotalOf entry records self.now → (IsTrue result ↔ IsDefinitionAfter records made.now) }
+    {
+        made.partition as usize == CATALOG_PARTITIONS + self.made.len()
+            && self.made_of(made.table, made.keys, &made.digest).is_none()
+    }
+
     // Whether this record may follow.
     fn may_follow(&self, entry: &Entry, next: &Record) -> bool
         requires total { IsTotal entry.now self.now }
@@ -251,6 +328,7 @@ impl Totals {
             Record::Reserve(reservation) => self.may_reserve(entry, reservation),
             Record::Settle(settlement) => self.may_settle(entry, settlement),
             Record::Grant(grant) => self.may_grant(grant),
+            Record::Define(made) => self.may_define(made),
         }
     }
 
@@ -298,6 +376,14 @@ impl Totals {
         self.budget += grant.amount;
     }
 
+    // Counts a made partition.
+    fn count_made(&mut self, made: &MadePartition)
+        requires { (entry : Terms) × MayCount entry self.old (Define made.now) }
+        ensures { (entry : Terms) → HasCounted entry self.old (Define made.now) self.new }
+    {
+        self.made.push_reserved(*made);
+    }
+
     /// Counts a record that may follow.
     pub fn count(&mut self, entry: &Entry, next: &Record)
         requires follows { MayCount entry.now self.old next.now }
@@ -308,6 +394,7 @@ impl Totals {
             Record::Reserve(reservation) => self.count_reservation(entry, reservation),
             Record::Settle(settlement) => self.count_settlement(entry, settlement),
             Record::Grant(grant) => self.count_grant(grant),
+            Record::Define(made) => self.count_made(made),
         }
     }
 

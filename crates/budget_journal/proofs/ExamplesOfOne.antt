@@ -5,7 +5,7 @@ use Rattle.std.proofs.lemmas.Option.{same_Some}
 use Rattle.journal_records.specs.Encoding.{gate, encoded, encoded_header, IsValid}
 use Rattle.journal_records.specs.declared.records.Outcome.TheVariants.{Exhausted}
 use Rattle.journal_records.specs.declared.records.Record.{Record}
-use Rattle.journal_records.specs.declared.records.Record.TheVariants.{Reserve, Settle, Grant}
+use Rattle.journal_records.specs.declared.records.Record.TheVariants.{Reserve, Settle, Grant, Define}
 use Rattle.journal_records.specs.Records.{settling}
 use Rattle.journal_records.specs.declared.records.Header.{Header}
 use Rattle.budget_journal.specs.declared.opening.OpenFault.TheVariants.{NotInitialised, Changed}
@@ -175,6 +175,7 @@ open_behind_a_closed_one = record {
 no_record : (r : Record) → Holds (slot two_slots unreadable 0) r → ⊥
 no_record (Settle settlement) holds = let h : 0 ≡ 2 = ap (λ (b : List ℕ). slice_index b 1) holds.bytes in omega (arith, h)
 no_record (Grant grant) holds = let h : 0 ≡ 3 = ap (λ (b : List ℕ). slice_index b 1) holds.bytes in omega (arith, h)
+no_record (Define made) holds = let h : 0 ≡ 4 = ap (λ (b : List ℕ). slice_index b 1) holds.bytes in omega (arith, h)
 no_record (Reserve r) holds = let h : 0 ≡ 1 = ap (λ (b : List ℕ). slice_index b 1) holds.bytes in omega (arith, h)
 
 not_read : IsUnreadable two_slots unreadable 0

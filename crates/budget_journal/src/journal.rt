@@ -56,15 +56,15 @@ fn fill_slot<D: Disk>(disk: &mut D, place: u64, record_in: &Record) -> Result<()
     put_stable(disk, place, &[GATE])
 }
 
-// Whether a record may be written: one that takes money or grants some only where the disk's bytes are still those that whoever opens it
-// now would find. A settlement belongs to a reservation that was written so.
+// Whether a record may be written: one that takes money, grants some or makes a partition only where the disk's bytes are still those that
+// whoever opens it now would find. A settlement belongs to a reservation that was written so.
 fn look<D: Disk>(disk: &mut D, record_in: &Record) -> Result<(), Failed>
     ensures same { D.trace disk.new ≡ D.trace disk.old }
     ensures cause { HasCause (D.faults disk.old) (D.faults disk.new) (IsErr result) }
     ensures passed { OnOk result (D.faults disk.new ≡ D.faults disk.old) }
 {
     match record_in {
-        Record::Reserve(_) | Record::Grant(_) => disk.is_in_place(),
+        Record::Reserve(_) | Record::Grant(_) | Record::Define(_) => disk.is_in_place(),
         Record::Settle(_) => Ok(()),
     }
 }

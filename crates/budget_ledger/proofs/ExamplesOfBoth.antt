@@ -5,7 +5,7 @@ use Rattle.outside_disks.specs.Disks.{Trace, Shown}
 use Rattle.journal_records.specs.declared.records.Outcome.TheVariants.{Lost}
 use Rattle.journal_records.specs.declared.records.Header.{Header}
 use Rattle.journal_records.specs.declared.records.Record.{Record}
-use Rattle.journal_records.specs.declared.records.Record.TheVariants.{Reserve, Settle, Grant}
+use Rattle.journal_records.specs.declared.records.Record.TheVariants.{Reserve, Settle, Grant, Define}
 use Rattle.journal_records.specs.Records.{settling}
 use Rattle.budget_journal.specs.declared.opening.OpenFault.TheVariants.{NotInitialised, Damaged, DiskFault, NoMemory}
 use Rattle.budget_journal.specs.declared.making.InitFault.TheVariants.{AlreadyThere}
@@ -25,6 +25,7 @@ number_in : Record → ℕ
 number_in (Reserve reservation) = reservation.number
 number_in (Settle settlement) = settlement.number
 number_in (Grant grant) = grant.number
+number_in (Define made) = made.partition
 
 number_at : Option Record → ℕ
 number_at None = 2

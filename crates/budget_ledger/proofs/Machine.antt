@@ -1,19 +1,24 @@
 -- A book is the pure machine of budgets.
-use Rattle.std.proofs.Common.{◌≡◌, ℕ, true, List, [], ◌∷◌, ◌++◌, Result, Err, IsOk, is_ok, is_none, refl, sym, ◌∙◌, ap}
+use Rattle.std.proofs.Common.{◌≡◌, ℕ, true, List, [], ◌∷◌, ◌++◌, Result, Err, IsOk, is_ok, is_none, is_some, Option, None, Some, if◌then◌else◌, refl, sym, ◌∙◌, ap}
 use Rattle.std.proofs.lemmas.Bool.{and_from, le-leb}
 use Rattle.journal_records.specs.declared.records.Record.{Record}
 use Rattle.budget_core.specs.declared.entry.ReserveFault.{ReserveFault}
 use Rattle.budget_core.specs.declared.entry.Grant.{Grant}
-use Rattle.journal_records.specs.declared.records.Record.TheVariants.{Grant as Granted}
+use Rattle.journal_records.specs.declared.records.Record.TheVariants.{Grant as Granted, Define}
+use Rattle.budget_core.specs.declared.definitions.Made.{Made}
+use Rattle.budget_core.specs.declared.definitions.DefineFault.{DefineFault}
+use Rattle.budget_core.specs.Defining.{made_before, made_behind, with_definition, definition_verdict, records_defined}
 use Rattle.budget_core.specs.Entries.{budget_limit}
 use Rattle.budget_core.specs.Granting.{IsAmount, grant_behind}
-use Rattle.budget_core.specs.Events.{World, is_ask_of, is_unsettled, is_amount}
+use Rattle.budget_core.specs.Events.{World, is_ask_of, is_unsettled, is_amount, is_definition}
 use Rattle.budget_core.specs.Ledger.{Ledger, start_of, reservation_for, money_verdict, records_after, settlement_for, IsUnsettled}
-use Rattle.budget_core.proofs.Asks.{ask-test}
+use Rattle.budget_core.proofs.Asks.{ask-test, definition-test}
 use Rattle.budget_core.proofs.EventLemmas.{if-left, reserved-step, granted-step, refused-step}
 use Rattle.budget_ledger.specs.Account.{Account}
+use Rattle.budget_ledger.specs.Defined.{GainsUnlessMade}
+use Rattle.budget_ledger.proofs.Definitions.{says-made, says-undefined}
 use Rattle.budget_ledger.proofs.Verdicts.{says-granted, says-refused}
-use Rattle.budget_ledger.specs.Machine.{world_by, ReservesAsTheMachine, RefusesAsTheMachine, SettlesAsTheMachine, GrantsAsTheMachine, RefusesGrantsAsTheMachine, OpensAsTheMachine}
+use Rattle.budget_ledger.specs.Machine.{world_by, ReservesAsTheMachine, RefusesAsTheMachine, SettlesAsTheMachine, GrantsAsTheMachine, RefusesGrantsAsTheMachine, DefinesAsTheMachine, RefusesDefinitionsAsTheMachine, OpensAsTheMachine}
 
 -- the world of a book with one record more
 with_record : (old : Account) (ledger : Ledger) (next : Record) (sent : List ℕ) → ledger ≡ record old.ledger { records = old.ledger.records ++ next ∷ [] }
@@ -22,15 +27,15 @@ with_record old ledger next sent is = ap (λ (l : Ledger). record { records = l.
 
 pub reserves : ReservesAsTheMachine
 reserves old new ask grant sent of (verdict, gained, unsettled) =
-    sym (reserved-step old.ledger.entry (world_by old sent) ask grant refl (ask-test old.ledger.entry ask of) (says-granted old ask grant verdict))
+    sym (reserved-step old.ledger.entry (world_by old sent) ask grant refl (ask-test old.ledger.entry old.ledger.records ask of) (says-granted old ask grant verdict))
     ∙ with_record old new.ledger (reservation_for old.ledger.records ask grant.taken) sent gained.ledger
 
 pub refuses : RefusesAsTheMachine
 refuses old new ask fault sent of (verdict, same) =
     let world : World = world_by old sent in
-    if-left true (is_ask_of old.ledger.entry ask)
+    if-left true (is_ask_of old.ledger.entry old.ledger.records ask)
     (record world { records = records_after world.records ask (money_verdict old.ledger.entry world.start world.records ask) }) world refl
-    (ask-test old.ledger.entry ask of)
+    (ask-test old.ledger.entry old.ledger.records ask of)
     ∙ ap (λ (v : Result Grant ReserveFault). record world { records = records_after world.records ask v }) (says-refused old ask fault verdict)
     ∙ ap (λ (a : Account). world_by a sent) (sym same)
 
@@ -58,6 +63,29 @@ refuses_grants old new amount refusal sent valid (verdict, same) =
   where
     not-granted : {T E : Type 0} → {answer : Result T E} {e : E} → answer ≡ Err e → IsOk answer → ⊥
     not-granted is ok = cc
+
+pub defines : DefinesAsTheMachine
+defines old new definition made sent valid (verdict, went) =
+    let world : World = world_by old sent in
+    if-left true (is_definition definition)
+    (record world { records = records_defined world.records definition (definition_verdict old.ledger.entry world.start world.records definition) }) world refl
+    (definition-test definition valid)
+    ∙ ap (λ (v : Result Made DefineFault). record world { records = records_defined world.records definition v }) (says-made old definition made verdict)
+    ∙ by (made_before old.ledger.records definition) went
+  where
+    by : (found : Option Made) → GainsUnlessMade found old (Define (made_behind old.ledger.records definition)) new
+        → record (world_by old sent) { records = if is_some found then old.ledger.records else with_definition old.ledger.records definition } ≡ world_by new sent
+    by (Some one) same = ap (λ (a : Account). world_by a sent) (sym same)
+    by None gained = with_record old new.ledger (Define (made_behind old.ledger.records definition)) sent gained.ledger
+
+pub refuses_definitions : RefusesDefinitionsAsTheMachine
+refuses_definitions old new definition fault sent valid (verdict, same) =
+    let world : World = world_by old sent in
+    if-left true (is_definition definition)
+    (record world { records = records_defined world.records definition (definition_verdict old.ledger.entry world.start world.records definition) }) world refl
+    (definition-test definition valid)
+    ∙ ap (λ (v : Result Made DefineFault). record world { records = records_defined world.records definition v }) (says-undefined old definition fault verdict)
+    ∙ ap (λ (a : Account). world_by a sent) (sym same)
 
 pub opens : OpensAsTheMachine
 opens entry found start running sent book is = ap (λ (l : Ledger). record { records = l.records; start = start_of l; running = true; sent = sent }) (sym is)

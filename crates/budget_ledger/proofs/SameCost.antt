@@ -8,7 +8,7 @@ use Rattle.journal_records.specs.declared.records.Reservation.{Reservation}
 use Rattle.journal_records.specs.declared.records.Settlement.{Settlement}
 use Rattle.journal_records.specs.declared.records.BudgetGrant.{BudgetGrant}
 use Rattle.journal_records.specs.declared.records.Record.{Record}
-use Rattle.journal_records.specs.declared.records.Record.TheVariants.{Reserve, Settle, Grant}
+use Rattle.journal_records.specs.declared.records.Record.TheVariants.{Reserve, Settle, Grant, Define}
 use Rattle.budget_core.specs.Cost.{cost_of, budget_of, charge_by}
 use Rattle.budget_core.specs.Counts.{reservations_of, outcome_of, is_exhaustion}
 use Rattle.budget_core.specs.Entries.{Entry, limit_of}
@@ -66,6 +66,7 @@ module _ (entry : Entry) (v w : ℕ) (agree : AgreeOnCost v w) where
   same_follow records (Reserve r) may = same_reservation records r may
   same_follow records (Settle s) may = same_settlement records s may
   same_follow records (Grant g) may = same_grant records g may
+  same_follow records (Define made) may = may
 
   pub same_history : (records : List Record) → IsHistory one records → IsHistory other records
   same_history records history = record { follows = λ k next at. same_follow _ next (history.follows k next at) }

@@ -36,10 +36,14 @@ abbrev pub IsUnwritten : Account → Record → AppendFault → Account → Type
 IsUnwritten old next (Closed failed_at) new = (failure : Failure) × (old.storage.closed ≡ Some failure) × (failed_at ≡ failure.failed_at) × (new ≡ old)
 IsUnwritten old next DiskFault new = HasClosed old next new
 
--- what an append that failed says to every later one, which it bars
+-- what an append that failed says to every later one, which it bars, in the words of what is above
+abbrev pub shut_with : {F : Type 0} → (told : AppendFault → F) → Option Failure → List (Bool × F)
+shut_with told None = []
+shut_with told (Some failure) = (true, told (Closed failure.failed_at)) ∷ []
+
+-- what it says to an ask
 abbrev pub shut_bars : Option Failure → List (Bool × BookFault)
-shut_bars None = []
-shut_bars (Some failure) = (true, Unwritten (Closed failure.failed_at)) ∷ []
+shut_bars closed = shut_with Unwritten closed
 
 -- what a book that is closed so, or isn't, says to an ask on these records, before anything is written
 abbrev pub book_verdict : Entry → (start : ℕ) → List Record → Option Failure → Ask → Result Grant BookFault

@@ -11,12 +11,16 @@ use Rattle.budget_journal.specs.declared.journal.Journal.{Journal}
 use Rattle.budget_journal.specs.Journals.{disk_of, used, is_closed, capacity_of, mark_of, IsMarked, Appended, AppendFailed}
 use Rattle.budget_core.specs.declared.entry.ReserveFault.{ReserveFault}
 use Rattle.budget_core.specs.declared.entry.ReserveFault.TheVariants.{OverBudget, Full, OverShare}
+use Rattle.budget_core.specs.declared.definitions.DefineFault.{DefineFault}
+use Rattle.budget_core.specs.declared.definitions.DefineFault.TheVariants.{Full as NoRoom, TooMany}
 use Rattle.budget_core.specs.Ledger.{Ledger}
 use Rattle.budget_ledger.specs.Account.{Failure, Held, Copy, Copies, Storage, Account, IsHeldCopy, IsBook, count_of}
 use Rattle.budget_ledger.specs.declared.book.AppendFault.{AppendFault}
 use Rattle.budget_ledger.specs.declared.book.AppendFault.TheVariants.{Closed, DiskFault}
 use Rattle.budget_ledger.specs.declared.book.BookFault.{BookFault}
 use Rattle.budget_ledger.specs.declared.book.BookFault.TheVariants.{Refused, Unwritten}
+use Rattle.budget_ledger.specs.declared.book.DefinitionFault.{DefinitionFault}
+use Rattle.budget_ledger.specs.declared.book.DefinitionFault.TheVariants.{Refused as DefinitionRefused, Unwritten as DefinitionUnwritten}
 use Rattle.budget_ledger.specs.declared.halves.Side.{Side}
 use Rattle.budget_ledger.specs.declared.halves.Half.{Half}
 use Rattle.budget_ledger.specs.declared.halves.Half.TheVariants.{Gone, Kept}
@@ -29,6 +33,12 @@ refusal_with (OverShare spent after limit seen) (Some failure) = Unwritten (Clos
 refusal_with (OverShare spent after limit seen) None = Refused (OverShare spent after limit seen)
 refusal_with (OverBudget spent after budget seen) closed = Refused (OverBudget spent after budget seen)
 refusal_with (Full used unsettled capacity) closed = Refused (Full used unsettled capacity)
+
+-- the same of a definition
+abbrev pub undefined_with : DefineFault → Option Failure → DefinitionFault
+undefined_with (TooMany made) (Some failure) = DefinitionUnwritten (Closed failure.failed_at)
+undefined_with (TooMany made) None = DefinitionRefused (TooMany made)
+undefined_with (NoRoom used unsettled capacity) closed = DefinitionRefused (NoRoom used unsettled capacity)
 
 module _ {D : Type 0} where
   -- A journal to which no append has failed may be appended to.

@@ -1,8 +1,9 @@
 -- The laws of a book's states.
-use Rattle.std.specs.Prelude.{◌≡◌, ◌⊎◌, ℕ, ◌<◌, List, [], ◌∷◌, Option, None, Some, IfSome, Ok}
+use Rattle.std.specs.Prelude.{◌≡◌, ◌⊎◌, ℕ, ◌<◌, List, [], ◌∷◌, length, Option, None, Some, IfSome, Ok}
 use mathlib.Core.List.{IsPrefix}
 use Rattle.fz_outside.specs.Faults.{last_count}
 use Rattle.outside_disks.specs.Disks.{Trace, Shown, IsImageOf, Passes, WhereTold}
+use Rattle.journal_records.specs.declared.records.MadePartition.{MadePartition}
 use Rattle.journal_records.specs.declared.records.Record.{Record}
 use Rattle.journal_records.specs.declared.records.Header.{Header}
 use Rattle.budget_journal.specs.declared.opening.OpenFault.{OpenFault}
@@ -10,6 +11,11 @@ use Rattle.budget_journal.specs.declared.opening.OpenFault.TheVariants.{DiskFaul
 use Rattle.budget_journal.specs.Journals.{Stands, IsAtRest}
 use Rattle.budget_core.specs.declared.entry.Ask.{Ask}
 use Rattle.budget_core.specs.declared.entry.Grant.{Grant}
+use Rattle.budget_core.specs.declared.definitions.Definition.{Definition}
+use Rattle.budget_core.specs.declared.definitions.Made.{Made}
+use Rattle.budget_core.specs.declared.definitions.DefineFault.{DefineFault}
+use Rattle.budget_core.specs.Counts.{definition_of}
+use Rattle.budget_core.specs.Defining.{definition_verdict, records_defined}
 use Rattle.budget_core.specs.Entries.{Entry}
 use Rattle.budget_core.specs.Ledger.{money_verdict, records_after}
 use Rattle.budget_core.specs.Legal.{IsHistory}
@@ -82,3 +88,15 @@ GrantsNeverShare = (entry : Entry) (header : Header) (start later_start : ℕ) (
     (grant next : Grant)
     → money_verdict entry start records ask ≡ Ok grant → LeadTo header (records_after records ask (Ok grant)) runs later
     → money_verdict entry later_start later other ≡ Ok next → grant.number < next.number
+
+-- Over however many runs and stops a made partition stays what it was.
+abbrev pub PartitionsStayOverRuns : Type 0
+PartitionsStayOverRuns = (header : Header) (records later : List Record) (runs : List Interrupted) (partition : ℕ) (made : MadePartition)
+    → LeadTo header records runs later → definition_of records partition ≡ Some made → definition_of later partition ≡ Some made
+
+-- Where a definition was answered, an equal one, by whoever and over however many runs and stops, has the same partition, and adds nothing.
+abbrev pub DefinitionsAreFoundAgain : Type 0
+DefinitionsAreFoundAgain = (entry : Entry) (header : Header) (start later_start : ℕ) (records later : List Record) (runs : List Interrupted)
+    (definition : Definition) (analyst : ℕ) (made : Made)
+    → definition_verdict entry start records definition ≡ Ok made → LeadTo header (records_defined records definition {F = DefineFault} (Ok made)) runs later
+    → definition_verdict entry later_start later (record definition { analyst = analyst }) ≡ Ok (record { partition = made.partition; seen = length later })

@@ -1,5 +1,6 @@
 pub mod Account
 pub mod Booked
+pub mod Defined
 pub mod Opened
 pub mod Kept
 pub mod Laws

@@ -14,12 +14,15 @@ ghost use Rattle.budget_core.specs.Ledger.{IsAskOf, IsUnsettled};
 ghost use Rattle.budget_core.specs.Sound.{IsSound};
 ghost use Rattle.budget_ledger.specs.Account.{IsKeptNow, IsBook, Went, stored_by};
 ghost use Rattle.budget_ledger.specs.Booked.{IsReserved, IsSettlementOf, IsRaised};
-ghost use Rattle.budget_ledger.specs.Kept.{HasWritten, IsUnappended, refusal_with};
+ghost use Rattle.budget_core.specs.Defining.{IsDefinition};
+ghost use Rattle.budget_ledger.specs.Defined.{IsDefined, IsPartitionOf};
+ghost use Rattle.budget_ledger.specs.Kept.{HasWritten, IsUnappended, refusal_with, undefined_with};
 ghost use Rattle.budget_ledger.specs.Opened.{IsBookFault};
 
 use crate::failure::Failure;
 use crate::halves::{Store, append, count_faults};
 use budget_core::answers::{Counts, GrantRefusal, Left, Mine, Recall};
+use budget_core::definitions::{DefineFault, Definition, Made};
 use budget_core::entry::{Ask, Grant, ReserveFault};
 use budget_core::ledger::Ledger;
 use budget_journal::journal::Journal;
@@ -51,6 +54,15 @@ pub enum BookFault {
 pub enum GrantFault {
     /// The limit of all budgets or the room doesn't allow it.
     Refused(GrantRefusal),
+    /// It is allowed, and its record wasn't appended.
+    Unwritten(AppendFault),
+}
+
+/// Why no partition was made.
+#[derive(Clone, Copy, Debug, Drop, PartialEq, Eq)]
+pub enum DefinitionFault {
+    /// The room or the number of made partitions doesn't allow it.
+    Refused(DefineFault),
     /// It is allowed, and its record wasn't appended.
     Unwritten(AppendFault),
 }
@@ -120,10 +132,24 @@ fn refused_by(fault: ReserveFault, failure: &Option<Failure>) -> BookFault
     }
 }
 
+// What is said of a definition that is refused: an append that has failed is said before too many.
+fn undefined_by(fault: DefineFault, failure: &Option<Failure>) -> DefinitionFault
+    ensures { result ≡ undefined_with fault failure.now }
+{
+    match (fault, failure) {
+        (DefineFault::TooMany { .. }, Some(failure)) => {
+            DefinitionFault::Unwritten(AppendFault::Closed {
+                failed_at: failure.failed_at,
+            })
+        }
+        _ => DefinitionFault::Refused(fault),
+    }
+}
+
 impl<D: Disk> Book<D> {
     /// Reserves for an ask, or says why not. After Ok a stop at any moment leaves the reservation.
     pub fn reserve(&mut self, ask: &Ask) -> Result<Grant, BookFault>
-        requires { IsAskOf self.old.ledger.entry ask.now }
+        requires { IsAskOf self.old.ledger.entry self.old.ledger.records ask.now }
         ensures answer { IsReserved self.old ask.now result self.new }
         ensures went { Went self.old.ledger.records self.new.ledger.records self.old.storage self.new.storage }
         ensures kept { IsBook self.new }
@@ -177,6 +203,33 @@ impl<D: Disk> Book<D> {
                 Ok(left)
             }
             Err(fault) => Err(GrantFault::Unwritten(fault)),
+        }
+    }
+
+    /// Makes a partition of a definition, or says why not. Where an equal definition has made one, tells that and writes nothing,
+    /// on a closed book too. After Ok a stop at any moment leaves the partition.
+    pub fn define(&mut self, definition: &Definition) -> Result<Made, DefinitionFault>
+        requires { IsDefinition definition.now }
+        ensures answer { IsDefined self.old definition.now result self.new }
+        ensures made { IfOk result (λ made. IsPartitionOf self.new.ledger.records made.partition definition.now) }
+        ensures went { Went self.old.ledger.records self.new.ledger.records self.old.storage self.new.storage }
+        ensures kept { IsBook self.new }
+    {
+        if let Some(made) = self.ledger.made_before(definition) {
+            return Ok(made);
+        }
+        let made = match self.ledger.definition_verdict(definition) {
+            Ok(made) => made,
+            Err(fault) => return Err(undefined_by(fault, &self.failure)),
+        };
+        let partition = self.ledger.made_behind(definition);
+        let next = Record::Define(partition);
+        match append(&mut self.store, &mut self.failure, &next) {
+            Ok(()) => {
+                self.ledger.define(&partition);
+                Ok(made)
+            }
+            Err(fault) => Err(DefinitionFault::Unwritten(fault)),
         }
     }
 

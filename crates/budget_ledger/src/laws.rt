@@ -1,9 +1,10 @@
 //! How a book's states follow one another. Each function does nothing: its contract is the law.
 
 ghost use Rattle.budget_ledger.specs.Laws.{FollowsItself, FollowOn, LeavesMoments, OpensWhatStands, GrantsNeverShare};
+ghost use Rattle.budget_ledger.specs.Laws.{PartitionsStayOverRuns, DefinitionsAreFoundAgain};
 ghost use Rattle.budget_ledger.specs.Laws.{ASoundSideHasAll, IsOpenByOne, SidesNeverFork};
 ghost use Rattle.budget_ledger.specs.Machine.{OpensAsTheMachine, RefusesAsTheMachine, ReservesAsTheMachine, SettlesAsTheMachine};
-ghost use Rattle.budget_ledger.specs.Machine.{GrantsAsTheMachine, RefusesGrantsAsTheMachine};
+ghost use Rattle.budget_ledger.specs.Machine.{GrantsAsTheMachine, RefusesGrantsAsTheMachine, DefinesAsTheMachine, RefusesDefinitionsAsTheMachine};
 
 /// Each state follows itself.
 pub fn a_state_follows_itself()
@@ -41,12 +42,20 @@ pub fn grants_never_share_a_number()
     ensures { GrantsNeverShare }
 {}
 
-/// A book is the pure machine of budgets: its reservations, settlements, grants, refusals and openings are the machine's.
+/// Over however many runs and stops a made partition stays what it was, and an equal definition finds it.
+pub fn definitions_keep_their_partitions()
+    ensures stay { PartitionsStayOverRuns }
+    ensures found { DefinitionsAreFoundAgain }
+{}
+
+/// A book is the pure machine of budgets: its reservations, settlements, grants, definitions, refusals and openings are the machine's.
 pub fn books_are_the_machine()
     ensures reserves { ReservesAsTheMachine }
     ensures refuses { RefusesAsTheMachine }
     ensures settles { SettlesAsTheMachine }
     ensures grants { GrantsAsTheMachine }
     ensures refuses_grants { RefusesGrantsAsTheMachine }
+    ensures defines { DefinesAsTheMachine }
+    ensures refuses_definitions { RefusesDefinitionsAsTheMachine }
     ensures opens { OpensAsTheMachine }
 {}

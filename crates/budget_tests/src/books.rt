@@ -51,7 +51,7 @@ fn header_of(capacity: u32) -> Header
 }
 
 /// Opens the book of an owner with this capacity.
-fn opened<D: Disk>(alloc: Global, disk: D, capacity: u32) -> Result<Book<D>, (D, OpenFault)>
+pub fn opened<D: Disk>(alloc: Global, disk: D, capacity: u32) -> Result<Book<D>, (D, OpenFault)>
     requires least { 2 ≤ capacity }
     requires most { capacity ≤ 100 }
 {
@@ -97,8 +97,8 @@ pub fn ask_and_settle<D: Disk>(book: &mut Book<D>) -> Result<Result<u32, AppendF
     }
 }
 
-// The disk of a book, or the first of two.
-fn disk_of<D: Disk + Drop>(book: Book<D>) -> D {
+/// The disk of a book, or the first of two.
+pub fn disk_of<D: Disk + Drop>(book: Book<D>) -> D {
     match book.into_disks() {
         Disks::One(disk) => disk,
         Disks::Both(disk, other) => {
@@ -136,7 +136,7 @@ const GRANT: Grant = Grant {
 };
 
 /// A disk with a new journal of this capacity.
-fn made(alloc: Global, capacity: u32) -> Option<MemDisk<'static>> {
+pub fn made(alloc: Global, capacity: u32) -> Option<MemDisk<'static>> {
     let mut disk = MemDisk::new(alloc, &[], LIMITS, &[]).ok()?;
     Journal::init(&mut disk, &header_of(capacity)).ok()?;
     Some(disk)

@@ -1,8 +1,9 @@
 //! A desk over a disk in memory, which several threads share.
 
-ghost use Rattle.std.specs.Prelude.{◌≡◌, ◌≤◌};
+ghost use Rattle.std.specs.Prelude.{◌≡◌, ◌≤◌, List};
 ghost use Rattle.std.specs.Thread.{IsSync};
 ghost use Rattle.partition_charge.specs.declared.view.View.TheVariants.{Whole};
+ghost use Rattle.journal_records.specs.declared.records.Record.{Record};
 ghost use Rattle.journal_records.specs.Encoding.{AreChargeTerms, IsByteList};
 ghost use Rattle.budget_core.specs.Ledger.{IsAskOf};
 ghost use Rattle.budget_ledger.specs.Account.{IsBook};
@@ -11,6 +12,7 @@ ghost use Rattle.owner_desk.specs.Shared.{IsKept};
 
 use crate::books::header_in;
 use budget_core::answers::{Counts, Recall};
+use budget_core::definitions::Definition;
 use budget_core::entry::{Ask, Entry};
 use budget_journal::journal::Journal;
 use budget_ledger::book::Book;
@@ -34,12 +36,24 @@ const LIMITS: Limits = Limits {
     written: 131_072,
 };
 
-// Asks so often, and settles each grant with an answer of its own.
+// The line that every worker says.
+const LINE: Definition = Definition {
+    table: 0,
+    keys: 2,
+    analyst: 0,
+    digest: [7; 32],
+};
+
+// Makes the line's partition, asks so often, and settles each grant with an answer of its own.
 fn ask_all<D: Disk, W: Wait>(rt: &W, desk: &Desk<D>, mut pass: Pass<D>, asking: &Ask) -> Pass<D>
     requires here { pass.lock ≡ desk.now }
-    requires of_entry { IsAskOf pass.knows.opened.ledger.entry asking.now }
+    requires of_entry { ((records : List Record) → IsAskOf pass.knows.opened.ledger.entry records asking.now) }
     ensures kept { IsKept pass result }
 {
+    let line = LINE;
+    if line.is_valid() {
+        let _made = desk.define(rt, &mut pass, &line);
+    }
     for _ in 0..ASKS {
         if let Ok(grant) = desk.reserve(rt, &mut pass, asking) {
             let answer = 1000 + i64::from(grant.number);
@@ -58,17 +72,17 @@ fn by_two<D: Disk + Send, R: Threads + Wait + Sync>(
     asking: &Ask,
 ) -> (Pass<D>, Pass<D>)
     requires here { (one.lock ≡ desk.now) × (other.lock ≡ desk.now) }
-    requires of_entry { IsAskOf one.knows.opened.ledger.entry asking.now × IsAskOf other.knows.opened.ledger.entry asking.now }
+    requires of_entry { ((records : List Record) → IsAskOf one.knows.opened.ledger.entry records asking.now) × ((records : List Record) → IsAskOf other.knows.opened.ledger.entry records asking.now) }
     ensures kept { IsKept one result.0 × IsKept other result.1 }
 {
     join(
         rt,
         || -> Pass<D>
-            requires { IsSync R.row × (one.lock ≡ desk.now) × IsAskOf one.knows.opened.ledger.entry asking.now }
+            requires { IsSync R.row × (one.lock ≡ desk.now) × ((records : List Record) → IsAskOf one.knows.opened.ledger.entry records asking.now) }
             ensures { IsKept one result }
         { ask_all(rt, desk, one, asking) },
         || -> Pass<D>
-            requires { IsSync R.row × (other.lock ≡ desk.now) × IsAskOf other.knows.opened.ledger.entry asking.now }
+            requires { IsSync R.row × (other.lock ≡ desk.now) × ((records : List Record) → IsAskOf other.knows.opened.ledger.entry records asking.now) }
             ensures { IsKept other result }
         { ask_all(rt, desk, other, asking) },
     )
@@ -82,23 +96,23 @@ fn by_four<D: Disk + Send, R: Threads + Wait + Sync>(
     right: (Pass<D>, Pass<D>),
     asking: &Ask,
 ) -> ((Pass<D>, Pass<D>), (Pass<D>, Pass<D>))
-    requires left { (left.0.lock ≡ desk.now) × (left.1.lock ≡ desk.now) × IsAskOf left.0.knows.opened.ledger.entry asking.now
-        × IsAskOf left.1.knows.opened.ledger.entry asking.now }
-    requires right { (right.0.lock ≡ desk.now) × (right.1.lock ≡ desk.now) × IsAskOf right.0.knows.opened.ledger.entry asking.now
-        × IsAskOf right.1.knows.opened.ledger.entry asking.now }
+    requires left { (left.0.lock ≡ desk.now) × (left.1.lock ≡ desk.now) × ((records : List Record) → IsAskOf left.0.knows.opened.ledger.entry records asking.now)
+        × ((records : List Record) → IsAskOf left.1.knows.opened.ledger.entry records asking.now) }
+    requires right { (right.0.lock ≡ desk.now) × (right.1.lock ≡ desk.now) × ((records : List Record) → IsAskOf right.0.knows.opened.ledger.entry records asking.now)
+        × ((records : List Record) → IsAskOf right.1.knows.opened.ledger.entry records asking.now) }
     ensures left { IsKept left.0 result.0.0 × IsKept left.1 result.0.1 }
     ensures right { IsKept right.0 result.1.0 × IsKept right.1 result.1.1 }
 {
     join(
         rt,
         || -> (Pass<D>, Pass<D>)
-            requires { IsSync R.row × (left.0.lock ≡ desk.now) × (left.1.lock ≡ desk.now) × IsAskOf left.0.knows.opened.ledger.entry asking.now
-                × IsAskOf left.1.knows.opened.ledger.entry asking.now }
+            requires { IsSync R.row × (left.0.lock ≡ desk.now) × (left.1.lock ≡ desk.now) × ((records : List Record) → IsAskOf left.0.knows.opened.ledger.entry records asking.now)
+                × ((records : List Record) → IsAskOf left.1.knows.opened.ledger.entry records asking.now) }
             ensures { IsKept left.0 result.0 × IsKept left.1 result.1 }
         { by_two(rt, desk, left.0, left.1, asking) },
         || -> (Pass<D>, Pass<D>)
-            requires { IsSync R.row × (right.0.lock ≡ desk.now) × (right.1.lock ≡ desk.now) × IsAskOf right.0.knows.opened.ledger.entry asking.now
-                × IsAskOf right.1.knows.opened.ledger.entry asking.now }
+            requires { IsSync R.row × (right.0.lock ≡ desk.now) × (right.1.lock ≡ desk.now) × ((records : List Record) → IsAskOf right.0.knows.opened.ledger.entry records asking.now)
+                × ((records : List Record) → IsAskOf right.1.knows.opened.ledger.entry records asking.now) }
             ensures { IsKept right.0 result.0 × IsKept right.1 result.1 }
         { by_two(rt, desk, right.0, right.1, asking) },
     )
@@ -113,7 +127,7 @@ fn asked_by_four<D: Disk + Send, R: Threads + Wait + Sync>(
 ) -> Result<Book<D>, (Book<D>, AllocError)>
     requires book { IsBook book }
     requires fresh { IsJustOpened book }
-    requires of_entry { IsAskOf book.ledger.entry asking.now }
+    requires of_entry { (records : List Record) → IsAskOf book.ledger.entry records asking.now }
 {
     let (desk, mut first) = Desk::new(alloc, 0, book)?;
     let mut third = desk.split(&mut first);
@@ -165,6 +179,7 @@ fn asked<D: Disk + Drop + Send, R: Threads + Wait + Sync>(
     asked_by_four(rt, alloc, book, &asking(e)).ok()
 }
 
+// Each number comes once, with its own answer, and all say one line, which makes one partition.
 #[test]
 fn four_workers_ask_one_owner(rt: HostRuntime) -> Result<(), Fail> {
     let disk = made(rt.alloc()).ok_or("a journal")?;
@@ -176,11 +191,11 @@ fn four_workers_ask_one_owner(rt: HostRuntime) -> Result<(), Fail> {
         lost: 0,
     };
     assert!(rt; book.counts() == counts);
-    assert!(rt; book.spent() == 100_000 && book.records().len() == 200);
+    assert!(rt; book.spent() == 100_000 && book.records().len() == 201);
     for number in 0..100u32 {
         let told = Recall::Answer {
             value: 1000 + i64::from(number),
-            seen: 200,
+            seen: 201,
         };
         assert!(rt; book.recall(number, 0) == told);
     }
@@ -191,7 +206,7 @@ fn four_workers_ask_one_owner(rt: HostRuntime) -> Result<(), Fail> {
 fn a_budget_is_one_for_all(rt: HostRuntime) -> Result<(), Fail> {
     let disk = made(rt.alloc()).ok_or("a journal")?;
     let book = asked(&rt, rt.alloc(), disk, 1_000_000).ok_or("a book")?;
-    assert!(rt; book.spent() == 10_000_000 && book.records().len() == 20);
+    assert!(rt; book.spent() == 10_000_000 && book.records().len() == 21);
     Ok(())
 }
 

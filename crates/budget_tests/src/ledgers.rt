@@ -4,6 +4,7 @@ ghost use Rattle.std.specs.Prelude.{IfSome};
 ghost use Rattle.journal_records.specs.Encoding.{IsValid};
 
 use budget_core::answers::{Counts, FoundFault, Left, Recall};
+use budget_core::definitions::Definition;
 use budget_core::entry::{Ask, Entry};
 use budget_core::events::{Event, run_events};
 use budget_core::ledger::Ledger;
@@ -157,6 +158,74 @@ const EXHAUSTED: [Event; 4] = [
     }),
 ];
 
+const LINE: Definition = Definition {
+    table: 0,
+    keys: 2,
+    analyst: 1,
+    digest: [1; 32],
+};
+
+// A made partition is there behind its definition, with so many parts, which cost as much as the dearest.
+const MADE_PARTS: [Event; 6] = [
+    Event::Define(LINE),
+    Event::Define(Definition { analyst: 0, ..LINE }),
+    Event::Reserve(Ask {
+        view: View::Part {
+            partition: 8,
+            part: 0,
+        },
+        e: 6,
+        ..ASK
+    }),
+    Event::Reserve(Ask {
+        view: View::Part {
+            partition: 8,
+            part: 2,
+        },
+        ..ASK
+    }),
+    Event::Reserve(Ask {
+        view: View::Part {
+            partition: 9,
+            part: 0,
+        },
+        ..ASK
+    }),
+    Event::Reserve(Ask {
+        view: View::Part {
+            partition: 8,
+            part: 1,
+        },
+        e: 6,
+        ..ASK
+    }),
+];
+
+// Two made partitions cost both.
+const MADE_TWICE: [Event; 4] = [
+    Event::Define(LINE),
+    Event::Define(Definition {
+        digest: [2; 32],
+        ..LINE
+    }),
+    Event::Reserve(Ask {
+        view: View::Part {
+            partition: 8,
+            part: 0,
+        },
+        e: 6,
+        ..ASK
+    }),
+    Event::Reserve(Ask {
+        view: View::Part {
+            partition: 9,
+            part: 0,
+        },
+        e: 6,
+        ..ASK
+    }),
+];
+
 #[test]
 fn events(rt: HostRuntime) -> Result<(), AllocError> {
     let alloc = rt.alloc();
@@ -165,6 +234,8 @@ fn events(rt: HostRuntime) -> Result<(), AllocError> {
     assert!(rt; counted(alloc, &TWO_RUNS)? == (6, 2, 0));
     assert!(rt; counted_in(alloc, 3, &EXHAUSTED)? == (4, 0, 0));
     assert!(rt; counted_in(alloc, 2, &EXHAUSTED)? == (3, 0, 0));
+    assert!(rt; counted(alloc, &MADE_PARTS)? == (3, 0, 0));
+    assert!(rt; counted_in(alloc, 1, &MADE_TWICE)? == (3, 0, 0));
     Ok(())
 }
 
@@ -175,7 +246,7 @@ fn first_reservation(alloc: Global) -> Option<Record>
     ensures { IfSome result IsValid }
 {
     let ledger = Ledger::new(alloc, small_entry(alloc).ok()?).ok()?;
-    if !ledger.entry().has_ask(&FIRST_ASK) {
+    if !ledger.has_ask(&FIRST_ASK) {
         return None;
     }
     let grant = ledger.verdict(&FIRST_ASK).ok()?;

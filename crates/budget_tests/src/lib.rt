@@ -6,6 +6,8 @@ mod books;
 #[cfg(test)]
 mod clerks;
 #[cfg(test)]
+mod defined;
+#[cfg(test)]
 mod desks;
 #[cfg(test)]
 mod growth;

@@ -20,7 +20,7 @@ const LAST: View = View::Part {
 // There is room for two parts, whatever their numbers, and the whole needs none.
 #[test]
 fn parts_and_the_whole(rt: HostRuntime) -> Result<(), AllocError> {
-    let mut costs = Costs::new(rt.alloc(), 2)?;
+    let mut costs = Costs::new(rt.alloc(), 4_000, 2)?;
     costs.add(LAST, 4);
     costs.add(FIRST, 6);
     assert!(rt; costs.after(LAST, 4) == 8);
@@ -48,7 +48,7 @@ fn part_from_the_last(turn: u16) -> View
 
 // What a thousand parts of a partition cost, each charged its amount once, the last one first.
 fn cost_of_a_thousand(alloc: Global, amount: u32) -> Result<u64, AllocError> {
-    let mut costs = Costs::new(alloc, u32::from(PARTS))?;
+    let mut costs = Costs::new(alloc, u32::from(PARTS), u32::from(PARTS))?;
     for turn in 0..PARTS {
         costs.add(part_from_the_last(turn), u64::from(amount));
     }

@@ -2,7 +2,7 @@
 
 use journal_records::coding::{encode, encode_header};
 use journal_records::decoding::{decode, decode_header};
-use journal_records::records::{Header, Outcome, Record, Reservation, Settlement};
+use journal_records::records::{Header, MadePartition, Outcome, Record, Reservation, Settlement};
 use partition_charge::view::View;
 
 const FIRST: Reservation = Reservation {
@@ -40,11 +40,11 @@ fn all_refused(bytes: &[u8; 64], changes: &[(usize, u8)]) -> bool {
     true
 }
 
-// Bytes that no record has: another gate, kind, partition, part or denominator, and bytes that are to be zero.
+// Bytes that no record has: another gate, kind, part or denominator, and bytes that are to be zero.
 const RESERVATION_CHANGES: [(usize, u8); 7] = [
     (0, 0x25),
     (1, 3),
-    (2, 8),
+    (1, 4),
     (3, 1),
     (19, 0),
     (30, 1),
@@ -117,6 +117,39 @@ fn are_of_parts(rows: &[(u16, u8, u8)]) -> bool {
 fn reservations_of_parts(rt: HostRuntime) {
     assert!(rt; are_of_parts(&PARTS));
     assert!(rt; all_refused(&encoding(&of_part(3_999)), &PAST_THE_PARTS));
+}
+
+// A partition of a catalog, the whole's byte, a table too far, keys too many and none, and bytes that are to be zero.
+const MADE_CHANGES: [(usize, u8); 10] = [
+    (2, 7),
+    (2, 255),
+    (3, 8),
+    (4, 1),
+    (5, 251),
+    (5, 0),
+    (6, 1),
+    (27, 1),
+    (30, 1),
+    (31, 1),
+];
+
+#[test]
+fn a_made_partition(rt: HostRuntime) {
+    let made = MadePartition {
+        partition: 254,
+        table: 7,
+        keys: 250,
+        analyst: 1,
+        digest: [9; 32],
+    };
+    let bytes = encoding(&Record::Define(made));
+    assert!(rt;
+        bytes.starts_with(
+            b"\xA5\x04\xFE\x07\x00\xFA\0\0\0\0\0\0\0\0\0\0\0\0\0\0\0\0\0\0\0\0\0\0\x00\x01\0\0\x09"
+        )
+    );
+    assert!(rt; decode(&bytes) == Some(Record::Define(made)));
+    assert!(rt; all_refused(&bytes, &MADE_CHANGES));
 }
 
 #[test]

@@ -12,3 +12,4 @@ pub mod Maps
 pub mod AtWork
 pub mod Programs
 pub mod Examples
+pub mod RowFunctions

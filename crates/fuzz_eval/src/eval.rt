@@ -54,9 +54,9 @@ fn eval_under(
     eval(alloc, nodes, &inner, i, left)
 }
 
-// What a function gives for this argument.
+/// What a function gives for this argument.
 #[cycle(evaluating)]
-fn apply(alloc: Global, c: &Value, u: Value, left: u32) -> Result<Value, NoMemory>
+pub fn apply(alloc: Global, c: &Value, u: Value, left: u32) -> Result<Value, NoMemory>
     requires { CanApply left c.now.means u.means }
     ensures gives { IfOk result (λ v. Applies (MeansIn left) c.now.means u.means v.means) }
     ensures deep { IfOk result (λ v. v.deep ≤ scope_deep c.now.deep u.deep + added left) }

@@ -19,8 +19,8 @@ use shape_run::Plan;
 use std::alloc::Global;
 use std::rc::Rc;
 
-// The nodes in a place that closures share.
-fn shared(alloc: Global, nodes: &Nodes) -> Result<Rc<Nodes>, NoMemory>
+/// The nodes in a place that closures share.
+pub fn shared(alloc: Global, nodes: &Nodes) -> Result<Rc<Nodes>, NoMemory>
     ensures { IfOk result (λ rc. rc.value ≡ nodes.now) }
 {
     let copied = nodes.copy()?;

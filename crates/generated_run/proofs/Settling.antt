@@ -31,7 +31,8 @@ use Rattle.session_laws.proofs.AnswerPath.Programs.{one_value}
 use Rattle.session_laws.proofs.AnswerPath.SizePeople.{size_people, size_reads, size_term}
 use Rattle.session_laws.specs.SessionCore.Blocks.{crew_of, script_blocks}
 use Rattle.session_laws.specs.SessionCore.Exchanges.{Exchange}
-use Rattle.session_laws.specs.SessionCore.Meant.{Meant, meant_by, says, wants}
+use Rattle.session_laws.specs.SessionCore.Meant.{Meant, by_analyst, meant_by, says, wants}
+use Rattle.session_laws.specs.SessionCore.Speakers.{Speaker, no_speaker}
 use Rattle.session_laws.specs.SessionCore.Turns.{Turn}
 use Rattle.session_laws.proofs.SessionCore.Turns.{turns_lines}
 use Rattle.session_laws.proofs.Added.{IsReservedBy}
@@ -50,7 +51,7 @@ use Rattle.generated_run.specs.Tally.{noise_of_seed}
 
 -- what the analyst asks
 abbrev the_query : (analyst : ℕ) → Query
-the_query analyst = record { analyst = analyst; view = Whole; e = price; program = size_people }
+the_query analyst = record { analyst = analyst; view = Whole; e = price; program = size_people; made = None }
 
 module _ (seed many : ℕ) where
   abbrev house : House
@@ -61,35 +62,30 @@ module _ (seed many : ℕ) where
 
   -- ---- what a line means
 
-  greets : (who : Option ℕ) → meant_by house who (codes "hello ann") ≡ says (greeted (codes "ann")) (Some 0)
+  greets : (who : Speaker) → meant_by house who (codes "hello ann") ≡ says (greeted (codes "ann")) (record who { analyst = Some 0 })
   unfolding request_of meant_by
   greets who = refl
 
-  ends : (who : Option ℕ) → meant_by house who (codes "bye") ≡ says ended who
+  ends : (who : Speaker) → meant_by house who (codes "bye") ≡ says ended no_speaker
   unfolding request_of meant_by
   ends who = refl
 
-  asks_unknown : meant_by house None (codes "ask gen 1 size people") ≡ says (refused (by_line NoHello)) None
+  asks_size : (who : Speaker) → meant_by house who (codes "ask gen 1 size people") ≡ by_analyst who who.analyst (λ analyst. wants 0 owner (asks (the_query analyst)))
   unfolding request_of meant_by
-  asks_unknown = refl
+  asks_size who = refl
 
-  asks_known : (analyst : ℕ) → meant_by house (Some analyst) (codes "ask gen 1 size people") ≡ wants 0 owner (asks (the_query analyst))
-  unfolding request_of meant_by
-  asks_known analyst = refl
-
-  never : {R : Type 0} → (m : Meant) (query : Query) (said : Replied) (next : Option ℕ) → m ≡ says said next → m ≡ wants 0 owner (asks query) → R
+  never : {R : Type 0} → (m : Meant) (query : Query) (said : Replied) (next : Speaker) → m ≡ says said next → m ≡ wants 0 owner (asks query) → R
   never m query said next is other = absurd (let both : says said next ≡ wants 0 owner (asks query) = sym is ∙ other in cc (both))
 
   -- a line that asks the owner asks this
-  query_of : (who : Option ℕ) (line : List ℕ) (query : Query) → IsLine line → meant_by house who line ≡ wants 0 owner (asks query) → (analyst : ℕ) × (the_query analyst ≡ query)
-  query_of who line query (inl is) meant = never (meant_by house who (codes "hello ann")) query (greeted (codes "ann")) (Some 0) (greets who) (ap (meant_by house who) (sym is) ∙ meant)
-  query_of who line query (inr (inr is)) meant = never (meant_by house who (codes "bye")) query ended who (ends who) (ap (meant_by house who) (sym is) ∙ meant)
-  query_of None line query (inr (inl is)) meant =
-      never (meant_by house None (codes "ask gen 1 size people")) query (refused (by_line NoHello)) None asks_unknown (ap (meant_by house None) (sym is) ∙ meant)
-  query_of (Some analyst) line query (inr (inl is)) meant =
-      let same : wants 0 owner (asks (the_query analyst)) ≡ wants 0 owner (asks query) = sym (asks_known analyst) ∙ ap (meant_by house (Some analyst)) (sym is) ∙ meant in
-      let queries : the_query analyst ≡ query = cc (same) in
-      (analyst, queries)
+  query_of : (who : Speaker) (line : List ℕ) (query : Query) → IsLine line → meant_by house who line ≡ wants 0 owner (asks query) → (analyst : ℕ) × (the_query analyst ≡ query)
+  query_of who line query (inl is) meant = never (meant_by house who (codes "hello ann")) query (greeted (codes "ann")) (record who { analyst = Some 0 }) (greets who) (ap (meant_by house who) (sym is) ∙ meant)
+  query_of who line query (inr (inr is)) meant = never (meant_by house who (codes "bye")) query ended no_speaker (ends who) (ap (meant_by house who) (sym is) ∙ meant)
+  query_of who line query (inr (inl is)) meant = spoken who.analyst (sym (asks_size who) ∙ ap (meant_by house who) (sym is) ∙ meant)
+    where
+      spoken : (spoke : Option ℕ) → by_analyst who spoke (λ analyst. wants 0 owner (asks (the_query analyst))) ≡ wants 0 owner (asks query) → (analyst : ℕ) × (the_query analyst ≡ query)
+      spoken None same = never (says (refused (by_line NoHello)) who) query (refused (by_line NoHello)) who refl same
+      spoken (Some analyst) same = let queries : the_query analyst ≡ query = cc (same) in (analyst, queries)
 
   -- ---- what it is worth
 
@@ -125,7 +121,7 @@ module _ (seed many workers : ℕ) (records : List Record) (a : IsAnsweredOver (
   crew = crew_of workers 0 (script_blocks (script_of many))
 
   lines : AllByRecursion IsLine (map (λ (t : Turn). t.line) (map (λ (y : Exchange). y.turn) a.exchanges))
-  lines = subst (λ (ls : List (List ℕ)). AllByRecursion IsLine ls) (sym (ap (map (λ (t : Turn). t.line)) a.turns ∙ turns_lines (house_for seed many) (script_of many))) (script_lines many)
+  lines = subst (λ (ls : List (List ℕ)). AllByRecursion IsLine ls) (sym (ap (map (λ (t : Turn). t.line)) a.turns ∙ turns_lines (house_for seed many) (script_of many) (map (λ (x : Exchange). x.reply) a.exchanges))) (script_lines many)
 
   -- a settlement that was told is by the query's worth
   told : (query : Query) (analyst : ℕ) (x : Exchange) (p n : ℕ) (outcome : Outcome) (returned : ℕ) → the_query analyst ≡ query → (by : IsReservedBy (draws 0) (the_owner seed many) [] records query x)

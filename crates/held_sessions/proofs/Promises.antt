@@ -3,6 +3,7 @@ use Rattle.std.proofs.Common.{◌≡◌, ℕ, ◌+◌, ◌<◌, List, ◌++◌, 
 use mathlib.Core.List.{IsPrefix}
 use Rattle.journal_records.specs.declared.records.Record.{Record}
 use Rattle.budget_ledger.specs.declared.failure.Failure.{Failure}
+use Rattle.session_laws.specs.AnswerPath.Query.{Source}
 use Rattle.session_laws.specs.OwnerDesk.Passes.{Pass}
 use Rattle.session_laws.specs.OwnerHouse.Owner.{Owner}
 use Rattle.session_laws.specs.OwnerHouse.House.{House, IsOwnerIn}
@@ -47,37 +48,37 @@ module _ (house : House) (draws : ℕ → ℕ → ℕ → ℕ) (o : ℕ) (found 
         each k t at = let m = of_mapped (λ (x : Exchange). x.turn) xs k t at in subst (λ (s : Turn). IsAnalyst house s.who) m.2 (crew_speaker k m.0 m.1)
 
     module _ (owner : Owner) (here : slice_get house.owners o ≡ Some owner) (inside : IsOwnerIn house owner) (all : AreGathered house draws count crew o found xs records) where
-      keep_by : (turns : List Turn) (earlier : List (List ℕ)) → IsFound owner (draws o) earlier found → AreKnown house turns → AreOfTurns turns xs → KeepThePromises house draws o found turns count crew owner earlier xs records sittings
+      keep_by : (turns : List Turn) (earlier : List Source) → IsFound owner (draws o) earlier found → AreKnown house turns → AreOfTurns turns xs → KeepThePromises house draws o found turns count crew owner earlier xs records sittings
       keep_by turns earlier begun known are =
           let honoured : AreHonoured house draws turns count crew o owner found earlier xs records = lines_kept house draws turns count crew o owner found earlier xs records here inside begun known are all in
           record {
             honoured = honoured;
             each = λ i lt.
                 let s = shifts i lt in
-                (row_kept house draws o owner here found (earlier ++ honoured.sources.programs) records (sittings i) s.before s.after s.follow s.opened s.begins s.stands
-                (subst (λ (ys : List Exchange). AreHeldTo house o (earlier ++ honoured.sources.programs) records ys) s.lines
-                (part_all (λ (x : Exchange). IsHeldTo o (earlier ++ honoured.sources.programs) records (meant_at house x.turn) x) crew i 0 xs honoured.replied.held))).0;
+                (row_kept house draws o owner here found (earlier ++ honoured.sources.behind) records (sittings i) s.before s.after s.follow s.opened s.begins s.stands
+                (subst (λ (ys : List Exchange). AreHeldTo house o (earlier ++ honoured.sources.behind) records ys) s.lines
+                (part_all (λ (x : Exchange). IsHeldTo o (earlier ++ honoured.sources.behind) records (meant_at house x.turn) x) crew i 0 xs honoured.replied.held))).0;
           }
 
-      pub crew_keeps : (earlier : List (List ℕ)) → IsFound owner (draws o) earlier found → KeepThePromises house draws o found (map (λ (x : Exchange). x.turn) xs) count crew owner earlier xs records sittings
+      pub crew_keeps : (earlier : List Source) → IsFound owner (draws o) earlier found → KeepThePromises house draws o found (map (λ (x : Exchange). x.turn) xs) count crew owner earlier xs records sittings
       crew_keeps earlier begun = keep_by (map (λ (x : Exchange). x.turn) xs) earlier begun crew_known refl
 
       pub crew_owed : MayBeFound owner found → IsOwed owner found records
       crew_owed may = lines_owed house draws (map (λ (x : Exchange). x.turn) xs) count crew o owner found xs records here inside may crew_known refl all
 
 -- A session by itself, whose lines are a stretch of some worker's.
-pub stretch_kept : (house : House) (draws : ℕ → ℕ → ℕ → ℕ) (turns : List Turn) (count : ℕ) (crew : ℕ → ℕ) (o : ℕ) (owner : Owner) (found : List Record) (earlier : List (List ℕ)) (xs : List Exchange) (records : List Record)
+pub stretch_kept : (house : House) (draws : ℕ → ℕ → ℕ → ℕ) (turns : List Turn) (count : ℕ) (crew : ℕ → ℕ) (o : ℕ) (owner : Owner) (found : List Record) (earlier : List Source) (xs : List Exchange) (records : List Record)
     → slice_get house.owners o ≡ Some owner → (h : AreHonoured house draws turns count crew o owner found earlier xs records)
     → (i : ℕ) (front later : List Exchange) (s : Sitting house draws) → part_of crew i 0 xs ≡ front ++ exchanges_in house draws s ++ later
     → (pass_at s.before o).opened.ledger.found ≡ found → IsPrefix found (pass_at s.before o).seen → IsPrefix (pass_at s.after o).seen records
-    → IsKept house draws o found (earlier ++ h.sources.programs) records s
+    → IsKept house draws o found (earlier ++ h.sources.behind) records s
 stretch_kept house draws turns count crew o owner found earlier xs records here h i front later s part opened begins stands =
-    let programs : List (List ℕ) = earlier ++ h.sources.programs in
+    let sources : List Source = earlier ++ h.sources.behind in
     let mine : List Exchange = exchanges_in house draws s in
-    let all : AreHeldTo house o programs records (front ++ mine ++ later)
-    = subst (λ (ys : List Exchange). AreHeldTo house o programs records ys) part (part_all (λ (x : Exchange). IsHeldTo o programs records (meant_at house x.turn) x) crew i 0 xs h.replied.held) in
-    let upto = (all_split (λ (x : Exchange). IsHeldTo o programs records (meant_at house x.turn) x) (front ++ mine) later all).0 in
-    one_kept house draws o owner here found programs records s opened begins stands (all_split (λ (x : Exchange). IsHeldTo o programs records (meant_at house x.turn) x) front mine upto).1
+    let all : AreHeldTo house o sources records (front ++ mine ++ later)
+    = subst (λ (ys : List Exchange). AreHeldTo house o sources records ys) part (part_all (λ (x : Exchange). IsHeldTo o sources records (meant_at house x.turn) x) crew i 0 xs h.replied.held) in
+    let upto = (all_split (λ (x : Exchange). IsHeldTo o sources records (meant_at house x.turn) x) (front ++ mine) later all).0 in
+    one_kept house draws o owner here found sources records s opened begins stands (all_split (λ (x : Exchange). IsHeldTo o sources records (meant_at house x.turn) x) front mine upto).1
 
 -- One worker's sessions, on books that were opened for them and closed behind them.
 module _ (house : House) (draws : ℕ → ℕ → ℕ → ℕ) (sittings : List (Sitting house draws)) (before after : List Pass) (records : Journals) (closed : ℕ → Option Failure)
@@ -102,7 +103,7 @@ module _ (house : House) (draws : ℕ → ℕ → ℕ → ℕ) (sittings : List 
     stands = (held.shut o owner here).later;
   }
 
-  pub row_keeps : (earlier : List (List ℕ)) → IsOwnerIn house owner → IsFound owner (draws o) earlier begun
+  pub row_keeps : (earlier : List Source) → IsOwnerIn house owner → IsFound owner (draws o) earlier begun
       → KeepThePromises house draws o begun (all_turns house draws sittings) 1 one_worker owner earlier exchanges (records o) (λ i. sittings)
   row_keeps earlier inside explained =
       keep_by house draws o begun 1 one_worker (λ i. sittings) exchanges (records o) (λ at. omega arith) one_shift owner here inside row_gathered.0 (all_turns house draws sittings) earlier explained

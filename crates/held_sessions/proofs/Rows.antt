@@ -5,6 +5,7 @@ use Rattle.std.proofs.lemmas.List.{map-append}
 use mathlib.Core.List.{IsPrefix}
 use Rattle.journal_records.specs.declared.records.Record.{Record}
 use Rattle.budget_ledger.specs.Account.{Account}
+use Rattle.session_laws.specs.AnswerPath.Query.{Source}
 use Rattle.session_laws.specs.OwnerDesk.Passes.{Pass}
 use Rattle.session_laws.specs.OwnerHouse.Owner.{Owner}
 use Rattle.session_laws.specs.OwnerHouse.House.{House}
@@ -48,11 +49,11 @@ module _ (house : House) (draws : ℕ → ℕ → ℕ → ℕ) where
   pub row_known : (sittings : List (Sitting house draws)) → AreKnown house (all_turns house draws sittings)
   row_known [] = tt
   row_known (s ∷ sittings) =
-      all_append (λ (t : Turn). IsAnalyst house t.who) (turns_in house draws s) (all_turns house draws sittings) (turns_known house s.session.answered) (row_known sittings)
+      all_append (λ (t : Turn). IsAnalyst house t.who) (turns_in house draws s) (all_turns house draws sittings) (turns_known house s.session.answered (map (λ (x : Exchange). x.reply) (mine s))) (row_known sittings)
 
-  module _ (o : ℕ) (owner : Owner) (here : slice_get house.owners o ≡ Some owner) (found : List Record) (programs : List (List ℕ)) (records : List Record) where
+  module _ (o : ℕ) (owner : Owner) (here : slice_get house.owners o ≡ Some owner) (found : List Record) (sources : List Source) (records : List Record) where
     abbrev Kept : Sitting house draws → Type 0
-    Kept s = IsKept house draws o found programs records s
+    Kept s = IsKept house draws o found sources records s
 
     goes : (s : Sitting house draws) → GoesOn house draws o (mine s) (pass_at s.before o) (pass_at s.after o)
     goes s = s.session.told.served.owners o owner here
@@ -68,7 +69,7 @@ module _ (house : House) (draws : ℕ → ℕ → ℕ → ℕ) where
 
     -- A session keeps the promises that its lines keep ..
     pub one_kept : (s : Sitting house draws) → (pass_at s.before o).opened.ledger.found ≡ found → IsPrefix found (pass_at s.before o).seen → IsPrefix (pass_at s.after o).seen records
-        → AreHeldTo house o programs records (exchanges_in house draws s) → Kept s
+        → AreHeldTo house o sources records (exchanges_in house draws s) → Kept s
     one_kept s opened begins stands held = record {
       begins = begins;
       held = held;
@@ -78,11 +79,11 @@ module _ (house : House) (draws : ℕ → ℕ → ℕ → ℕ) where
 
     -- .. and so does each of several.
     pub row_kept : (sittings : List (Sitting house draws)) (before after : List Pass) → FollowOn house draws before sittings after → (pass_at before o).opened.ledger.found ≡ found → IsPrefix found (pass_at before o).seen
-        → IsPrefix (pass_at after o).seen records → AreHeldTo house o programs records (all_exchanges house draws sittings)
+        → IsPrefix (pass_at after o).seen records → AreHeldTo house o sources records (all_exchanges house draws sittings)
         → AllByRecursion Kept sittings × IsPrefix (pass_at before o).seen records
     row_kept [] before after is opened begins ends held = (tt, subst (λ (p : List Pass). IsPrefix (pass_at p o).seen records) is ends)
     row_kept (s ∷ sittings) before after (at, row) opened begins ends held =
-        let split = all_split (λ (x : Exchange). IsHeldTo o programs records (meant_at house x.turn) x) (mine s) (all sittings) held in
+        let split = all_split (λ (x : Exchange). IsHeldTo o sources records (meant_at house x.turn) x) (mine s) (all sittings) held in
         let opened_here : (pass_at s.before o).opened.ledger.found ≡ found = ap (λ (p : List Pass). (pass_at p o).opened.ledger.found) at ∙ opened in
         let begins_here : IsPrefix found (pass_at s.before o).seen = subst (λ (p : List Pass). IsPrefix found (pass_at p o).seen) (sym at) begins in
         let on : IsPrefix (pass_at s.before o).seen (pass_at s.after o).seen = seen_grows s opened_here in

@@ -3,6 +3,7 @@ use Rattle.std.proofs.Common.{◌≡◌, ℕ, zero, suc, List, [], ◌∷◌, ma
 use mathlib.Core.List.{IsPrefix}
 use Rattle.journal_records.specs.declared.records.Record.{Record}
 use Rattle.budget_ledger.specs.declared.failure.Failure.{Failure}
+use Rattle.session_laws.specs.AnswerPath.Query.{Source}
 use Rattle.session_laws.specs.OwnerDesk.Passes.{Pass}
 use Rattle.session_laws.specs.OwnerHouse.Owner.{Owner}
 use Rattle.session_laws.specs.OwnerHouse.House.{House, IsOwnerIn}
@@ -48,7 +49,7 @@ module _ (house : House) (draws : ℕ → ℕ → ℕ → ℕ) (count : ℕ) (si
       × AreShifts house draws o found count h.crew sittings h.exchanges (records o)
   together = (all_gathered.0, all_gathered.1, shifts)
 
-  pub together_keep : (earlier : List (List ℕ)) → IsOwnerIn house owner → IsFound owner (draws o) earlier found
+  pub together_keep : (earlier : List Source) → IsOwnerIn house owner → IsFound owner (draws o) earlier found
       → KeepThePromises house draws o found (map (λ (x : Exchange). x.turn) h.exchanges) count h.crew owner earlier h.exchanges (records o) sittings
   together_keep earlier inside explained = crew_keeps house draws o found count h.crew sittings h.exchanges (records o) h.crews shifts owner here inside all_gathered.0 earlier explained
 

@@ -5,6 +5,7 @@ use mathlib.Core.List.{IsPrefix}
 use Rattle.journal_records.specs.declared.records.Record.{Record}
 use Rattle.budget_ledger.specs.declared.failure.Failure.{Failure}
 use Rattle.session_laws.specs.OwnerDesk.Passes.{Pass}
+use Rattle.session_laws.specs.AnswerPath.Query.{Source}
 use Rattle.session_laws.specs.OwnerHouse.Owner.{Owner}
 use Rattle.session_laws.specs.OwnerHouse.House.{House}
 use Rattle.session_laws.specs.SessionCore.Turns.{Turn}
@@ -28,9 +29,9 @@ module _ (house : House) (draws : ℕ → ℕ → ℕ → ℕ) (o : ℕ) (found 
   -- What one session keeps to the owner of this number, of which a run found these records: what its lines added stands in the owner's
   -- records, which bear out their replies; each reply is the stated one on records that begin with what the session's pass had seen,
   -- and grow along its lines; and what the pass had seen after it stands in the records.
-  pub record IsKept (programs : List (List ℕ)) (records : List Record) (sitting : Sitting house draws) : Type 0 where
+  pub record IsKept (sources : List Source) (records : List Record) (sitting : Sitting house draws) : Type 0 where
     pub begins : IsPrefix found (pass_at sitting.before o).seen
-    pub held : AreHeldTo house o programs records (exchanges_in house draws sitting)
+    pub held : AreHeldTo house o sources records (exchanges_in house draws sitting)
     pub grows : AreGrowingFrom house draws o (first_new found) (pass_at sitting.before o).seen (exchanges_in house draws sitting) records
     pub stands : IsPrefix (pass_at sitting.after o).seen records
 
@@ -51,9 +52,9 @@ module _ (house : House) (draws : ℕ → ℕ → ℕ → ℕ) (o : ℕ) (found 
   AreShifts count crew sittings xs records = (i : ℕ) → i < count → IsShift (sittings i) (part_of crew i 0 xs) records
 
   -- The lines of all workers' sessions keep the promises to the owner, with these turns; and so does each session by itself, by the same
-  -- programs.
-  pub record KeepThePromises (turns : List Turn) (count : ℕ) (crew : ℕ → ℕ) (owner : Owner) (earlier : List (List ℕ)) (xs : List Exchange)
+  -- sources.
+  pub record KeepThePromises (turns : List Turn) (count : ℕ) (crew : ℕ → ℕ) (owner : Owner) (earlier : List Source) (xs : List Exchange)
       (records : List Record) (sittings : ℕ → List (Sitting house draws)) : Type 0 where
     pub honoured : AreHonoured house draws turns count crew o owner found earlier xs records
     pub each : (i : ℕ) → i < count
-        → AllByRecursion (λ sitting. IsKept (earlier ++ honoured.sources.programs) records sitting) (sittings i)
+        → AllByRecursion (λ sitting. IsKept (earlier ++ honoured.sources.behind) records sitting) (sittings i)

@@ -1,5 +1,5 @@
 -- Sessions that were held one after another on the same passes, and what they come to.
-use Rattle.std.specs.Prelude.{◌≡◌, ◌⊎◌, ℕ, ◌+◌, ◌-◌, nat_lt, if◌then◌else◌, List, [], ◌∷◌, length, take, Bool, false}
+use Rattle.std.specs.Prelude.{◌≡◌, ◌⊎◌, ℕ, ◌+◌, ◌-◌, nat_lt, if◌then◌else◌, List, [], ◌∷◌, length, map, take, Bool, false}
 use Rattle.std.specs.List.{flat_map}
 use mathlib.Core.List.{IsPrefix}
 use Rattle.outside_links.specs.Links.{Connection}
@@ -31,7 +31,7 @@ module _ (house : House) (draws : ℕ → ℕ → ℕ → ℕ) where
   exchanges_in sitting = sitting.session.told.exchanges
 
   abbrev pub turns_in : Sitting house draws → List Turn
-  turns_in sitting = turns_of house sitting.session.answered
+  turns_in sitting = turns_of house sitting.session.answered (map (λ (x : Exchange). x.reply) (exchanges_in sitting))
 
   -- One session after another, each on the passes as the one before left them.
   abbrev pub FollowOn : (before : List Pass) → List (Sitting house draws) → (after : List Pass) → Type 0

@@ -4,6 +4,7 @@ ghost use Rattle.std.specs.Prelude.{◌≡◌, ℕ, ◌<◌, MatchBool, List, �
 ghost use mathlib.Core.List.{IsPrefix};
 ghost use Rattle.journal_records.specs.declared.records.Record.{Record};
 ghost use Rattle.budget_ledger.specs.declared.failure.Failure.{Failure};
+ghost use Rattle.session_laws.specs.AnswerPath.Query.{Source};
 ghost use Rattle.session_laws.specs.OwnerDesk.Passes.{Pass};
 ghost use Rattle.session_laws.specs.OwnerHouse.Owner.{Owner};
 ghost use Rattle.session_laws.specs.OwnerHouse.House.{House, IsOwnerIn};
@@ -44,26 +45,26 @@ pub fn replies_are_written_out()
 pub fn sessions_keep_the_promises()
     ensures one { (house : House) (draws : ℕ → ℕ → ℕ → ℕ) (sittings : List (Sitting house draws)) (before after : List Pass) (records : Journals) →
         (closed : ℕ → Option Failure) → AreHeld house draws sittings before after records closed →
-        (o : ℕ) (owner : Owner) → slice_get house.owners o ≡ Some owner → (earlier : List (List ℕ)) → IsOwnerIn house owner →
+        (o : ℕ) (owner : Owner) → slice_get house.owners o ≡ Some owner → (earlier : List Source) → IsOwnerIn house owner →
         IsFound owner (draws o) earlier (found_by before o) →
         KeepThePromises house draws o (found_by before o) (all_turns house draws sittings) 1 one_worker owner earlier
         (all_exchanges house draws sittings) (records o) (λ i. sittings) }
     ensures several { (house : House) (draws : ℕ → ℕ → ℕ → ℕ) (o : ℕ) (found : List Record) (count : ℕ) (crew : ℕ → ℕ) →
-        (sittings : ℕ → List (Sitting house draws)) (xs : List Exchange) (records : List Record) (owner : Owner) (earlier : List (List ℕ)) →
+        (sittings : ℕ → List (Sitting house draws)) (xs : List Exchange) (records : List Record) (owner : Owner) (earlier : List Source) →
         slice_get house.owners o ≡ Some owner → IsOwnerIn house owner → IsFound owner (draws o) earlier found →
         AreGathered house draws count crew o found xs records → AreShifts house draws o found count crew sittings xs records →
         KeepThePromises house draws o found (map (λ x. x.turn) xs) count crew owner earlier xs records sittings }
     ensures stretch { (house : House) (draws : ℕ → ℕ → ℕ → ℕ) (turns : List Turn) (count : ℕ) (crew : ℕ → ℕ) (o : ℕ) (owner : Owner) →
-        (found : List Record) (earlier : List (List ℕ)) (xs : List Exchange) (records : List Record) → slice_get house.owners o ≡ Some owner →
+        (found : List Record) (earlier : List Source) (xs : List Exchange) (records : List Record) → slice_get house.owners o ≡ Some owner →
         (h : AreHonoured house draws turns count crew o owner found earlier xs records) →
         (i : ℕ) (front later : List Exchange) (sitting : Sitting house draws) →
         part_of crew i 0 xs ≡ front ++ exchanges_in house draws sitting ++ later →
         (pass_at sitting.before o).opened.ledger.found ≡ found → IsPrefix found (pass_at sitting.before o).seen →
         IsPrefix (pass_at sitting.after o).seen records →
-        IsKept house draws o found (earlier ++ h.sources.programs) records sitting }
+        IsKept house draws o found (earlier ++ h.sources.behind) records sitting }
 {}
 
-/// What is owed to an owner at every end is so behind sessions, too, whatever programs are behind the records found.
+/// What is owed to an owner at every end is so behind sessions, too, whatever sources are behind the records found.
 pub fn sessions_are_owed()
     ensures one { (house : House) (draws : ℕ → ℕ → ℕ → ℕ) (sittings : List (Sitting house draws)) (before after : List Pass) (records : Journals) →
         (closed : ℕ → Option Failure) → AreHeld house draws sittings before after records closed →
@@ -90,7 +91,7 @@ pub fn workers_keep_the_promises()
     ensures kept { (house : House) (draws : ℕ → ℕ → ℕ → ℕ) (count : ℕ) (sittings : ℕ → List (Sitting house draws)) (ends : ℕ → List Pass) →
         (before after : List Pass) (records : Journals) (closed : ℕ → Option Failure) → AreFresh house before →
         (h : AreHeldBy house draws count sittings ends before after) → AreClosed house after records closed →
-        (o : ℕ) (owner : Owner) → slice_get house.owners o ≡ Some owner → (earlier : List (List ℕ)) → IsOwnerIn house owner →
+        (o : ℕ) (owner : Owner) → slice_get house.owners o ≡ Some owner → (earlier : List Source) → IsOwnerIn house owner →
         IsFound owner (draws o) earlier (found_by before o) →
         KeepThePromises house draws o (found_by before o) (map (λ x. x.turn) h.exchanges) count h.crew owner earlier h.exchanges (records o) sittings }
     ensures owed { (house : House) (draws : ℕ → ℕ → ℕ → ℕ) (count : ℕ) (sittings : ℕ → List (Sitting house draws)) (ends : ℕ → List Pass) →

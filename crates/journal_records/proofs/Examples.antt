@@ -7,10 +7,11 @@ use Rattle.partition_charge.specs.Views.{IsView}
 use Rattle.partition_charge.specs.declared.view.View.TheVariants.{Whole, Part}
 use Rattle.journal_records.specs.declared.records.Outcome.TheVariants.{Answered, Exhausted, Lost}
 use Rattle.journal_records.specs.declared.records.Reservation.{Reservation}
+use Rattle.journal_records.specs.declared.records.MadePartition.{MadePartition}
 use Rattle.journal_records.specs.declared.records.Record.{Record}
-use Rattle.journal_records.specs.declared.records.Record.TheVariants.{Reserve, Settle, Grant}
-use Rattle.journal_records.specs.Records.{reservation_in, settlement_in, grant_in, outcome_in, settling_back, settling, is_some_and, number_or_zero}
-use Rattle.journal_records.specs.Encoding.{encoded, encoded_header, partition_byte, part_low_byte, part_high_byte, IsValid, AreChargeTerms, IsReservation, IsSettlement, IsGrant, IsHeader}
+use Rattle.journal_records.specs.declared.records.Record.TheVariants.{Reserve, Settle, Grant, Define}
+use Rattle.journal_records.specs.Records.{reservation_in, settlement_in, grant_in, define_in, outcome_in, settling_back, settling, is_some_and, number_or_zero}
+use Rattle.journal_records.specs.Encoding.{encoded, encoded_header, partition_byte, part_low_byte, part_high_byte, IsValid, AreChargeTerms, AreMadeTerms, IsReservation, IsSettlement, IsGrant, IsMadePartition, IsHeader}
 use Rattle.journal_records.proofs.Shapes.{digest-replicate}
 
 -- ---- reservations
@@ -30,7 +31,7 @@ first_digest = refl
 abbrev greatest : Reservation
 greatest = record {
   number = 4294967295;
-  view = Part 7 3999;
+  view = Part 254 3999;
   e = 1000000000;
   p = 4294967295;
   q = 4294967294;
@@ -40,7 +41,7 @@ greatest = record {
 }
 
 greatest_bytes : encoded (Reserve greatest) ≡
-    (165 ∷ 1 ∷ 7 ∷ 159 ∷ []) ++ replicate 4 255 ++ (59 ∷ 154 ∷ 202 ∷ 0 ∷ []) ++ replicate 4 255 ++ (255 ∷ 255 ∷ 255 ∷ 254 ∷ [])
+    (165 ∷ 1 ∷ 254 ∷ 159 ∷ []) ++ replicate 4 255 ++ (59 ∷ 154 ∷ 202 ∷ 0 ∷ []) ++ replicate 4 255 ++ (255 ∷ 255 ∷ 255 ∷ 254 ∷ [])
     ++ replicate 8 255 ++ (255 ∷ 255 ∷ 15 ∷ 0 ∷ []) ++ replicate 32 255
 greatest_bytes = refl
 
@@ -95,6 +96,8 @@ view-written (Settle s) partition low high last valid is =
     let kind : 2 ≡ 1 = ap (λ (b : List ℕ). slice_index b 1) is in absurd (omega (arith, kind))
 view-written (Grant g) partition low high last valid is =
     let kind : 3 ≡ 1 = ap (λ (b : List ℕ). slice_index b 1) is in absurd (omega (arith, kind))
+view-written (Define d) partition low high last valid is =
+    let kind : 4 ≡ 1 = ap (λ (b : List ℕ). slice_index b 1) is in absurd (omega (arith, kind))
 
 -- So no record has the bytes of part 4,000, of the whole with a part's high byte, or where byte 31 is not zero: those decode to nothing.
 nothing_of_part_4000 : (r : Record) → IsValid r → encoded r ≡ written 3 160 15 0 → ⊥
@@ -151,6 +154,25 @@ greatest_grant : encoded (Grant (record { number = 0; amount = 10000000000000000
     (165 ∷ 3 ∷ []) ++ replicate 6 0 ++ (13 ∷ 224 ∷ 182 ∷ 179 ∷ 167 ∷ 100 ∷ 0 ∷ 0 ∷ []) ++ replicate 48 0
 greatest_grant = refl
 
+-- ---- made partitions
+
+-- the first one, of the first table, with two keys
+abbrev first_made : MadePartition
+first_made = record { partition = 8; table = 0; keys = 2; analyst = 0; digest = replicate 32 9 }
+
+first_made_bytes : encoded (Define first_made) ≡ (165 ∷ 4 ∷ 8 ∷ 0 ∷ 0 ∷ 2 ∷ []) ++ replicate 26 0 ++ replicate 32 9
+first_made_bytes = refl
+
+-- bytes in order: each field has its place
+placed_made : encoded (Define (record { partition = 16; table = 3; keys = 1286; analyst = 4386; digest = replicate 32 7 })) ≡
+    (165 ∷ 4 ∷ 16 ∷ 3 ∷ 5 ∷ 6 ∷ []) ++ replicate 22 0 ++ (17 ∷ 34 ∷ 0 ∷ 0 ∷ []) ++ replicate 32 7
+placed_made = refl
+
+-- the greatest of each
+last_made_bytes : encoded (Define (record { partition = 254; table = 7; keys = 250; analyst = 65535; digest = replicate 32 255 })) ≡
+    (165 ∷ 4 ∷ 254 ∷ 7 ∷ 0 ∷ 250 ∷ []) ++ replicate 22 0 ++ (255 ∷ 255 ∷ 0 ∷ 0 ∷ []) ++ replicate 32 255
+last_made_bytes = refl
+
 -- ---- what a record is of
 
 reserves_the_first : reservation_in (Reserve first) ≡ Some first
@@ -179,6 +201,27 @@ reserves_by_no_grant = refl
 
 settles_by_no_grant : settlement_in (Grant (record { number = 0; amount = 7 })) ≡ None
 settles_by_no_grant = refl
+
+makes_the_first : define_in (Define first_made) ≡ Some first_made
+makes_the_first = refl
+
+makes_by_no_reservation : define_in (Reserve first) ≡ None
+makes_by_no_reservation = refl
+
+makes_by_no_settlement : define_in (settling 5 Lost) ≡ None
+makes_by_no_settlement = refl
+
+makes_by_no_grant : define_in (Grant (record { number = 0; amount = 7 })) ≡ None
+makes_by_no_grant = refl
+
+reserves_by_no_definition : reservation_in (Define first_made) ≡ None
+reserves_by_no_definition = refl
+
+settles_by_no_definition : settlement_in (Define first_made) ≡ None
+settles_by_no_definition = refl
+
+grants_by_no_definition : grant_in (Define first_made) ≡ None
+grants_by_no_definition = refl
 
 settled_so : outcome_in (settling 5 (Answered (negsuc 0))) ≡ Some (Answered (negsuc 0))
 settled_so = refl
@@ -257,7 +300,7 @@ number_too_high valid = let h = valid.numbered in omega (arith, h)
 no_such_part : IsReservation (record first { view = Part 0 4000 }) → ⊥
 no_such_part valid = let h = valid.viewed.1 in omega (arith, h)
 
-no_such_partition : IsReservation (record first { view = Part 8 0 }) → ⊥
+no_such_partition : IsReservation (record first { view = Part 255 0 }) → ⊥
 no_such_partition valid = let h = valid.viewed.0 in omega (arith, h)
 
 no_such_analyst : IsReservation (record first { analyst = 65536 }) → ⊥
@@ -298,6 +341,41 @@ too_great_a_grant_number valid = let h = valid.numbered in omega (arith, h)
 
 too_wide_an_amount : IsGrant (record { number = 0; amount = 18446744073709551616 }) → ⊥
 too_wide_an_amount valid = let h = valid.bounded in omega (arith, h)
+
+-- a partition from 8 to 254, of a table from 0 to 7, with 1 to 250 keys
+first_terms : AreMadeTerms 8 0 1
+first_terms = record { behind = omega arith; within = omega arith; of_table = omega arith; some = omega arith; few = omega arith }
+
+last_terms : AreMadeTerms 254 7 250
+last_terms = record { behind = omega arith; within = omega arith; of_table = omega arith; some = omega arith; few = omega arith }
+
+of_the_catalog : AreMadeTerms 7 0 1 → ⊥
+of_the_catalog terms = let h = terms.behind in omega (arith, h)
+
+past_the_last : AreMadeTerms 255 0 1 → ⊥
+past_the_last terms = let h = terms.within in omega (arith, h)
+
+of_table_8 : AreMadeTerms 8 8 1 → ⊥
+of_table_8 terms = let h = terms.of_table in omega (arith, h)
+
+of_no_key : AreMadeTerms 8 0 0 → ⊥
+of_no_key terms = let h = terms.some in omega (arith, h)
+
+of_251_keys : AreMadeTerms 8 0 251 → ⊥
+of_251_keys terms = let h = terms.few in omega (arith, h)
+
+first_made_valid : IsMadePartition first_made
+first_made_valid = record {
+  terms = record { behind = omega arith; within = omega arith; of_table = omega arith; some = omega arith; few = omega arith };
+  defined = omega arith;
+  hashed = digest-replicate 9 (omega arith);
+}
+
+no_such_definer : IsMadePartition (record first_made { analyst = 65536 }) → ⊥
+no_such_definer valid = let h = valid.defined in omega (arith, h)
+
+short_definition : IsMadePartition (record first_made { digest = replicate 31 9 }) → ⊥
+short_definition valid = let h : 31 ≡ 32 = valid.hashed.0 in omega (arith, h)
 
 full_header : IsHeader (record { owner = 4294967295; budget = 18446744073709551615; capacity = 4294967295; digest = replicate 32 255; version = 3 })
 full_header = record { owner = omega arith; budget = omega arith; capacity = omega arith; digest = digest-replicate 255 (omega arith); version = (omega arith, omega arith) }

@@ -10,7 +10,7 @@ use Rattle.partition_charge.specs.Views.{IsView}
 use Rattle.journal_records.specs.declared.records.Outcome.{Outcome}
 use Rattle.journal_records.specs.declared.records.Outcome.TheVariants.{Answered, Exhausted, Lost}
 use Rattle.journal_records.specs.declared.records.Record.{Record}
-use Rattle.journal_records.specs.declared.records.Record.TheVariants.{Reserve, Settle, Grant}
+use Rattle.journal_records.specs.declared.records.Record.TheVariants.{Reserve, Settle, Grant, Define}
 
 view-one : (v w : View) → IsView v → IsView w → partition_byte v ≡ partition_byte w → part_low_byte v ≡ part_low_byte w → part_high_byte v ≡ part_high_byte w → v ≡ w
 view-one Whole Whole a b p low high = refl
@@ -75,9 +75,24 @@ record-one (Grant g) (Grant h) x y is =
     let i2 : g.amount ≡ h.amount = sym (from_be_bytes-to_be_bytes_8 g.amount x.bounded) ∙ ap (λ (b : List ℕ). from_be_bytes w64 (take 8 (drop 8 b))) is
     ∙ from_be_bytes-to_be_bytes_8 h.amount y.bounded in
     λ i. Grant (record { number = i1 i; amount = i2 i })
+record-one (Define d) (Define e) x y is =
+    let i1 : d.partition ≡ e.partition = ap (λ (b : List ℕ). slice_index b 2) is in
+    let i2 : d.table ≡ e.table = ap (λ (b : List ℕ). slice_index b 3) is in
+    let i3 : d.keys ≡ e.keys = sym (from_be_bytes-to_be_bytes_2 d.keys (omega (arith, x.terms.few))) ∙ ap (λ (b : List ℕ). from_be_bytes w16 (take 2 (drop 4 b))) is
+    ∙ from_be_bytes-to_be_bytes_2 e.keys (omega (arith, y.terms.few)) in
+    let i4 : d.analyst ≡ e.analyst = sym (from_be_bytes-to_be_bytes_2 d.analyst x.defined) ∙ ap (λ (b : List ℕ). from_be_bytes w16 (take 2 (drop 28 b))) is
+    ∙ from_be_bytes-to_be_bytes_2 e.analyst y.defined in
+    let i5 : d.digest ≡ e.digest = ap (λ (b : List ℕ). drop 32 b) is in
+    λ i. Define (record { partition = i1 i; table = i2 i; keys = i3 i; analyst = i4 i; digest = i5 i })
 record-one (Reserve r) (Settle s) x y is = absurd (kinds 1 2 _ _ (ap (λ (b : List ℕ). slice_index b 1) is) refl refl (omega arith))
 record-one (Settle s) (Reserve r) x y is = absurd (kinds 1 2 _ _ (ap (λ (b : List ℕ). slice_index b 1) (sym is)) refl refl (omega arith))
 record-one (Reserve r) (Grant g) x y is = absurd (kinds 1 3 _ _ (ap (λ (b : List ℕ). slice_index b 1) is) refl refl (omega arith))
 record-one (Grant g) (Reserve r) x y is = absurd (kinds 1 3 _ _ (ap (λ (b : List ℕ). slice_index b 1) (sym is)) refl refl (omega arith))
 record-one (Settle s) (Grant g) x y is = absurd (kinds 2 3 _ _ (ap (λ (b : List ℕ). slice_index b 1) is) refl refl (omega arith))
 record-one (Grant g) (Settle s) x y is = absurd (kinds 2 3 _ _ (ap (λ (b : List ℕ). slice_index b 1) (sym is)) refl refl (omega arith))
+record-one (Reserve r) (Define d) x y is = absurd (kinds 1 4 _ _ (ap (λ (b : List ℕ). slice_index b 1) is) refl refl (omega arith))
+record-one (Define d) (Reserve r) x y is = absurd (kinds 1 4 _ _ (ap (λ (b : List ℕ). slice_index b 1) (sym is)) refl refl (omega arith))
+record-one (Settle s) (Define d) x y is = absurd (kinds 2 4 _ _ (ap (λ (b : List ℕ). slice_index b 1) is) refl refl (omega arith))
+record-one (Define d) (Settle s) x y is = absurd (kinds 2 4 _ _ (ap (λ (b : List ℕ). slice_index b 1) (sym is)) refl refl (omega arith))
+record-one (Grant g) (Define d) x y is = absurd (kinds 3 4 _ _ (ap (λ (b : List ℕ). slice_index b 1) is) refl refl (omega arith))
+record-one (Define d) (Grant g) x y is = absurd (kinds 3 4 _ _ (ap (λ (b : List ℕ). slice_index b 1) (sym is)) refl refl (omega arith))

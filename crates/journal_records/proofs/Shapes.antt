@@ -5,17 +5,19 @@ use Rattle.std.proofs.lemmas.List.{get_or-replicate, get_or_past, length-replica
 use Rattle.journal_records.specs.Encoding.{encoded, encoded_header, gate, IsByteList, IsValid, IsHeader}
 use Rattle.journal_records.specs.declared.records.Header.{Header}
 use Rattle.journal_records.specs.declared.records.Record.{Record}
-use Rattle.journal_records.specs.declared.records.Record.TheVariants.{Reserve, Settle, Grant}
+use Rattle.journal_records.specs.declared.records.Record.TheVariants.{Reserve, Settle, Grant, Define}
 
 pub length-encoded : (r : Record) → IsValid r → length (encoded r) ≡ 64
 length-encoded (Reserve r) valid = omega (arith, valid.hashed.0)
 length-encoded (Settle settlement) valid = refl
 length-encoded (Grant grant) valid = refl
+length-encoded (Define made) valid = omega (arith, valid.hashed.0)
 
 pub encoded-gate : (r : Record) → slice_index (encoded r) 0 ≡ gate
 encoded-gate (Reserve r) = refl
 encoded-gate (Settle settlement) = refl
 encoded-gate (Grant grant) = refl
+encoded-gate (Define made) = refl
 
 pub length-encoded_header : (h : Header) → IsHeader h → length (encoded_header h) ≡ 128
 length-encoded_header h valid = omega (arith, valid.digest.0, length-append h.digest (replicate 32 0), length-replicate {A = ℕ} 32 0)

@@ -3,14 +3,15 @@ use Rattle.std.specs.Prelude.{◌≡◌, ℕ, ◌<◌, ◌≤◌, ◌^◌, ◌/�
 use Rattle.std.specs.Int.{w16, w32, w64, to_be_bytes, cast_unsigned, IsGcd}
 use Rattle.partition_charge.specs.declared.view.View.{View}
 use Rattle.partition_charge.specs.declared.view.View.TheVariants.{Whole, Part}
-use Rattle.partition_charge.specs.Views.{IsView}
+use Rattle.partition_charge.specs.Views.{IsView, partition_limit, partition_range, made_part_limit}
 use Rattle.journal_records.specs.declared.records.Outcome.{Outcome}
 use Rattle.journal_records.specs.declared.records.Outcome.TheVariants.{Answered, Exhausted, Lost}
 use Rattle.journal_records.specs.declared.records.Reservation.{Reservation}
 use Rattle.journal_records.specs.declared.records.Settlement.{Settlement}
 use Rattle.journal_records.specs.declared.records.BudgetGrant.{BudgetGrant}
+use Rattle.journal_records.specs.declared.records.MadePartition.{MadePartition}
 use Rattle.journal_records.specs.declared.records.Record.{Record}
-use Rattle.journal_records.specs.declared.records.Record.TheVariants.{Reserve, Settle, Grant}
+use Rattle.journal_records.specs.declared.records.Record.TheVariants.{Reserve, Settle, Grant, Define}
 use Rattle.journal_records.specs.declared.records.Header.{Header}
 
 -- the byte that opens a header or a slot
@@ -57,6 +58,8 @@ encoded (Settle s) =
     (gate ∷ 2 ∷ outcome_byte s.outcome ∷ 0 ∷ []) ++ to_be_bytes w32 s.number ++ to_be_bytes w64 (answer_number s.outcome)
     ++ to_be_bytes w64 s.returned ++ replicate 40 0
 encoded (Grant g) = (gate ∷ 3 ∷ 0 ∷ 0 ∷ []) ++ to_be_bytes w32 g.number ++ to_be_bytes w64 g.amount ++ replicate 48 0
+encoded (Define d) =
+    (gate ∷ 4 ∷ d.partition ∷ d.table ∷ []) ++ to_be_bytes w16 d.keys ++ replicate 22 0 ++ to_be_bytes w16 d.analyst ++ (0 ∷ 0 ∷ []) ++ d.digest
 
 abbrev pub IsOutcome : Outcome → Type 0
 IsOutcome (Answered z) = FitsSigned w64 z
@@ -102,10 +105,29 @@ pub record IsGrant (g : BudgetGrant) : Type 0 where
   pub numbered : g.number < 2 ^ 32
   pub bounded : g.amount < 2 ^ 64
 
+-- A made partition names its table by a number below this.
+abbrev pub table_range : ℕ
+table_range = 8
+
+-- The number is behind those of a catalog's partitions, and the keys are some, but not too many.
+pub record AreMadeTerms (partition table keys : ℕ) : Type 0 where
+  pub behind : partition_limit ≤ partition
+  pub within : partition < partition_range
+  pub of_table : table < table_range
+  pub some : 1 ≤ keys
+  pub few : keys ≤ made_part_limit
+
+-- what a made partition's fields may be
+pub record IsMadePartition (d : MadePartition) : Type 0 where
+  pub terms : AreMadeTerms d.partition d.table d.keys
+  pub defined : d.analyst < 2 ^ 16
+  pub hashed : IsByteList 32 d.digest
+
 abbrev pub IsValid : Record → Type 0
 IsValid (Reserve r) = IsReservation r
 IsValid (Settle s) = IsSettlement s
 IsValid (Grant g) = IsGrant g
+IsValid (Define d) = IsMadePartition d
 
 -- ---- headers
 

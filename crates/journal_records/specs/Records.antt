@@ -4,26 +4,37 @@ use Rattle.journal_records.specs.declared.records.Outcome.{Outcome}
 use Rattle.journal_records.specs.declared.records.Reservation.{Reservation}
 use Rattle.journal_records.specs.declared.records.Settlement.{Settlement}
 use Rattle.journal_records.specs.declared.records.BudgetGrant.{BudgetGrant}
+use Rattle.journal_records.specs.declared.records.MadePartition.{MadePartition}
 use Rattle.journal_records.specs.declared.records.Record.{Record}
-use Rattle.journal_records.specs.declared.records.Record.TheVariants.{Reserve, Settle, Grant}
+use Rattle.journal_records.specs.declared.records.Record.TheVariants.{Reserve, Settle, Grant, Define}
 
 -- the reservation that a record makes, if it makes one
 abbrev pub reservation_in : Record → Option Reservation
 reservation_in (Reserve reservation) = Some reservation
 reservation_in (Settle settlement) = None
 reservation_in (Grant grant) = None
+reservation_in (Define definition) = None
 
 -- the settlement that a record makes, if it makes one
 abbrev pub settlement_in : Record → Option Settlement
 settlement_in (Reserve reservation) = None
 settlement_in (Settle settlement) = Some settlement
 settlement_in (Grant grant) = None
+settlement_in (Define definition) = None
 
 -- the grant that a record makes, if it makes one
 abbrev pub grant_in : Record → Option BudgetGrant
 grant_in (Reserve reservation) = None
 grant_in (Settle settlement) = None
 grant_in (Grant grant) = Some grant
+grant_in (Define definition) = None
+
+-- the partition that a record makes, if it makes one
+abbrev pub define_in : Record → Option MadePartition
+define_in (Reserve reservation) = None
+define_in (Settle settlement) = None
+define_in (Grant grant) = None
+define_in (Define definition) = Some definition
 
 -- how a record settles its number, if it settles one
 abbrev pub outcome_in : Record → Option Outcome

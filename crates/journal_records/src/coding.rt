@@ -1,11 +1,13 @@
 //! Encoding and decoding.
 
 ghost use Rattle.std.specs.Prelude.{◌≡◌};
-ghost use Rattle.journal_records.specs.declared.records.Record.TheVariants.{Reserve, Settle, Grant};
+ghost use Rattle.journal_records.specs.declared.records.Record.TheVariants.{Reserve, Settle, Grant, Define};
 ghost use Rattle.journal_records.specs.Encoding.{encoded, encoded_header, partition_byte, part_low_byte, part_high_byte, outcome_byte, answer_number};
 
 use crate::fields::put;
-use crate::records::{BudgetGrant, Header, Outcome, Record, Reservation, Settlement};
+use crate::records::{
+    BudgetGrant, Header, MadePartition, Outcome, Record, Reservation, Settlement,
+};
 use partition_charge::view::View;
 
 /// The length of a record.
@@ -78,6 +80,18 @@ fn encode_grant(grant: &BudgetGrant, out: &mut [u8; 64])
     put(out, 16, &[0; 48]);
 }
 
+// The encoding of a made partition.
+fn encode_made(made: &MadePartition, out: &mut [u8; 64])
+    ensures { out.new ≡ encoded (Define made.now) }
+{
+    put(out, 0, &[GATE, 4, made.partition, made.table]);
+    put(out, 4, &made.keys.to_be_bytes());
+    put(out, 6, &[0; 22]);
+    put(out, 28, &made.analyst.to_be_bytes());
+    put(out, 30, &[0, 0]);
+    put(out, 32, &made.digest);
+}
+
 /// Writes the encoding of a record.
 pub fn encode(record_in: &Record, out: &mut [u8; 64])
     ensures { out.new ≡ encoded record_in.now }
@@ -86,6 +100,7 @@ pub fn encode(record_in: &Record, out: &mut [u8; 64])
         Record::Reserve(reservation) => encode_reservation(reservation, out),
         Record::Settle(settlement) => encode_settlement(settlement, out),
         Record::Grant(grant) => encode_grant(grant, out),
+        Record::Define(made) => encode_made(made, out),
     }
 }
 

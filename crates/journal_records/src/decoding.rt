@@ -8,16 +8,19 @@ ghost use Rattle.journal_records.specs.declared.records.Record.{Record as Record
 ghost use Rattle.journal_records.specs.declared.records.Reservation.{Reservation as Reservations};
 ghost use Rattle.journal_records.specs.declared.records.Settlement.{Settlement as Settlements};
 ghost use Rattle.journal_records.specs.declared.records.BudgetGrant.{BudgetGrant as BudgetGrants};
+ghost use Rattle.journal_records.specs.declared.records.MadePartition.{MadePartition as MadePartitions};
 ghost use Rattle.journal_records.specs.declared.records.Header.{Header as Headers};
-ghost use Rattle.journal_records.specs.declared.records.Record.TheVariants.{Reserve, Settle, Grant};
+ghost use Rattle.journal_records.specs.declared.records.Record.TheVariants.{Reserve, Settle, Grant, Define};
 ghost use Rattle.journal_records.specs.Encoding.{encoded, encoded_header, IsVersion, IsHeader};
 ghost use Rattle.journal_records.specs.Encoding.{partition_byte, part_low_byte, part_high_byte, outcome_byte, answer_number};
-ghost use Rattle.journal_records.specs.Encoding.{IsOutcome, MayReturn, AreChargeTerms, IsReservation, IsSettlement, IsGrant, IsValid};
+ghost use Rattle.journal_records.specs.Encoding.{IsOutcome, MayReturn, AreChargeTerms, AreMadeTerms, IsReservation, IsSettlement, IsGrant, IsMadePartition, IsValid};
 
 use crate::coding::{encode, encode_header};
 use crate::fields::{common_divisor, digest_at, u16_at, u32_at, u64_at};
-use crate::records::{BudgetGrant, Header, Outcome, Record, Reservation, Settlement};
-use partition_charge::view::{PARTITIONS, PARTS, View};
+use crate::records::{
+    BudgetGrant, Header, MadePartition, Outcome, Record, Reservation, Settlement,
+};
+use partition_charge::view::{CATALOG_PARTITIONS, MADE_PARTS, PARTITIONS, PARTS, View};
 
 // The view of these bytes: a part's number is of two.
 fn view_of(partition: u8, low: u8, high: u8) -> Option<View>
@@ -125,6 +128,41 @@ fn grant_of(bytes: &[u8; 64]) -> Record
     })
 }
 
+/// The tables that a made partition may be of.
+pub const TABLES: u8 = 8;
+
+/// Whether a made partition may have this number, this table and so many keys.
+pub fn are_made_terms(partition: u8, table: u8, keys: u16) -> bool
+    ensures { IsTrue result ↔ AreMadeTerms partition table keys }
+{
+    let partition = partition as usize;
+    if partition < CATALOG_PARTITIONS || partition >= PARTITIONS || table >= TABLES {
+        return false;
+    }
+    1 <= keys && keys as usize <= MADE_PARTS
+}
+
+// The made partition that these bytes would be.
+fn made_of(bytes: &[u8; 64]) -> Option<Record>
+    ensures valid { IfSome result IsValid }
+    ensures only { (d : MadePartitions) → IsMadePartition d → bytes.now ≡ encoded (Define d) → result ≡ Some (Define d) }
+{
+    let (partition, table) = (bytes[2], bytes[3]);
+    let keys = u16_at(bytes, 4);
+    let analyst = u16_at(bytes, 28);
+    let digest = digest_at(bytes, 32);
+    if !are_made_terms(partition, table, keys) {
+        return None;
+    }
+    Some(Record::Define(MadePartition {
+        partition,
+        table,
+        keys,
+        analyst,
+        digest,
+    }))
+}
+
 // What the bytes would be.
 fn record_of(bytes: &[u8; 64]) -> Option<Record>
     ensures valid { IfSome result IsValid }
@@ -134,6 +172,7 @@ fn record_of(bytes: &[u8; 64]) -> Option<Record>
         1 => reservation_of(bytes),
         2 => settlement_of(bytes),
         3 => Some(grant_of(bytes)),
+        4 => made_of(bytes),
         _ => None,
     }
 }

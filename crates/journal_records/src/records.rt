@@ -50,12 +50,28 @@ pub struct BudgetGrant {
     pub amount: u64,
 }
 
+/// A partition that an analyst makes of one table.
+#[derive(Clone, Copy, Debug, Drop, PartialEq, Eq)]
+pub struct MadePartition {
+    /// 8, and how many were made before: 8 to 254.
+    pub partition: u8,
+    /// The table's place in the owner's list, 0 to 7.
+    pub table: u8,
+    /// How many keys it has, each of which makes a part: 1 to 250.
+    pub keys: u16,
+    /// The number of the analyst who defined it.
+    pub analyst: u16,
+    /// The SHA-256 of the definition's bytes.
+    pub digest: [u8; 32],
+}
+
 /// One record.
 #[derive(Clone, Copy, Debug, Drop, PartialEq, Eq)]
 pub enum Record {
     Reserve(Reservation),
     Settle(Settlement),
     Grant(BudgetGrant),
+    Define(MadePartition),
 }
 
 /// The version of new journals.

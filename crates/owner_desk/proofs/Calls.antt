@@ -3,10 +3,13 @@ use Rattle.std.proofs.Common.{◌≡◌, ◌⊎◌, ℕ, Bool, true, false, List
 use mathlib.Core.List.{IsPrefix}
 use Rattle.journal_records.specs.declared.records.Outcome.{Outcome}
 use Rattle.journal_records.specs.declared.records.Record.{Record}
-use Rattle.journal_records.specs.declared.records.Record.TheVariants.{Reserve, Settle}
+use Rattle.journal_records.specs.declared.records.Record.TheVariants.{Reserve, Settle, Define}
 use Rattle.journal_records.specs.Records.{settling_back}
 use Rattle.budget_core.specs.declared.entry.Ask.{Ask}
 use Rattle.budget_core.specs.declared.entry.Grant.{Grant}
+use Rattle.budget_core.specs.declared.definitions.Definition.{Definition}
+use Rattle.budget_core.specs.declared.definitions.Made.{Made}
+use Rattle.budget_core.specs.Defining.{made_before, made_behind}
 use Rattle.budget_core.specs.Ledger.{Ledger, start_of, next_number, reservation_numbered, reservation_for, IsAskOf, settlement_for}
 use Rattle.budget_core.proofs.Grants.{grant-number}
 use Rattle.budget_core.proofs.MineLemmas.{stays_within_limits}
@@ -20,6 +23,9 @@ use Rattle.budget_ledger.specs.declared.book.AppendFault.{AppendFault}
 use Rattle.budget_ledger.specs.declared.book.AppendFault.TheVariants.{Closed, DiskFault}
 use Rattle.budget_ledger.specs.declared.book.BookFault.{BookFault}
 use Rattle.budget_ledger.specs.declared.book.BookFault.TheVariants.{Refused, Unwritten}
+use Rattle.budget_ledger.specs.declared.book.DefinitionFault.{DefinitionFault}
+use Rattle.budget_ledger.specs.declared.book.DefinitionFault.TheVariants.{Refused as NotMade, Unwritten as NotWritten}
+use Rattle.budget_ledger.specs.Defined.{GainsUnlessMade, IsDefined, IsPartitionOf}
 use Rattle.budget_ledger.specs.Booked.{HasGained, HasClosed, IsUnwritten, IsReserved, IsSettlementOf}
 use Rattle.budget_ledger.proofs.Verdicts.{says-granted}
 use Rattle.owner_lock.specs.Known.{Known}
@@ -33,7 +39,7 @@ use Rattle.owner_desk.specs.Watched.{Watched, account_at, history_of, is_shut}
 use Rattle.owner_desk.specs.Lawful.{IsLawful, stands}
 use Rattle.owner_desk.specs.Passes.{IsJustOpened, IsSole, Pass, Told, closing, ledger_on, records_told}
 use Rattle.owner_desk.specs.Shared.{IsPassKnown, Shared, opened_in, pass_with, shared_by}
-use Rattle.owner_desk.specs.Answers.{AddsRecord, Fails, Has as HasTold, HasGranted, HasLooked, HasReserved, HasSettled, IsReservedOn, IsSettledOn, IsUnadded, KeepsLimits, PassStays, verdict_on}
+use Rattle.owner_desk.specs.Answers.{AddsRecord, Fails, Has as HasTold, HasGranted, HasDefined, HasLooked, HasReserved, HasSettled, AddsUnlessMade, IsDefinedOn, IsReservedOn, IsSettledOn, IsUnadded, KeepsLimits, PassStays, definition_on, verdict_on}
 use Rattle.owner_desk.proofs.Lists.{faults_of, records_noted, failure_noted, records_append, records_prefix, failure_prefix, told_append, fault_added, fault_last, faults_noted, faults_behind, faults_all, told_merged, fault_merged, told_ascends, noted_added, noted_failed, length_noted, snoc_last, no_snoc, has_last, has_snoc, has_told, record_noted}
 use Rattle.owner_desk.proofs.Watching.{watched}
 use Rattle.owner_desk.proofs.Settles.{not_unsettled}
@@ -91,6 +97,16 @@ reserved_goes x y ask (Err (Unwritten DiskFault)) h = (h.0.taken, inr (inr (brea
 pub settled_goes : (x y : Watched) (number : ℕ) (outcome : Outcome) (result : Result ℕ AppendFault) → IsSettlementOf (account_at x) number outcome result (account_at y) → Goes x (settlement_for x.opened.ledger.entry x.records number outcome) y
 settled_goes x y number outcome (Ok seen) h = inl (gains_of x y (settlement_for x.opened.ledger.entry x.records number outcome) h.0)
 settled_goes x y number outcome (Err fault) h = unwritten_goes x y (settlement_for x.opened.ledger.entry x.records number outcome) fault h
+
+pub defined_goes : (x y : Watched) (definition : Definition) (result : Result Made DefinitionFault) → IsDefined (account_at x) definition result (account_at y) → Goes x (Define (made_behind x.records definition)) y
+defined_goes x y definition (Ok made) (verdict, went) = by (made_before x.records definition) went
+  where
+    by : (found : Option Made) → GainsUnlessMade found (account_at x) (Define (made_behind x.records definition)) (account_at y) → Goes x (Define (made_behind x.records definition)) y
+    by (Some one) same = inr (inl (rests_of x y same))
+    by None gained = inl (gains_of x y (Define (made_behind x.records definition)) gained)
+defined_goes x y definition (Err (NotMade fault)) h = inr (inl (rests_of x y h.1))
+defined_goes x y definition (Err (NotWritten (Closed failed_at))) h = inr (inl (rests_of x y h.1))
+defined_goes x y definition (Err (NotWritten DiskFault)) h = inr (inr (breaks_of x y (Define (made_behind x.records definition)) h.2))
 
 -- ---- what it owes
 
@@ -279,6 +295,26 @@ module _ (opened : Account) (v w : Known Noted Account) (x y : Watched) (m : Mee
       subst (λ (r : Record). IsUnadded before x.records r fault after) (settled_by k number outcome)
       (unwritten (settlement_for x.opened.ledger.entry x.records number outcome) fault h)
 
+  same_definition : IsPassKnown opened v → (definition : Definition) (closed : Option Failure) → x.storage.closed ≡ closed
+      → definition_on before x.records closed definition ≡ definition_on (pass_with x.opened v) x.records x.storage.closed definition
+  same_definition k definition closed is = λ i. definition_on (pass_with (sym (same_opened opened v x k m) i) v) x.records (sym is i) definition
+
+  adds_unless : (next : Record) (found : Option Made) → GainsUnlessMade found (account_at x) next (account_at y)
+      → (x.storage.closed ≡ after.failure) × AddsUnlessMade found before x.records next after
+  adds_unless next (Some one) same = let r = rests_of x y same in (closed_as r, stays r)
+  adds_unless next None gained = let g = gains_of x y next gained in (g.open_before ∙ sym (failure_is ∙ g.open_after), adds next g)
+
+  defined_on : IsPassKnown opened v → (definition : Definition) (result : Result Made DefinitionFault) → IsDefined (account_at x) definition result (account_at y)
+      → IsDefinedOn before x.records definition result after
+  defined_on k definition (Ok made) h =
+      let went = adds_unless (Define (made_behind x.records definition)) (made_before x.records definition) h.1 in
+      (same_definition k definition after.failure went.0 ∙ h.0, went.1)
+  defined_on k definition (Err (NotMade fault)) h = let r = rests_of x y h.1 in (same_definition k definition after.failure (closed_as r) ∙ h.0, stays r)
+  defined_on k definition (Err (NotWritten (Closed failed_at))) h = let r = rests_of x y h.1 in (same_definition k definition after.failure (closed_as r) ∙ h.0, stays r)
+  defined_on k definition (Err (NotWritten DiskFault)) ((made, verdict), none, h) =
+      let next : Record = Define (made_behind x.records definition) in
+      ((made, same_definition k definition None h.open_before ∙ verdict), none, fails next (breaks_of x y next h))
+
   -- ---- the same, of the pass as it is shown
 
   shown : IsPassKnown opened v → after ≡ pass_with (opened_in w.fixed) w
@@ -308,6 +344,14 @@ module _ (opened : Account) (v w : Known Noted Account) (x y : Watched) (m : Mee
   pub has_settled : IsPassKnown opened v → (number : ℕ) (outcome : Outcome) (result : Result ℕ AppendFault) → IsSettlementOf (account_at x) number outcome result (account_at y)
       → HasSettled before number outcome result (pass_with (opened_in w.fixed) w)
   has_settled k number outcome result h = subst (HasSettled before number outcome result) (shown k) (x.records, begins, settled_on k number outcome result h)
+
+  pub has_defined : IsPassKnown opened v → (definition : Definition) (result : Result Made DefinitionFault) → IsDefined (account_at x) definition result (account_at y)
+      → HasDefined before definition result (pass_with (opened_in w.fixed) w)
+  has_defined k definition result h = subst (HasDefined before definition result) (shown k) (x.records, begins, defined_on k definition result h)
+
+  pub has_partition : IsPassKnown opened v → (definition : Definition) (result : Result Made DefinitionFault)
+      → IfOk result (λ made. IsPartitionOf y.records made.partition definition) → IfOk result (λ made. IsPartitionOf (records_in w.seen) made.partition definition)
+  has_partition k definition result h = subst (λ (rs : List Record). IfOk result (λ made. IsPartitionOf rs made.partition definition)) (sym seen_is) h
 
 -- ---- the whole of it, at the end
 

@@ -3,13 +3,16 @@ use Rattle.std.proofs.Common.{◌≡◌, ℕ, List, [], ◌∷◌, ◌++◌, len
 use Rattle.journal_records.specs.declared.records.Outcome.{Outcome}
 use Rattle.journal_records.specs.declared.records.Outcome.TheVariants.{Exhausted, Lost}
 use Rattle.journal_records.specs.declared.records.Record.{Record}
-use Rattle.journal_records.specs.declared.records.Record.TheVariants.{Reserve}
+use Rattle.journal_records.specs.declared.records.Record.TheVariants.{Reserve, Define}
 use Rattle.journal_records.specs.Records.{outcome_in, settling_back, settling}
 use Rattle.partition_charge.specs.declared.view.View.TheVariants.{Whole}
 use Rattle.partition_charge.specs.Cost.{cost_of_charges, partition_cost, parts_cost}
 use Rattle.budget_core.specs.declared.entry.Ask.{Ask}
 use Rattle.budget_core.specs.declared.entry.Grant.{Grant}
 use Rattle.budget_core.specs.declared.entry.ReserveFault.TheVariants.{OverBudget, OverShare}
+use Rattle.budget_core.specs.declared.definitions.Definition.{Definition}
+use Rattle.budget_core.specs.declared.definitions.Made.{Made}
+use Rattle.budget_core.specs.Defining.{made_before, made_behind}
 use Rattle.budget_core.specs.Answers.{left_by, mine_by}
 use Rattle.budget_core.specs.Cost.{cost_of, budget_of}
 use Rattle.budget_core.specs.Ledger.{Ledger, reservation_for}
@@ -18,8 +21,9 @@ use Rattle.budget_ledger.specs.Account.{Account}
 use Rattle.budget_ledger.specs.declared.failure.Failure.{Failure}
 use Rattle.budget_ledger.specs.declared.book.AppendFault.TheVariants.{Closed, DiskFault}
 use Rattle.budget_ledger.specs.declared.book.BookFault.TheVariants.{Refused, Unwritten}
+use Rattle.budget_ledger.specs.declared.book.DefinitionFault.TheVariants.{Unwritten as NotWritten}
 use Rattle.owner_desk.specs.Passes.{Pass, Told, IsJustOpened, closing, first_of_run, records_told, told_behind}
-use Rattle.owner_desk.specs.Answers.{Has, HasGranted, HasLooked, HasReserved, HasSettled, verdict_on}
+use Rattle.owner_desk.specs.Answers.{AddsUnlessMade, Has, HasDefined, HasGranted, HasLooked, HasReserved, HasSettled, verdict_on}
 
 -- an ask of the whole at sensitivity 1, and its reservation under a number
 abbrev one : Ask
@@ -233,3 +237,57 @@ looks_at_its_own = (others, (reserved 1 ∷ [], refl), refl, record { seen = ref
 looks_at_anothers : HasLooked (with_limit (pass found None [] [])) (λ ledger. mine_by ledger.entry ledger.records 1 ≡ record { spent = 0; limit = None; seen = 2 }) (with_limit (pass found None [] []))
 unfolding cost_of_charges parts_cost partition_cost spent_by
 looks_at_anothers = (found, ([], refl), refl, record { seen = refl; own = refl; faults = refl; closed = λ failure was. was })
+
+-- ---- definitions
+
+-- two definitions of the first table, and what each makes behind no other
+abbrev first : Definition
+first = record { table = 0; keys = 2; analyst = 0; digest = 1 ∷ [] }
+
+abbrev second : Definition
+second = record first { digest = 2 ∷ [] }
+
+abbrev making : ℕ → Definition → Record
+making partition definition = Define (record { partition = partition; table = 0; keys = 2; analyst = definition.analyst; digest = definition.digest })
+
+-- Another pass has made the first meanwhile: the second gets the next number, and stands right behind it.
+abbrev one_made : List Record
+one_made = found ++ making 8 first ∷ []
+
+defines : HasDefined (pass found None [] []) second (Ok (record { partition = 9; seen = 4 })) (pass (one_made ++ making 9 second ∷ []) None ((3, making 9 second) ∷ []) [])
+defines = (one_made, (making 8 first ∷ [], refl), (refl, record { open_before = refl; open_after = refl; seen = refl; own = refl; faults = refl }))
+
+-- The first again is what that other pass made: it is no record of this pass's own, and none more, whoever defines it.
+finds : HasDefined (pass found None [] []) (record first { analyst = 1 }) (Ok (record { partition = 8; seen = 3 })) (pass one_made None [] [])
+finds = (one_made, (making 8 first ∷ [], refl), (refl, record { seen = refl; own = refl; faults = refl; closed = λ failure was. was }))
+
+not_ones_own : HasDefined (pass one_made None [] []) first (Ok (record { partition = 8; seen = 3 })) (pass one_made None ((2, making 8 first) ∷ []) []) → ⊥
+not_ones_own (g, begins, (verdict, went)) = by (made_before g first) went
+  where
+    by : (before : Option Made) → AddsUnlessMade before (pass one_made None [] []) g (Define (made_behind g first)) (pass one_made None ((2, making 8 first) ∷ []) []) → ⊥
+    by (Some one) stays = let no : (2, making 8 first) ∷ [] ≡ [] = stays.own in absurd cc
+    by None adds = omega (arith, ap length adds.seen, length-append g (Define (made_behind g first) ∷ []), ap length begins.1, length-append one_made begins.0)
+
+-- On a closed book it is told, and nothing else is made.
+finds_when_shut : HasDefined (pass found None [] []) first (Ok (record { partition = 8; seen = 3 })) (pass one_made (Some (failed (making 9 second))) [] [])
+finds_when_shut = (one_made, (making 8 first ∷ [], refl), (refl, record { seen = refl; own = refl; faults = refl; closed = λ failure was. absurd (cc was) }))
+
+makes_none_when_shut : HasDefined (pass found None [] []) second (Err (NotWritten (Closed 3))) (pass one_made (Some (failed (making 9 second))) [] [])
+makes_none_when_shut = (one_made, (making 8 first ∷ [], refl), (refl, record { seen = refl; own = refl; faults = refl; closed = λ failure was. absurd (cc was) }))
+
+-- The append fails: the failure is the pass's own, and the partition isn't there.
+breaks_defining : HasDefined (pass one_made None [] []) second (Err (NotWritten DiskFault))
+    (pass one_made (Some (failed (making 9 second))) [] (failed (making 9 second) ∷ []))
+breaks_defining = (
+  one_made,
+  ([], refl),
+  (
+    (record { partition = 9; seen = 4 }, refl),
+    refl,
+    record { failure = failed (making 9 second); open_before = refl; closed = refl; pending = refl; seen = refl; own = refl; faults = refl },
+  ),
+)
+
+never_breaks_finding : (after : Pass) → HasDefined (pass one_made None [] []) first (Err (NotWritten DiskFault)) after → ⊥
+never_breaks_finding after (g, begins, (granted, none, fails)) =
+    let never : made_before (one_made ++ begins.0) first ≡ None = ap (λ (records : List Record). made_before records first) begins.1 ∙ none in absurd (cc never)

@@ -1,5 +1,5 @@
 -- what a settlement of one's own may rely on
-use Rattle.std.proofs.Common.{◌≡◌, ◌⊎◌, ℕ, zero, suc, ◌+◌, ◌<◌, ◌≤◌, Bool, true, false, cond, ◌==◌, List, [], ◌∷◌, length, take, drop, refl, sym, ap, ◌∙◌, subst, inl, inr, ⊎_elim, arith, Option, Some, None, IsSome, slice_get}
+use Rattle.std.proofs.Common.{◌≡◌, ◌⊎◌, ℕ, zero, suc, ◌+◌, ◌<◌, ◌≤◌, Bool, true, false, cond, ◌==◌, List, [], ◌∷◌, ◌++◌, length, take, drop, refl, sym, ap, ◌∙◌, subst, inl, inr, ⊎_elim, arith, Option, Some, None, IsSome, slice_get}
 use Rattle.std.proofs.lemmas.Bool.{cases_lt, ltb-true, lt-ltb, eqb-true, eq-eqb}
 use Rattle.std.proofs.lemmas.List.{take-take, take_all, take-append-drop}
 use Rattle.std.proofs.lemmas.Option.{slice_get_within}
@@ -7,16 +7,18 @@ use Rattle.journal_records.specs.declared.records.Outcome.{Outcome}
 use Rattle.journal_records.specs.declared.records.Reservation.{Reservation}
 use Rattle.journal_records.specs.declared.records.Settlement.{Settlement}
 use Rattle.journal_records.specs.declared.records.Record.{Record}
-use Rattle.journal_records.specs.declared.records.Record.TheVariants.{Reserve, Settle, Grant}
+use Rattle.journal_records.specs.declared.records.Record.TheVariants.{Reserve, Settle, Grant, Define}
 use Rattle.journal_records.specs.Records.{settling_back}
 use Rattle.budget_core.specs.Counts.{reservations_of, reservation_of, outcome_of}
 use Rattle.budget_core.specs.Entries.{Entry}
-use Rattle.budget_core.specs.Ledger.{IsUnsettled}
+use Rattle.budget_core.specs.declared.entry.Ask.{Ask}
+use Rattle.budget_core.specs.Ledger.{IsAskOf, IsUnsettled}
 use Rattle.budget_core.specs.Legal.{IsHistory}
 use Rattle.budget_core.specs.Sound.{IsSound}
 use Rattle.budget_core.proofs.LegalLemmas.{reservations_within}
 use Rattle.budget_core.proofs.Numbers.{reserved_below}
 use Rattle.budget_core.proofs.Grants.{never-shared}
+use Rattle.budget_core.proofs.Partitions.{ask-grows}
 use Rattle.budget_core.proofs.Histories.{history-front}
 use Rattle.budget_core.proofs.SoundLemmas.{sound-history}
 use Rattle.budget_ledger.specs.Account.{Account}
@@ -32,7 +34,7 @@ use Rattle.owner_desk.specs.Noted.{history_with, records_in, told_in}
 use Rattle.owner_desk.specs.Watched.{Watched, history_of}
 use Rattle.owner_desk.specs.Lawful.{stands}
 use Rattle.owner_desk.specs.Shared.{IsPassKnown}
-use Rattle.owner_desk.proofs.Lists.{has_told, length_noted, noted_record, record_noted, records_noted, told_has}
+use Rattle.owner_desk.proofs.Lists.{has_told, length_noted, noted_record, record_noted, records_prefix, records_noted, told_has}
 
 -- ---- a pass that meets the book
 
@@ -44,6 +46,15 @@ meets_sound v x m =
 
 pub same_opened : (opened : Account) (v : Known Noted Account) (x : Watched) → IsPassKnown opened v → Meets stands v x → x.opened ≡ opened
 same_opened opened v x k m = let there : Some x.opened ≡ Some opened = m.fixed ∙ k.fixed in cc
+
+-- An ask of what the pass has seen is one of all that is there.
+pub meets_ask : (opened : Account) (v : Known Noted Account) (x : Watched) → IsPassKnown opened v → Meets stands v x → (ask : Ask)
+    → IsAskOf opened.ledger.entry (records_in v.seen) ask → IsAskOf x.opened.ledger.entry x.records ask
+meets_ask opened v x k m ask of =
+    let begins = records_prefix v.seen (history_of x) m.later in
+    let all : records_in v.seen ++ begins.0 ≡ x.records = begins.1 ∙ records_noted x.records x.storage.closed in
+    subst (λ (o : Account). IsAskOf o.ledger.entry x.records ask) (sym (same_opened opened v x k m))
+    (subst (λ (rs : List Record). IsAskOf opened.ledger.entry rs ask) all (ask-grows opened.ledger.entry (records_in v.seen) begins.0 ask of))
 
 module _ (opened : Account) (v : Known Noted Account) (x : Watched) (k : IsPassKnown opened v) (m : Meets stands v x)
     (place : ℕ) (reserved : Reservation) (granted : HasTold (place, Reserve reserved) (told_in v.own)) where
@@ -95,4 +106,5 @@ module _ (opened : Account) (v : Known Noted Account) (x : Watched) (k : IsPassK
       subst (λ (z : ℕ × Noted). Has z v.own) (λ i. (sym here i, Added (sym alike i))) mine
   closes_own number outcome returned is p (Added (Settle other)) past at closes = absurd closes
   closes_own number outcome returned is p (Added (Grant other)) past at closes = absurd closes
+  closes_own number outcome returned is p (Added (Define made)) past at closes = absurd closes
   closes_own number outcome returned is p (Failed failure) past at closes = absurd closes

@@ -7,7 +7,7 @@ use Rattle.journal_records.specs.declared.records.Outcome.{Outcome}
 use Rattle.journal_records.specs.declared.records.Reservation.{Reservation}
 use Rattle.journal_records.specs.declared.records.Settlement.{Settlement}
 use Rattle.journal_records.specs.declared.records.Record.{Record}
-use Rattle.journal_records.specs.declared.records.Record.TheVariants.{Reserve, Settle, Grant}
+use Rattle.journal_records.specs.declared.records.Record.TheVariants.{Reserve, Settle, Grant, Define}
 use Rattle.journal_records.specs.Records.{settling_back}
 use Rattle.budget_core.specs.Counts.{reservations_of, reservation_of, outcome_of}
 use Rattle.budget_core.specs.Entries.{Entry}
@@ -24,9 +24,11 @@ counts_behind (x ∷ records) j zero one at lt = absurd (omega (arith, lt))
 counts_behind (Reserve first ∷ records) zero (suc k) one at lt = omega arith
 counts_behind (Settle settlement ∷ records) zero (suc k) one at lt = absurd cc
 counts_behind (Grant grant ∷ records) zero (suc k) one at lt = absurd cc
+counts_behind (Define made ∷ records) zero (suc k) one at lt = absurd cc
 counts_behind (Reserve first ∷ records) (suc j) (suc k) one at lt = omega (arith, counts_behind records j k one at (omega (arith, lt)))
 counts_behind (Settle settlement ∷ records) (suc j) (suc k) one at lt = counts_behind records j k one at (omega (arith, lt))
 counts_behind (Grant grant ∷ records) (suc j) (suc k) one at lt = counts_behind records j k one at (omega (arith, lt))
+counts_behind (Define made ∷ records) (suc j) (suc k) one at lt = counts_behind records j k one at (omega (arith, lt))
 
 -- as many reservations stand in front of an earlier place, or fewer
 counts_le : (records : List Record) (j k : ℕ) → j ≤ k → length (reservations_of (take j records)) ≤ length (reservations_of (take k records))
@@ -38,12 +40,14 @@ counts_le (x ∷ records) (suc j) zero le = absurd (omega (arith, le))
 counts_le (Reserve first ∷ records) (suc j) (suc k) le = omega (arith, counts_le records j k (omega (arith, le)))
 counts_le (Settle settlement ∷ records) (suc j) (suc k) le = counts_le records j k (omega (arith, le))
 counts_le (Grant grant ∷ records) (suc j) (suc k) le = counts_le records j k (omega (arith, le))
+counts_le (Define made ∷ records) (suc j) (suc k) le = counts_le records j k (omega (arith, le))
 
 -- where a number is settled, its settlement stands
 pub settled_at : (records : List Record) (n : ℕ) (outcome : Outcome) → outcome_of records n ≡ Some outcome → (q : ℕ) × (returned : ℕ) × (slice_get records q ≡ Some (settling_back n outcome returned))
 settled_at [] n outcome is = absurd cc
 settled_at (Reserve reserved ∷ records) n outcome is = let r = settled_at records n outcome is in (suc r.0, r.1, r.2)
 settled_at (Grant grant ∷ records) n outcome is = let r = settled_at records n outcome is in (suc r.0, r.1, r.2)
+settled_at (Define made ∷ records) n outcome is = let r = settled_at records n outcome is in (suc r.0, r.1, r.2)
 settled_at (Settle settlement ∷ records) n outcome is =
     here (n == settlement.number) refl is (λ there. let r = settled_at records n outcome there in (suc r.0, r.1, r.2))
   where
@@ -62,7 +66,9 @@ not_unsettled [] q n outcome returned at none = cc
 not_unsettled (Reserve reserved ∷ records) zero n outcome returned at none = cc
 not_unsettled (Reserve reserved ∷ records) (suc q) n outcome returned at none = not_unsettled records q n outcome returned at none
 not_unsettled (Grant grant ∷ records) zero n outcome returned at none = cc
+not_unsettled (Define made ∷ records) zero n outcome returned at none = cc
 not_unsettled (Grant grant ∷ records) (suc q) n outcome returned at none = not_unsettled records q n outcome returned at none
+not_unsettled (Define made ∷ records) (suc q) n outcome returned at none = not_unsettled records q n outcome returned at none
 not_unsettled (Settle settlement ∷ records) zero n outcome returned at none =
     let made : settlement ≡ record { number = n; outcome = outcome; returned = returned } = cc in
     here (n == settlement.number) (eq-eqb n settlement.number (sym (ap (λ (s : Settlement). s.number) made))) none

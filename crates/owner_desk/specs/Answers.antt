@@ -4,19 +4,25 @@ use mathlib.Core.List.{IsPrefix}
 use Rattle.journal_records.specs.declared.records.Outcome.{Outcome}
 use Rattle.journal_records.specs.declared.records.Reservation.{Reservation}
 use Rattle.journal_records.specs.declared.records.Record.{Record}
-use Rattle.journal_records.specs.declared.records.Record.TheVariants.{Reserve}
+use Rattle.journal_records.specs.declared.records.Record.TheVariants.{Reserve, Define}
 use Rattle.journal_records.specs.Records.{settling_back}
 use Rattle.budget_core.specs.declared.entry.Ask.{Ask}
 use Rattle.budget_core.specs.declared.entry.Grant.{Grant}
+use Rattle.budget_core.specs.declared.definitions.Definition.{Definition}
+use Rattle.budget_core.specs.declared.definitions.Made.{Made}
+use Rattle.budget_core.specs.Defining.{made_before, made_behind}
 use Rattle.budget_core.specs.Entries.{limit_of}
 use Rattle.budget_core.specs.Ledger.{Ledger, start_of, reservation_for, settlement_for}
 use Rattle.budget_core.specs.Mine.{spent_by}
 use Rattle.budget_ledger.specs.Booked.{book_verdict}
+use Rattle.budget_ledger.specs.Defined.{book_definition}
 use Rattle.budget_ledger.specs.declared.failure.Failure.{Failure}
 use Rattle.budget_ledger.specs.declared.book.AppendFault.{AppendFault}
 use Rattle.budget_ledger.specs.declared.book.AppendFault.TheVariants.{Closed, DiskFault}
 use Rattle.budget_ledger.specs.declared.book.BookFault.{BookFault}
 use Rattle.budget_ledger.specs.declared.book.BookFault.TheVariants.{Refused, Unwritten}
+use Rattle.budget_ledger.specs.declared.book.DefinitionFault.{DefinitionFault}
+use Rattle.budget_ledger.specs.declared.book.DefinitionFault.TheVariants.{Refused as NotMade, Unwritten as NotWritten}
 use Rattle.owner_desk.specs.Passes.{Pass, ledger_on}
 
 -- it stands somewhere in the list
@@ -99,3 +105,29 @@ pub record HasGranted (pass : Pass) (number : ℕ) : Type 0 where
   pub numbered : reserved.number ≡ number
   pub granted : Has (place, Reserve reserved) pass.own
   pub unsettled : (later : ℕ) (outcome : Outcome) (returned : ℕ) → Has (later, settling_back number outcome returned) pass.own → ⊥
+
+-- ---- definitions
+
+-- what the book with these records, which is closed so or isn't, says to a definition
+abbrev pub definition_on : Pass → List Record → Option Failure → Definition → Result Made DefinitionFault
+definition_on pass g closed definition = book_definition pass.opened.ledger.entry (start_of pass.opened.ledger) g closed definition
+
+-- Nothing was done where an equal definition had made its partition. Else the record of a new one was added.
+abbrev pub AddsUnlessMade : Option Made → (before : Pass) (g : List Record) (next : Record) (after : Pass) → Type 0
+AddsUnlessMade (Some made) before g next after = PassStays before g after
+AddsUnlessMade None before g next after = AddsRecord before g next after
+
+-- A partition and a refusal are told by whether the book is closed, which the pass knows then.
+abbrev pub IsDefinedOn : Pass → List Record → Definition → Result Made DefinitionFault → Pass → Type 0
+IsDefinedOn before g definition (Ok made) after = (definition_on before g after.failure definition ≡ Ok made)
+    × AddsUnlessMade (made_before g definition) before g (Define (made_behind g definition)) after
+IsDefinedOn before g definition (Err (NotMade fault)) after =
+    (definition_on before g after.failure definition ≡ Err (NotMade fault)) × PassStays before g after
+IsDefinedOn before g definition (Err (NotWritten (Closed failed_at))) after =
+    (definition_on before g after.failure definition ≡ Err (NotWritten (Closed failed_at))) × PassStays before g after
+IsDefinedOn before g definition (Err (NotWritten DiskFault)) after = ((made : Made) × (definition_on before g None definition ≡ Ok made))
+    × (made_before g definition ≡ None) × Fails before g (Define (made_behind g definition)) after
+
+-- what came of a definition
+abbrev pub HasDefined : Pass → Definition → Result Made DefinitionFault → Pass → Type 0
+HasDefined before definition result after = (g : List Record) × IsPrefix before.seen g × IsDefinedOn before g definition result after

@@ -3,15 +3,17 @@
 ghost use Rattle.std.specs.Prelude.{◌≡◌, ◌⊎◌, ℕ, ◌≤◌, ◌+◌, ◌-◌, ◌/◌, ◌++◌, [], sum_by, IfErr, IfOk, IfSome, None, Some};
 ghost use mathlib.Core.List.{IsPrefix};
 ghost use Rattle.budget_core.specs.Answers.{left_of, mine_of, recalled};
+ghost use Rattle.budget_core.specs.Defining.{IsDefinition};
 ghost use Rattle.budget_core.specs.Ledger.{IsAskOf, IsUnsettled};
 ghost use Rattle.budget_core.specs.Sound.{IsSound};
 ghost use Rattle.budget_ledger.specs.Account.{IsBook, Went};
 ghost use Rattle.budget_ledger.specs.Booked.{IsReserved, IsSettlementOf};
+ghost use Rattle.budget_ledger.specs.Defined.{IsDefined, IsPartitionOf};
 ghost use Rattle.budget_ledger.specs.declared.failure.Failure.{Failure};
 ghost use Rattle.owner_lock.specs.Entries.{Ascends};
 ghost use Rattle.owner_lock.specs.Known.{whole_share};
 ghost use Rattle.owner_desk.specs.Passes.{IsJustOpened, Told, closing, ledger_on, records_told};
-ghost use Rattle.owner_desk.specs.Answers.{HasGranted, HasLooked, HasReserved, HasSettled, KeepsLimits};
+ghost use Rattle.owner_desk.specs.Answers.{HasDefined, HasGranted, HasLooked, HasReserved, HasSettled, KeepsLimits};
 ghost use Rattle.owner_desk.specs.Watched.{account_at};
 ghost use Rattle.owner_desk.specs.Shared.{IsKept};
 
@@ -19,8 +21,9 @@ use crate::guarded::Guarded;
 use crate::held::{Held, Locked};
 use crate::noted::Noted;
 use budget_core::answers::{Left, Mine, Recall};
+use budget_core::definitions::{Definition, Made};
 use budget_core::entry::{Ask, Grant};
-use budget_ledger::book::{AppendFault, Book, BookFault};
+use budget_ledger::book::{AppendFault, Book, BookFault, DefinitionFault};
 use journal_records::records::Outcome;
 use outside_disks::disk::Disk;
 use owner_lock::{NoMemory, Owned, Ticket};
@@ -125,7 +128,7 @@ impl<D: Disk> Desk<D> {
         asking: &Ask,
     ) -> Result<Grant, BookFault>
         requires here { pass.old.lock ≡ self.now }
-        requires of_entry { IsAskOf pass.old.knows.opened.ledger.entry asking.now }
+        requires of_entry { IsAskOf pass.old.knows.opened.ledger.entry pass.old.knows.seen asking.now }
         ensures reserved { HasReserved pass.old.knows asking.now result pass.new.knows }
         // What was reserved may be settled by this pass.
         ensures granted { IfOk result (λ grant. HasGranted pass.new.knows grant.number) }
@@ -136,7 +139,7 @@ impl<D: Disk> Desk<D> {
             rt,
             &mut pass.ticket,
             |guarded: &mut Guarded<D>| -> Result<Grant, BookFault>
-                requires { IsAskOf guarded.old.opened.ledger.entry asking.now }
+                requires { IsAskOf guarded.old.opened.ledger.entry guarded.old.records asking.now }
                 ensures reserved { IsReserved (account_at guarded.old) asking.entry.now result (account_at guarded.new) }
                 ensures same { guarded.new.opened ≡ guarded.old.opened }
                 ensures sound { IsSound (ledger_on guarded.new.opened guarded.new.records) }
@@ -166,6 +169,33 @@ impl<D: Disk> Desk<D> {
                 ensures same { guarded.new.opened ≡ guarded.old.opened }
                 ensures sound { IsSound (ledger_on guarded.new.opened guarded.new.records) }
             { guarded.settle(number, outcome) },
+        )
+    }
+
+    /// Makes a partition of a definition, or says why not. Where an equal definition has made one, tells that and adds nothing.
+    pub fn define<W: Wait>(
+        &self,
+        rt: &W,
+        pass: &mut Pass<D>,
+        definition: &Definition,
+    ) -> Result<Made, DefinitionFault>
+        requires here { pass.old.lock ≡ self.now }
+        requires valid { IsDefinition definition.now }
+        ensures defined { HasDefined pass.old.knows definition.now result pass.new.knows }
+        // The partition is among what the pass has seen.
+        ensures made { IfOk result (λ made. IsPartitionOf pass.new.knows.seen made.partition definition.now) }
+        ensures kept { IsKept pass.old pass.new }
+    {
+        self.owned.with(
+            rt,
+            &mut pass.ticket,
+            |guarded: &mut Guarded<D>| -> Result<Made, DefinitionFault>
+                requires { IsDefinition definition.now }
+                ensures defined { IsDefined (account_at guarded.old) definition.entry.now result (account_at guarded.new) }
+                ensures made { IfOk result (λ made. IsPartitionOf guarded.new.records made.partition definition.entry.now) }
+                ensures same { guarded.new.opened ≡ guarded.old.opened }
+                ensures sound { IsSound (ledger_on guarded.new.opened guarded.new.records) }
+            { guarded.define(definition) },
         )
     }
 

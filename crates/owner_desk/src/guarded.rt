@@ -1,18 +1,21 @@
 //! A book that goes under the lock.
 
-ghost use Rattle.std.specs.Prelude.{◌≡◌, ◌≤◌, IfSome};
+ghost use Rattle.std.specs.Prelude.{◌≡◌, ◌≤◌, IfOk, IfSome};
 ghost use Rattle.budget_core.specs.Answers.{left_of, mine_of, recalled};
+ghost use Rattle.budget_core.specs.Defining.{IsDefinition};
 ghost use Rattle.budget_core.specs.Ledger.{IsAskOf, IsUnsettled};
 ghost use Rattle.budget_core.specs.Sound.{IsSound};
 ghost use Rattle.budget_ledger.specs.Account.{IsBook};
 ghost use Rattle.budget_ledger.specs.Booked.{IsReserved, IsSettlementOf};
+ghost use Rattle.budget_ledger.specs.Defined.{IsDefined, IsPartitionOf};
 ghost use Rattle.owner_desk.specs.Passes.{IsJustOpened, IsSole, ledger_on};
 ghost use Rattle.owner_desk.specs.Watched.{account_at};
 
 use crate::noted::Noted;
 use budget_core::answers::{Left, Mine, Recall};
+use budget_core::definitions::{Definition, Made};
 use budget_core::entry::{Ask, Grant};
-use budget_ledger::book::{AppendFault, Book, BookFault};
+use budget_ledger::book::{AppendFault, Book, BookFault, DefinitionFault};
 use journal_records::records::Outcome;
 use outside_disks::disk::Disk;
 use owner_lock::StandsFor;
@@ -56,7 +59,7 @@ impl<D: Disk> Guarded<D> {
     }
 
     pub(crate) fn reserve(&mut self, asking: &Ask) -> Result<Grant, BookFault>
-        requires { IsAskOf self.old.opened.ledger.entry asking.now }
+        requires { IsAskOf self.old.opened.ledger.entry self.old.records asking.now }
         ensures reserved { IsReserved (account_at self.old) asking.now result (account_at self.new) }
         ensures same { self.new.opened ≡ self.old.opened }
         ensures sound { IsSound (ledger_on self.new.opened self.new.records) }
@@ -71,6 +74,16 @@ impl<D: Disk> Guarded<D> {
         ensures sound { IsSound (ledger_on self.new.opened self.new.records) }
     {
         self.book.settle(number, outcome)
+    }
+
+    pub(crate) fn define(&mut self, definition: &Definition) -> Result<Made, DefinitionFault>
+        requires { IsDefinition definition.now }
+        ensures defined { IsDefined (account_at self.old) definition.now result (account_at self.new) }
+        ensures made { IfOk result (λ made. IsPartitionOf self.new.records made.partition definition.now) }
+        ensures same { self.new.opened ≡ self.old.opened }
+        ensures sound { IsSound (ledger_on self.new.opened self.new.records) }
+    {
+        self.book.define(definition)
     }
 
     pub(crate) fn recall(&self, number: u32, analyst: u16) -> Recall

@@ -18,6 +18,7 @@ use Rattle.answer_path.specs.OwnerCatalog.Entries.{PartitionEntry}
 use Rattle.answer_path.specs.PartViews.Partitions.{ArePartitions}
 use Rattle.answer_path.specs.PartViews.Views.{signature_in, rows_in}
 use Rattle.answer_path.specs.Program.{IsCharged}
+use Rattle.answer_path.specs.Query.{Source}
 use Rattle.answer_path.specs.OwnerHouse.Owner.{Owner, HasData}
 use Rattle.owner_history.specs.Explains.{Explains}
 use Rattle.owner_history.specs.Sound.{IsDisplacementBounded, AreSharesBounded}
@@ -27,15 +28,15 @@ use Rattle.owner_history.proofs.Sums.{weighed, weighed-cons}
 use Rattle.owner_history.proofs.Apart.{far, charges-within}
 use Rattle.owner_history.proofs.Charges.{charged_lowest, charged_moves, charge_bounds}
 
--- a reservation is charged by its program's sensitivity in its view
-abbrev pub IsChargedFor : Signature → List PartitionEntry → List ℕ → Reservation → Type 0
-IsChargedFor tables partitions program r = IsCharged (signature_in tables partitions r.view) program r.p r.q
+-- a reservation is charged by its source's program's sensitivity in its view
+abbrev pub IsChargedFor : Signature → List PartitionEntry → Source → Reservation → Type 0
+IsChargedFor tables partitions source r = IsCharged (signature_in tables partitions r.view) source.program r.p r.q
 
-abbrev pub AreCharged : Signature → List PartitionEntry → List (List ℕ) → List Reservation → Type 0
+abbrev pub AreCharged : Signature → List PartitionEntry → List Source → List Reservation → Type 0
 AreCharged tables partitions [] [] = ⊤
-AreCharged tables partitions (program ∷ programs) (reservation ∷ reservations) = IsChargedFor tables partitions program reservation × AreCharged tables partitions programs reservations
+AreCharged tables partitions (source ∷ sources) (reservation ∷ reservations) = IsChargedFor tables partitions source reservation × AreCharged tables partitions sources reservations
 AreCharged tables partitions [] (reservation ∷ reservations) = ⊥
-AreCharged tables partitions (program ∷ programs) [] = ⊥
+AreCharged tables partitions (source ∷ sources) [] = ⊥
 
 -- what comes back is of an exhausted number
 exhausted_from : (entry : Entry) (o : Option Outcome) → comes_back entry o ≡ true → o ≡ Some Exhausted
@@ -83,12 +84,12 @@ module _ (tables : Signature) (partitions : List PartitionEntry) (rows other : D
   outcome_bounded view e p q program (Some Lost) c = (0, refl, omega arith)
 
   -- A reservation that counts shows at most its charge times that, and one that doesn't was exhausted and shows nothing.
-  counted_bounded : (entry : Entry) (records : List Record) (program : List ℕ) (r : Reservation) → IsChargedFor tables partitions program r → (b : Bool) → counts_in entry records r ≡ b
-      → (d : ℕ) × IsDisplaced tables partitions records rows other program r d × (d ≤ cond b (charge_of r.e r.p r.q * far partitions rows other r.view) 0)
-  counted_bounded entry records program r c true counts = outcome_bounded r.view r.e r.p r.q program (outcome_of records r.number) c
-  counted_bounded entry records program r c false skips = (
+  counted_bounded : (entry : Entry) (records : List Record) (source : Source) (r : Reservation) → IsChargedFor tables partitions source r → (b : Bool) → counts_in entry records r ≡ b
+      → (d : ℕ) × IsDisplaced tables partitions records rows other source r d × (d ≤ cond b (charge_of r.e r.p r.q * far partitions rows other r.view) 0)
+  counted_bounded entry records source r c true counts = outcome_bounded r.view r.e r.p r.q source.program (outcome_of records r.number) c
+  counted_bounded entry records source r c false skips = (
     0,
-    subst (λ (o : Option Outcome). IsDisplacedIf (signature_in tables partitions r.view) (rows_in partitions r.view rows) (rows_in partitions r.view other) r.e program o 0)
+    subst (λ (o : Option Outcome). IsDisplacedIf (signature_in tables partitions r.view) (rows_in partitions r.view rows) (rows_in partitions r.view other) r.e source.program o 0)
         (sym (exhausted_from entry (outcome_of records r.number) (back_from (comes_back entry (outcome_of records r.number)) skips))) refl,
     omega arith,
   )
@@ -112,22 +113,22 @@ module _ (tables : Signature) (partitions : List PartitionEntry) (rows other : D
       by false = omega arith
 
   -- what doesn't pass the test adds nothing
-  tested_bounded : (entry : Entry) (records : List Record) (program : List ℕ) (r : Reservation) → IsChargedFor tables partitions program r → (b : Bool)
-      → (d : ℕ) × IsDisplacedWhere b tables partitions records rows other program r d
+  tested_bounded : (entry : Entry) (records : List Record) (source : Source) (r : Reservation) → IsChargedFor tables partitions source r → (b : Bool)
+      → (d : ℕ) × IsDisplacedWhere b tables partitions records rows other source r d
       × (d ≤ cond b (cond (counts_in entry records r) (charge_of r.e r.p r.q * far partitions rows other r.view) 0) 0)
-  tested_bounded entry records program r c true = counted_bounded entry records program r c (counts_in entry records r) refl
-  tested_bounded entry records program r c false = (0, refl, omega arith)
+  tested_bounded entry records source r c true = counted_bounded entry records source r c (counts_in entry records r) refl
+  tested_bounded entry records source r c false = (0, refl, omega arith)
 
   -- all that pass a test together at most their charges times how far the datasets are apart in their views
-  all_bounded : (test : Reservation → Bool) (entry : Entry) (records : List Record) (programs : List (List ℕ)) (reservations : List Reservation) → AreCharged tables partitions programs reservations
-      → (d : ℕ) × AreDisplaced test tables partitions records rows other programs reservations d
+  all_bounded : (test : Reservation → Bool) (entry : Entry) (records : List Record) (sources : List Source) (reservations : List Reservation) → AreCharged tables partitions sources reservations
+      → (d : ℕ) × AreDisplaced test tables partitions records rows other sources reservations d
       × (d ≤ weighed (far partitions rows other) (map charge_by (filter (counts_in entry records) (filter test reservations))))
   all_bounded test entry records [] [] charged = (0, refl, omega arith)
   all_bounded test entry records [] (r ∷ rs) charged = absurd charged
-  all_bounded test entry records (program ∷ programs) [] charged = absurd charged
-  all_bounded test entry records (program ∷ programs) (r ∷ rs) charged =
-      let one = tested_bounded entry records program r charged.0 (test r) in
-      let more = all_bounded test entry records programs rs charged.1 in
+  all_bounded test entry records (source ∷ sources) [] charged = absurd charged
+  all_bounded test entry records (source ∷ sources) (r ∷ rs) charged =
+      let one = tested_bounded entry records source r charged.0 (test r) in
+      let more = all_bounded test entry records sources rs charged.1 in
       let sum = weighed_tested test (counts_in entry records) r rs in
       (one.0 + more.0, (one.0, more.0, one.1, more.1, refl), omega (arith, one.2, more.2, sum))
 
@@ -136,45 +137,45 @@ anyones [] = refl
 anyones (r ∷ rs) = ap (λ (xs : List Reservation). r ∷ xs) (anyones rs)
 
 -- What records show is at most their cost times the distance.
-pub shown_bounded : (entry : Entry) (tables : Signature) (partitions : List PartitionEntry) (records : List Record) (rows other : Dataset) (programs : List (List ℕ)) → ArePair tables partitions rows other
-    → AreCharged tables partitions programs (reservations_of records) → (d : ℕ) × IsShown tables partitions programs records rows other d × (d ≤ cost_of entry records * apart rows other)
+pub shown_bounded : (entry : Entry) (tables : Signature) (partitions : List PartitionEntry) (records : List Record) (rows other : Dataset) (sources : List Source) → ArePair tables partitions rows other
+    → AreCharged tables partitions sources (reservations_of records) → (d : ℕ) × IsShown tables partitions sources records rows other d × (d ≤ cost_of entry records * apart rows other)
 unfolding IsShown cost_of
-shown_bounded entry tables partitions records rows other programs pair charged =
-    let all = all_bounded tables partitions rows other pair is_anyones entry records programs (reservations_of records) charged in
+shown_bounded entry tables partitions records rows other sources pair charged =
+    let all = all_bounded tables partitions rows other pair is_anyones entry records sources (reservations_of records) charged in
     let each : weighed (far partitions rows other) (map charge_by (filter (counts_in entry records) (filter is_anyones (reservations_of records)))) ≡ weighed (far partitions rows other) (charges_in entry records)
     = ap (λ (rs : List Reservation). weighed (far partitions rows other) (map charge_by (filter (counts_in entry records) rs))) (anyones (reservations_of records)) in
     let within = charges-within tables partitions rows other (charges_in entry records) pair.divided pair.first pair.second in
     (all.0, all.1, omega (arith, all.2, each, within))
 
 -- What they show of an analyst's answers is at most what that analyst has spent times it.
-pub share_bounded : (entry : Entry) (tables : Signature) (partitions : List PartitionEntry) (records : List Record) (rows other : Dataset) (programs : List (List ℕ)) (analyst : ℕ) → ArePair tables partitions rows other
-    → AreCharged tables partitions programs (reservations_of records) → (d : ℕ) × IsShownBy analyst tables partitions programs records rows other d × (d ≤ spent_by entry records analyst * apart rows other)
+pub share_bounded : (entry : Entry) (tables : Signature) (partitions : List PartitionEntry) (records : List Record) (rows other : Dataset) (sources : List Source) (analyst : ℕ) → ArePair tables partitions rows other
+    → AreCharged tables partitions sources (reservations_of records) → (d : ℕ) × IsShownBy analyst tables partitions sources records rows other d × (d ≤ spent_by entry records analyst * apart rows other)
 unfolding IsShownBy spent_by
-share_bounded entry tables partitions records rows other programs analyst pair charged =
-    let own = all_bounded tables partitions rows other pair (is_by analyst) entry records programs (reservations_of records) charged in
+share_bounded entry tables partitions records rows other sources analyst pair charged =
+    let own = all_bounded tables partitions rows other pair (is_by analyst) entry records sources (reservations_of records) charged in
     let within = charges-within tables partitions rows other (charges_by entry records analyst) pair.divided pair.first pair.second in
     (own.0, own.1, omega (arith, own.2, within))
 
-charged_from : (tables : Signature) (partitions : List PartitionEntry) (programs : List (List ℕ)) (reservations : List Reservation) → length programs ≡ length reservations
-    → ((i : ℕ) (program : List ℕ) (r : Reservation) → slice_get programs i ≡ Some program → slice_get reservations i ≡ Some r → IsChargedFor tables partitions program r)
-    → AreCharged tables partitions programs reservations
+charged_from : (tables : Signature) (partitions : List PartitionEntry) (sources : List Source) (reservations : List Reservation) → length sources ≡ length reservations
+    → ((i : ℕ) (source : Source) (r : Reservation) → slice_get sources i ≡ Some source → slice_get reservations i ≡ Some r → IsChargedFor tables partitions source r)
+    → AreCharged tables partitions sources reservations
 charged_from tables partitions [] [] same each = tt
 charged_from tables partitions [] (r ∷ rs) same each = absurd (omega arith)
-charged_from tables partitions (program ∷ programs) [] same each = absurd (omega arith)
-charged_from tables partitions (program ∷ programs) (r ∷ rs) same each =
-    (each 0 program r refl refl, charged_from tables partitions programs rs (omega arith) (λ i other s at there. each (suc i) other s at there))
+charged_from tables partitions (source ∷ sources) [] same each = absurd (omega arith)
+charged_from tables partitions (source ∷ sources) (r ∷ rs) same each =
+    (each 0 source r refl refl, charged_from tables partitions sources rs (omega arith) (λ i other s at there. each (suc i) other s at there))
 
-module _ (owner : Owner) (draws : ℕ → ℕ → ℕ) (programs : List (List ℕ)) (records : List Record) (has : HasData owner) (ex : Explains owner draws programs records) where
+module _ (owner : Owner) (draws : ℕ → ℕ → ℕ) (sources : List Source) (records : List Record) (has : HasData owner) (ex : Explains owner draws sources records) where
   pair_with : (other : Dataset) → IsDataset owner.tables other → ArePair owner.tables owner.partitions owner.rows other
   pair_with other others = record { well = has.tables; divided = has.partitions; first = has.rows; second = others }
 
-  charged_all : AreCharged owner.tables owner.partitions programs (reservations_of records)
-  charged_all = charged_from owner.tables owner.partitions programs (reservations_of records) ex.each_has (λ i program r at there. (ex.explained i program r at there).charged)
+  charged_all : AreCharged owner.tables owner.partitions sources (reservations_of records)
+  charged_all = charged_from owner.tables owner.partitions sources (reservations_of records) ex.each_has (λ i source r at there. (ex.explained i source r at there).charged)
 
-  -- Whatever programs explain an owner's records, against any second dataset these show at most their cost times the distance ..
-  pub explained_bounded : IsDisplacementBounded owner programs records
-  explained_bounded = λ other others. shown_bounded owner.entry owner.tables owner.partitions records owner.rows other programs (pair_with other others) charged_all
+  -- Whatever sources explain an owner's records, against any second dataset these show at most their cost times the distance ..
+  pub explained_bounded : IsDisplacementBounded owner sources records
+  explained_bounded = λ other others. shown_bounded owner.entry owner.tables owner.partitions records owner.rows other sources (pair_with other others) charged_all
 
   -- .. and an analyst's answers at most what that analyst has spent times it.
-  pub explained_shares : AreSharesBounded owner programs records
-  explained_shares = λ analyst other others. share_bounded owner.entry owner.tables owner.partitions records owner.rows other programs analyst (pair_with other others) charged_all
+  pub explained_shares : AreSharesBounded owner sources records
+  explained_shares = λ analyst other others. share_bounded owner.entry owner.tables owner.partitions records owner.rows other sources analyst (pair_with other others) charged_all

@@ -23,12 +23,12 @@ use Rattle.wire_lines.specs.declared.refusal.MoneyRefusal.TheVariants.{JournalFu
 use Rattle.wire_lines.specs.declared.refusal.NumberRefusal.TheVariants.{Exhausted as NoNoise, Lost as NoAnswer}
 use Rattle.sha2.specs.Sha256.{sha256}
 use Rattle.answer_path.specs.OwnerHouse.Owner.{Owner}
-use Rattle.answer_path.specs.Query.{Query}
+use Rattle.answer_path.specs.Query.{Query, Source, plain_source, source_of}
 use Rattle.answer_path.specs.Admission.{admission_of, HasValue}
 use Rattle.answer_path.specs.Program.{IsCharged}
 use Rattle.answer_path.specs.Noise.{noise_at}
 use Rattle.answer_path.proofs.Programs.{one_value}
-use Rattle.answer_path.proofs.SizePeople.{size_people, size_term, size_reads}
+use Rattle.answer_path.proofs.SizePeople.{of_size, size_people, size_term, size_reads}
 use Rattle.owner_history.specs.Explains.{ExplainsOutcome, IsExplained, Explains}
 use Rattle.owner_history.specs.Shown.{IsShown}
 use Rattle.owner_history.specs.Granted.{told_settlement, recall_in, IsGranted, IsBorneOut, IsSettledFor, IsRecallBorneOut}
@@ -68,12 +68,12 @@ reserved = record { number = 0; view = Whole; e = 1000000; p = 1; q = 1; taken =
 abbrev pub settled_as : Outcome → List Record
 settled_as outcome = Reserve reserved ∷ settling 0 outcome ∷ []
 
-pub explained_two : (draws : ℕ → ℕ) → noise_at 1000000 draws ≡ Some (negsuc 0) → IsExplained three draws reserved size_people (Some (Answered (pos 2)))
+pub explained_two : (draws : ℕ → ℕ) → noise_at 1000000 draws ≡ Some (negsuc 0) → IsExplained three draws reserved of_size (Some (Answered (pos 2)))
 unfolding signature_in rows_in
 explained_two draws noise = record { digest = refl; charged = size_charged; settled = record { value = pos 3; noise = negsuc 0; has_value = three_value; has_noise = noise; sum = refl } }
 
 -- another answer isn't explained, nor is a number exhausted that has noise
-pub not_three : (draws : ℕ → ℕ) → noise_at 1000000 draws ≡ Some (negsuc 0) → ExplainsOutcome three draws reserved size_people (Some (Answered (pos 3))) → ⊥
+pub not_three : (draws : ℕ → ℕ) → noise_at 1000000 draws ≡ Some (negsuc 0) → ExplainsOutcome three draws reserved of_size (Some (Answered (pos 3))) → ⊥
 unfolding signature_in rows_in
 not_three draws noise h =
     let value : h.value ≡ pos 3 = one_value (people ∷ []) three.rows size_people h.value (pos 3) h.has_value three_value in
@@ -82,21 +82,21 @@ not_three draws noise h =
     let sum : pos 3 ≡ pos 2 = h.sum ∙ ap (λ (v : ℤ). v +ℤ h.noise) value ∙ ap (λ (k : ℤ). pos 3 +ℤ k) drawn in
     cc (sum)
 
-not_exhausted : (draws : ℕ → ℕ) → noise_at 1000000 draws ≡ Some (negsuc 0) → ExplainsOutcome three draws reserved size_people (Some Exhausted) → ⊥
+not_exhausted : (draws : ℕ → ℕ) → noise_at 1000000 draws ≡ Some (negsuc 0) → ExplainsOutcome three draws reserved of_size (Some Exhausted) → ⊥
 not_exhausted draws noise none = let both : Some (negsuc 0) ≡ None = sym noise ∙ none in cc (both)
 
 -- where there is no noise a number is exhausted; nothing is asked of one that is open or lost
-exhausted_is : (draws : ℕ → ℕ) → noise_at 1000000 draws ≡ None → ExplainsOutcome three draws reserved size_people (Some Exhausted)
+exhausted_is : (draws : ℕ → ℕ) → noise_at 1000000 draws ≡ None → ExplainsOutcome three draws reserved of_size (Some Exhausted)
 exhausted_is draws none = none
 
-open_is : (draws : ℕ → ℕ) → ExplainsOutcome three draws reserved size_people None
+open_is : (draws : ℕ → ℕ) → ExplainsOutcome three draws reserved of_size None
 open_is draws = tt
 
-lost_is : (draws : ℕ → ℕ) → ExplainsOutcome three draws reserved size_people (Some Lost)
+lost_is : (draws : ℕ → ℕ) → ExplainsOutcome three draws reserved of_size (Some Lost)
 lost_is draws = tt
 
 -- a reservation with another program's digest isn't explained
-other_digest : (draws : ℕ → ℕ) → (sha256 [] ≡ sha256 size_people → ⊥) → IsExplained three draws (record reserved { digest = sha256 [] }) size_people None → ⊥
+other_digest : (draws : ℕ → ℕ) → (sha256 [] ≡ sha256 size_people → ⊥) → IsExplained three draws (record reserved { digest = sha256 [] }) of_size None → ⊥
 other_digest draws others h = others h.digest
 
 -- a reservation without a program isn't explained
@@ -104,19 +104,19 @@ not_each : (draws : ℕ → ℕ → ℕ) → Explains three draws [] (settled_as
 not_each draws h = cc (h.each_has)
 
 -- one row less moves an answer at epsilon 1 by 1, in millionths; nothing is moved where nothing was answered
-shown_one : IsShown (people ∷ []) [] (size_people ∷ []) (settled_as (Answered (pos 2))) three.rows two_rows 1000000
+shown_one : IsShown (people ∷ []) [] (of_size ∷ []) (settled_as (Answered (pos 2))) three.rows two_rows 1000000
 unfolding IsShown signature_in rows_in
 shown_one = (1000000, 0, (pos 3, pos 2, three_value, two_value, refl), refl, refl)
 
-shown_exhausted : IsShown (people ∷ []) [] (size_people ∷ []) (settled_as Exhausted) three.rows two_rows 0
+shown_exhausted : IsShown (people ∷ []) [] (of_size ∷ []) (settled_as Exhausted) three.rows two_rows 0
 unfolding IsShown
 shown_exhausted = (0, 0, refl, refl, refl)
 
-shown_lost : IsShown (people ∷ []) [] (size_people ∷ []) (settled_as Lost) three.rows two_rows 0
+shown_lost : IsShown (people ∷ []) [] (of_size ∷ []) (settled_as Lost) three.rows two_rows 0
 unfolding IsShown
 shown_lost = (0, 0, refl, refl, refl)
 
-shown_open : IsShown (people ∷ []) [] (size_people ∷ []) (Reserve reserved ∷ []) three.rows two_rows 0
+shown_open : IsShown (people ∷ []) [] (of_size ∷ []) (Reserve reserved ∷ []) three.rows two_rows 0
 unfolding IsShown
 shown_open = (0, 0, refl, refl, refl)
 
@@ -189,26 +189,26 @@ not_recalled_by_another h =
 
 -- a query, and what the records say of it
 abbrev query_by : (analyst e : ℕ) → Query
-query_by analyst e = record { analyst = analyst; view = Whole; e = e; program = size_people }
+query_by analyst e = record { analyst = analyst; view = Whole; e = e; program = size_people; made = None }
 
-granted_two : IsGranted (size_people ∷ []) (settled_as (Answered (pos 2))) (query_by 0 1000000) 0 (Answered (pos 2))
-granted_two = record { reserved = reserved; numbered = refl; analyst = refl; view = refl; epsilon = refl; settled = refl; program = refl }
+granted_two : IsGranted (of_size ∷ []) (settled_as (Answered (pos 2))) (query_by 0 1000000) 0 (Answered (pos 2))
+granted_two = record { reserved = reserved; numbered = refl; analyst = refl; view = refl; epsilon = refl; settled = refl; source = refl }
 
 -- a refusal says nothing that the records must bear out
 quiet_out : IsBorneOut [] [] (query_by 0 1000000) (refused no_memory)
 quiet_out = λ n outcome said. absurd (cc (said))
 
--- the records don't bear out another value, an exhausted number, another number, analyst, epsilon or program
-not_the_value : IsBorneOut (size_people ∷ []) (settled_as (Answered (pos 2))) (query_by 0 1000000) (answered 0 (pos 3) 1000000) → ⊥
+-- the records don't bear out another value, an exhausted number, another number, analyst, epsilon, program or definition
+not_the_value : IsBorneOut (of_size ∷ []) (settled_as (Answered (pos 2))) (query_by 0 1000000) (answered 0 (pos 3) 1000000) → ⊥
 not_the_value h = let g = h 0 (Answered (pos 3)) refl in cc (g.settled)
 
-not_the_outcome : IsBorneOut (size_people ∷ []) (settled_as (Answered (pos 2))) (query_by 0 1000000) (refused (by_number (NoNoise 0))) → ⊥
+not_the_outcome : IsBorneOut (of_size ∷ []) (settled_as (Answered (pos 2))) (query_by 0 1000000) (refused (by_number (NoNoise 0))) → ⊥
 not_the_outcome h = let g = h 0 Exhausted refl in cc (g.settled)
 
-not_the_number : IsBorneOut (size_people ∷ []) (settled_as (Answered (pos 2))) (query_by 0 1000000) (answered 1 (pos 2) 1000000) → ⊥
+not_the_number : IsBorneOut (of_size ∷ []) (settled_as (Answered (pos 2))) (query_by 0 1000000) (answered 1 (pos 2) 1000000) → ⊥
 not_the_number h = let g = h 1 (Answered (pos 2)) refl in cc (g.settled)
 
-not_the_analyst : IsBorneOut (size_people ∷ []) (settled_as (Answered (pos 2))) (query_by 1 1000000) (answered 0 (pos 2) 1000000) → ⊥
+not_the_analyst : IsBorneOut (of_size ∷ []) (settled_as (Answered (pos 2))) (query_by 1 1000000) (answered 0 (pos 2) 1000000) → ⊥
 not_the_analyst h =
     let g = h 0 (Answered (pos 2)) refl in
     let both : Some reserved ≡ Some g.reserved = g.numbered in
@@ -216,7 +216,7 @@ not_the_analyst h =
     let other : 0 ≡ 1 = ap (λ (r : Reservation). r.analyst) same ∙ g.analyst in
     cc (other)
 
-not_the_epsilon : IsBorneOut (size_people ∷ []) (settled_as (Answered (pos 2))) (query_by 0 500000) (answered 0 (pos 2) 1000000) → ⊥
+not_the_epsilon : IsBorneOut (of_size ∷ []) (settled_as (Answered (pos 2))) (query_by 0 500000) (answered 0 (pos 2) 1000000) → ⊥
 not_the_epsilon h =
     let g = h 0 (Answered (pos 2)) refl in
     let both : Some reserved ≡ Some g.reserved = g.numbered in
@@ -224,5 +224,30 @@ not_the_epsilon h =
     let other : 1000000 ≡ 500000 = ap (λ (r : Reservation). r.e) same ∙ g.epsilon in
     omega (arith, other)
 
-not_the_program : IsBorneOut ([] ∷ []) (settled_as (Answered (pos 2))) (query_by 0 1000000) (answered 0 (pos 2) 1000000) → ⊥
-not_the_program h = let g = h 0 (Answered (pos 2)) refl in cc (g.program)
+not_the_program : IsBorneOut (plain_source [] ∷ []) (settled_as (Answered (pos 2))) (query_by 0 1000000) (answered 0 (pos 2) 1000000) → ⊥
+not_the_program h =
+    let both : Some (plain_source []) ≡ Some (source_of (query_by 0 1000000)) = (h 0 (Answered (pos 2)) refl).source in
+    let same : plain_source [] ≡ source_of (query_by 0 1000000) = cc (both) in
+    let other : [] ≡ size_people = ap (λ (s : Source). s.program) same in
+    cc (other)
+
+-- the same of a query in a part of a made partition, behind which stands that partition's definition, and neither none nor another
+abbrev made_query : Query
+made_query = record (query_by 0 1000000) { made = Some (codes "d") }
+
+granted_made : IsGranted (record of_size { made = Some (codes "d") } ∷ []) (settled_as (Answered (pos 2))) made_query 0 (Answered (pos 2))
+granted_made = record { reserved = reserved; numbered = refl; analyst = refl; view = refl; epsilon = refl; settled = refl; source = refl }
+
+not_without_definition : IsBorneOut (of_size ∷ []) (settled_as (Answered (pos 2))) made_query (answered 0 (pos 2) 1000000) → ⊥
+not_without_definition h =
+    let both : Some of_size ≡ Some (source_of made_query) = (h 0 (Answered (pos 2)) refl).source in
+    let same : of_size ≡ source_of made_query = cc (both) in
+    let other : None ≡ Some (codes "d") = ap (λ (s : Source). s.made) same in
+    cc (other)
+
+not_by_another_definition : IsBorneOut (record of_size { made = Some [] } ∷ []) (settled_as (Answered (pos 2))) made_query (answered 0 (pos 2) 1000000) → ⊥
+not_by_another_definition h =
+    let both : Some (record of_size { made = Some [] }) ≡ Some (source_of made_query) = (h 0 (Answered (pos 2)) refl).source in
+    let same : record of_size { made = Some [] } ≡ source_of made_query = cc (both) in
+    let other : Some [] ≡ Some (codes "d") = ap (λ (s : Source). s.made) same in
+    cc (other)

@@ -28,9 +28,10 @@ use Rattle.answer_path.specs.ShapeLaw.Walk.{depth_limit}
 use Rattle.answer_path.specs.Admission.{HasValue, admission_of}
 use Rattle.answer_path.specs.OwnerHouse.Owner.{Owner, HasData}
 use Rattle.answer_path.specs.Program.{IsCharged}
+use Rattle.answer_path.specs.Query.{plain_source}
 use Rattle.answer_path.specs.Reading.{read, IsReading}
 use Rattle.answer_path.proofs.Programs.{one_value}
-use Rattle.answer_path.proofs.SizePeople.{size_people, size_term, size_reads, span}
+use Rattle.answer_path.proofs.SizePeople.{of_size, size_people, size_term, size_reads, span}
 use Rattle.owner_history.specs.Shown.{IsShown}
 use Rattle.owner_history.proofs.Bounded.{AreCharged, shown_bounded}
 use Rattle.owner_history.proofs.OneShown.{shown_once}
@@ -163,7 +164,7 @@ unfolding cost_of cost_of_charges parts_cost partition_cost budget_of
 cities_cost_once = refl
 
 -- each answer is displaced by 1
-cities_show : IsShown tables partitions (size_people ∷ size_people ∷ []) both_cities rows other 2000000
+cities_show : IsShown tables partitions (of_size ∷ of_size ∷ []) both_cities rows other 2000000
 unfolding IsShown
 cities_show = (1000000, 1000000, (pos 2, pos 1, value_in_a, other_in_a, refl), (1000000, 0, (pos 1, pos 0, value_in_b, other_in_b, refl), refl, refl), refl)
 
@@ -183,14 +184,14 @@ unfolding HasValue signature_in rows_in
 nearer_in_b = (size_term, size_reads, (2, (b_red ∷ [], refl, refl)))
 
 -- the bound itself: 1000000 at distance 1
-nearer_cities_show : IsShown tables partitions (size_people ∷ size_people ∷ []) both_cities rows nearer 1000000
+nearer_cities_show : IsShown tables partitions (of_size ∷ of_size ∷ []) both_cities rows nearer 1000000
 unfolding IsShown
 nearer_cities_show = (1000000, 0, (pos 2, pos 1, value_in_a, nearer_in_a, refl), (0, 0, (pos 1, pos 1, value_in_b, nearer_in_b, refl), refl, refl), refl)
 
 -- and they show nothing else
-cities_show_no_more : (d : ℕ) → IsShown tables partitions (size_people ∷ size_people ∷ []) both_cities rows nearer d → d ≤ 1000000
+cities_show_no_more : (d : ℕ) → IsShown tables partitions (of_size ∷ of_size ∷ []) both_cities rows nearer d → d ≤ 1000000
 cities_show_no_more d shown =
-    let same : d ≡ 1000000 = shown_once tables partitions (size_people ∷ size_people ∷ []) both_cities rows nearer d 1000000 shown nearer_cities_show in
+    let same : d ≡ 1000000 = shown_once tables partitions (of_size ∷ of_size ∷ []) both_cities rows nearer d 1000000 shown nearer_cities_show in
     omega (arith, same)
 
 -- ---- a mix: both cities, the whole at epsilon 1/2, a team, and a place of the other table at epsilon 1/4
@@ -208,7 +209,7 @@ mix_costs = refl
 
 -- 1 in A, 2 in the whole at half, 1 in B, 2 among the red, and 1 at the pool at a quarter
 mix_shows : IsReading size_visits (read visits_term)
-    → IsShown tables partitions (size_people ∷ size_people ∷ size_people ∷ size_people ∷ size_visits ∷ []) mix rows other 5250000
+    → IsShown tables partitions (of_size ∷ of_size ∷ of_size ∷ of_size ∷ plain_source size_visits ∷ []) mix rows other 5250000
 unfolding IsShown
 mix_shows reads = (
   1000000,
@@ -241,7 +242,7 @@ mix_is_within : 5250000 ≤ 2750000 * 3
 mix_is_within = omega arith
 
 -- A part is no whole: the answer in B, of the rows of B, isn't displaced by the whole's 2.
-not_as_the_whole : IsShown tables partitions (size_people ∷ []) (asked 0 (Part 0 1) 1000000 1000000 size_people ∷ settled 0 ∷ []) rows other 2000000 → ⊥
+not_as_the_whole : IsShown tables partitions (of_size ∷ []) (asked 0 (Part 0 1) 1000000 1000000 size_people ∷ settled 0 ∷ []) rows other 2000000 → ⊥
 unfolding IsShown
 not_as_the_whole (m, n, (v, w, first, second, is), rest, sum) =
     let p : v ≡ pos 1 = one_value (signature_in tables partitions (Part 0 1)) (rows_in partitions (Part 0 1) rows) size_people v (pos 1) first value_in_b in
@@ -298,15 +299,15 @@ unfolding admission_of depth_limit gcd gcd_in
 charged_visits reads = (visits_term, reads, refl)
 
 mix_charged : IsReading size_visits (read visits_term)
-    → AreCharged tables partitions (size_people ∷ size_people ∷ size_people ∷ size_people ∷ size_visits ∷ []) (reservations_of mix)
+    → AreCharged tables partitions (of_size ∷ of_size ∷ of_size ∷ of_size ∷ plain_source size_visits ∷ []) (reservations_of mix)
 unfolding signature_in
 mix_charged reads = (charged_alone, (charged_beside, (charged_alone, (charged_alone, (charged_visits reads, tt)))))
 
 -- whatever the mix shows is at most 2750000 times 3
 mix_bounded : IsReading size_visits (read visits_term)
-    → (d : ℕ) × IsShown tables partitions (size_people ∷ size_people ∷ size_people ∷ size_people ∷ size_visits ∷ []) mix rows other d × (d ≤ 8250000)
+    → (d : ℕ) × IsShown tables partitions (of_size ∷ of_size ∷ of_size ∷ of_size ∷ plain_source size_visits ∷ []) mix rows other d × (d ≤ 8250000)
 mix_bounded reads =
-    let shown = shown_bounded an_entry tables partitions mix rows other (size_people ∷ size_people ∷ size_people ∷ size_people ∷ size_visits ∷ [])
+    let shown = shown_bounded an_entry tables partitions mix rows other (of_size ∷ of_size ∷ of_size ∷ of_size ∷ plain_source size_visits ∷ [])
     (record { well = tables_signed; divided = are_partitions; first = rows_typed; second = other_typed }) (mix_charged reads) in
     let within : shown.0 ≤ 2750000 * 3 = subst (λ (cost : ℕ). shown.0 ≤ cost * 3) mix_costs shown.2 in
     (shown.0, shown.1, omega (arith, within))

@@ -12,6 +12,7 @@ use Rattle.metric_values.specs.Tables.{Dataset}
 use Rattle.fz_ast.specs.Signature.{Signature}
 use Rattle.answer_path.specs.OwnerCatalog.Entries.{PartitionEntry}
 use Rattle.answer_path.specs.PartViews.Views.{signature_in, rows_in}
+use Rattle.answer_path.specs.Query.{Source}
 use Rattle.owner_history.specs.Shown.{IsDisplacedIf, IsDisplaced, IsDisplacedWhere, AreDisplaced, is_anyones, IsShown, IsShownBy}
 use Rattle.answer_path.proofs.Programs.{one_value}
 
@@ -26,34 +27,34 @@ displaced_once tables rows other e program (Some Exhausted) c d f g = f ∙ sym 
 displaced_once tables rows other e program (Some Lost) c d f g = f ∙ sym g
 
 module _ (tables : Signature) (partitions : List PartitionEntry) (records : List Record) (rows other : Dataset) where
-  pub reservation_once : (program : List ℕ) (r : Reservation) (c d : ℕ)
-      → IsDisplaced tables partitions records rows other program r c → IsDisplaced tables partitions records rows other program r d → c ≡ d
-  reservation_once program r c d f g =
-      displaced_once (signature_in tables partitions r.view) (rows_in partitions r.view rows) (rows_in partitions r.view other) r.e program (outcome_of records r.number) c d f g
+  pub reservation_once : (source : Source) (r : Reservation) (c d : ℕ)
+      → IsDisplaced tables partitions records rows other source r c → IsDisplaced tables partitions records rows other source r d → c ≡ d
+  reservation_once source r c d f g =
+      displaced_once (signature_in tables partitions r.view) (rows_in partitions r.view rows) (rows_in partitions r.view other) r.e source.program (outcome_of records r.number) c d f g
 
-  tested_once : (passes : Bool) (program : List ℕ) (r : Reservation) (c d : ℕ)
-      → IsDisplacedWhere passes tables partitions records rows other program r c → IsDisplacedWhere passes tables partitions records rows other program r d → c ≡ d
-  tested_once true program r c d f g = reservation_once program r c d f g
-  tested_once false program r c d f g = f ∙ sym g
+  tested_once : (passes : Bool) (source : Source) (r : Reservation) (c d : ℕ)
+      → IsDisplacedWhere passes tables partitions records rows other source r c → IsDisplacedWhere passes tables partitions records rows other source r d → c ≡ d
+  tested_once true source r c d f g = reservation_once source r c d f g
+  tested_once false source r c d f g = f ∙ sym g
 
-  sum_once : (test : Reservation → Bool) (programs : List (List ℕ)) (reservations : List Reservation) (c d : ℕ)
-      → AreDisplaced test tables partitions records rows other programs reservations c → AreDisplaced test tables partitions records rows other programs reservations d → c ≡ d
+  sum_once : (test : Reservation → Bool) (sources : List Source) (reservations : List Reservation) (c d : ℕ)
+      → AreDisplaced test tables partitions records rows other sources reservations c → AreDisplaced test tables partitions records rows other sources reservations d → c ≡ d
   sum_once test [] [] c d f g = f ∙ sym g
   sum_once test [] (r ∷ rs) c d f g = absurd f
-  sum_once test (program ∷ programs) [] c d f g = absurd f
-  sum_once test (program ∷ programs) (r ∷ rs) c d f g =
-      let first : f.0 ≡ g.0 = tested_once (test r) program r f.0 g.0 f.2 g.2 in
-      let more : f.1 ≡ g.1 = sum_once test programs rs f.1 g.1 f.3 g.3 in
+  sum_once test (source ∷ sources) [] c d f g = absurd f
+  sum_once test (source ∷ sources) (r ∷ rs) c d f g =
+      let first : f.0 ≡ g.0 = tested_once (test r) source r f.0 g.0 f.2 g.2 in
+      let more : f.1 ≡ g.1 = sum_once test sources rs f.1 g.1 f.3 g.3 in
       f.4 ∙ ap (λ m. m + f.1) first ∙ ap (λ n. g.0 + n) more ∙ sym g.4
 
 -- Between two datasets records show one displacement at most.
-pub shown_once : (tables : Signature) (partitions : List PartitionEntry) (programs : List (List ℕ)) (records : List Record) (rows other : Dataset) (c d : ℕ)
-    → IsShown tables partitions programs records rows other c → IsShown tables partitions programs records rows other d → c ≡ d
+pub shown_once : (tables : Signature) (partitions : List PartitionEntry) (sources : List Source) (records : List Record) (rows other : Dataset) (c d : ℕ)
+    → IsShown tables partitions sources records rows other c → IsShown tables partitions sources records rows other d → c ≡ d
 unfolding IsShown
-shown_once tables partitions programs records rows other c d f g = sum_once tables partitions records rows other is_anyones programs (reservations_of records) c d f g
+shown_once tables partitions sources records rows other c d f g = sum_once tables partitions records rows other is_anyones sources (reservations_of records) c d f g
 
 -- So it is of an analyst's answers.
-pub share_once : (analyst : ℕ) (tables : Signature) (partitions : List PartitionEntry) (programs : List (List ℕ)) (records : List Record) (rows other : Dataset) (c d : ℕ)
-    → IsShownBy analyst tables partitions programs records rows other c → IsShownBy analyst tables partitions programs records rows other d → c ≡ d
+pub share_once : (analyst : ℕ) (tables : Signature) (partitions : List PartitionEntry) (sources : List Source) (records : List Record) (rows other : Dataset) (c d : ℕ)
+    → IsShownBy analyst tables partitions sources records rows other c → IsShownBy analyst tables partitions sources records rows other d → c ≡ d
 unfolding IsShownBy
-share_once analyst tables partitions programs records rows other c d f g = sum_once tables partitions records rows other (is_by analyst) programs (reservations_of records) c d f g
+share_once analyst tables partitions sources records rows other c d f g = sum_once tables partitions records rows other (is_by analyst) sources (reservations_of records) c d f g

@@ -1,4 +1,4 @@
--- found records are well, and what is well is backed by its programs
+-- found records are well, and what is well is backed by its sources
 use Rattle.std.proofs.Common.{◌≡◌, ℕ, ◌≤◌, List, length, slice_get, Some, arith}
 use Rattle.std.proofs.lemmas.Option.{slice_get_within}
 use Rattle.std.proofs.Math.Seq.{take-length}
@@ -9,6 +9,7 @@ use Rattle.budget_core.specs.Legal.{IsHistory, IsLegal}
 use Rattle.budget_core.proofs.LegalLemmas.{legal-cost}
 use Rattle.budget_core.proofs.MineLemmas.{stays_within_limits}
 use Rattle.answer_path.specs.OwnerHouse.Owner.{Owner, HasData}
+use Rattle.answer_path.specs.Query.{Source}
 use Rattle.owner_history.specs.Sound.{AreWithinLimits, IsBacked, IsFound, IsOwed, MayBeFound}
 use Rattle.owner_history.proofs.Bounded.{explained_bounded, explained_shares}
 use Rattle.owner_history.proofs.Steps.{IsLawful, IsWell}
@@ -37,20 +38,20 @@ pub lawful_owed : (owner : Owner) (draws : ℕ → ℕ → ℕ) (found records :
 lawful_owed owner draws found records within w =
     record { legal = w.legal; within = legal-cost owner.entry found records within w.legal; limited = history_limited owner.entry records w.history }
 
--- what programs explain may be found
-pub found_may : (owner : Owner) (draws : ℕ → ℕ → ℕ) (found : List Record) (programs : List (List ℕ)) → IsFound owner draws programs found → MayBeFound owner found
-found_may owner draws found programs f = record { history = f.history; within = f.within }
+-- what sources explain may be found
+pub found_may : (owner : Owner) (draws : ℕ → ℕ → ℕ) (found : List Record) (sources : List Source) → IsFound owner draws sources found → MayBeFound owner found
+found_may owner draws found sources f = record { history = f.history; within = f.within }
 
-pub well_found : (owner : Owner) (draws : ℕ → ℕ → ℕ) (found : List Record) (programs : List (List ℕ)) → IsFound owner draws programs found → IsWell owner draws found programs found
-well_found owner draws found programs f = record { lawful = lawful_found owner draws found (found_may owner draws found programs f); explained = f.explained }
+pub well_found : (owner : Owner) (draws : ℕ → ℕ → ℕ) (found : List Record) (sources : List Source) → IsFound owner draws sources found → IsWell owner draws found sources found
+well_found owner draws found sources f = record { lawful = lawful_found owner draws found (found_may owner draws found sources f); explained = f.explained }
 
-pub well_backed : (owner : Owner) (draws : ℕ → ℕ → ℕ) (found : List Record) (programs : List (List ℕ)) (records : List Record) → HasData owner → cost_of owner.entry found ≤ budget_of owner.entry found
-    → IsWell owner draws found programs records → IsBacked owner draws found programs records
-well_backed owner draws found programs records has within w = record {
+pub well_backed : (owner : Owner) (draws : ℕ → ℕ → ℕ) (found : List Record) (sources : List Source) (records : List Record) → HasData owner → cost_of owner.entry found ≤ budget_of owner.entry found
+    → IsWell owner draws found sources records → IsBacked owner draws found sources records
+well_backed owner draws found sources records has within w = record {
   legal = w.lawful.legal;
   within = legal-cost owner.entry found records within w.lawful.legal;
   limited = history_limited owner.entry records w.lawful.history;
   explained = w.explained;
-  bounded = explained_bounded owner draws programs records has w.explained;
-  shares = explained_shares owner draws programs records has w.explained;
+  bounded = explained_bounded owner draws sources records has w.explained;
+  shares = explained_shares owner draws sources records has w.explained;
 }

@@ -17,7 +17,7 @@ use Rattle.budget_core.proofs.Histories.{legal-history, slice_get-append-seam}
 use Rattle.budget_core.proofs.Numbers.{reservations_of-append-Reserve, reservations_of-append-Settle, reservation_of-append-old, reservation_of-next, outcome_of-append-new}
 use Rattle.budget_core.proofs.LegalLemmas.{granted as money_granted, legal-Reserve, legal-Settle, unsettled-Reserve, settlement-may}
 use Rattle.answer_path.specs.OwnerHouse.Owner.{Owner, signature_of_view}
-use Rattle.answer_path.specs.Query.{Query}
+use Rattle.answer_path.specs.Query.{Query, Source, source_of}
 use Rattle.answer_path.specs.Code.{IsQueryOf}
 use Rattle.answer_path.specs.Program.{IsCharged}
 use Rattle.answer_path.specs.Verdict.{granted, ask_for, IsVerdict}
@@ -46,10 +46,10 @@ module _ (owner : Owner) (draws : ℕ → ℕ → ℕ) (found : List Record) whe
     pub legal : IsLegal owner.entry found records
     pub later : length (reservations_of found) ≤ length (reservations_of records)
 
-  -- the same of records and the programs that explain them
-  pub record IsWell (programs : List (List ℕ)) (records : List Record) : Type 0 where
+  -- the same of records and the sources that explain them
+  pub record IsWell (sources : List Source) (records : List Record) : Type 0 where
     pub lawful : IsLawful records
-    pub explained : Explains owner draws programs records
+    pub explained : Explains owner draws sources records
 
   abbrev ledger_of : List Record → Ledger
   ledger_of records = record { entry = owner.entry; found = found; records = records }
@@ -119,37 +119,37 @@ module _ (owner : Owner) (draws : ℕ → ℕ → ℕ) (found : List Record) whe
         later = omega (arith, w.later, reservations_of-append-Settle records n outcome (returned_by owner.entry records n outcome));
       }
 
-  -- The program of a reservation explains it, behind those of the records.
-  pub well_reserved : (programs : List (List ℕ)) (records : List Record) → IsWell programs records → (query : Query) (n : ℕ) (r : Reservation) (after : List Record) → IsReserved records query n r after
-      → IsWell (programs ++ query.program ∷ []) after
-  well_reserved programs records w query n r after made = record {
+  -- The source of a reservation explains it, behind those of the records.
+  pub well_reserved : (sources : List Source) (records : List Record) → IsWell sources records → (query : Query) (n : ℕ) (r : Reservation) (after : List Record) → IsReserved records query n r after
+      → IsWell (sources ++ source_of query ∷ []) after
+  well_reserved sources records w query n r after made = record {
     lawful = made.lawful;
-    explained = subst (λ (rs : List Record). Explains owner draws (programs ++ query.program ∷ []) rs) (sym made.after_is)
-        (explains_reservation owner draws programs records w.explained query.program r w.lawful.history made.digest made.charged);
+    explained = subst (λ (rs : List Record). Explains owner draws (sources ++ source_of query ∷ []) rs) (sym made.after_is)
+        (explains_reservation owner draws sources records w.explained (source_of query) r w.lawful.history made.digest made.charged);
   }
 
-  -- with the records and the program of one grant more
-  pub record IsStep (programs : List (List ℕ)) (records : List Record) (query : Query) (n : ℕ) (outcome : Outcome) (after : List Record) : Type 0 where
+  -- with the records and the source of one grant more
+  pub record IsStep (sources : List Source) (records : List Record) (query : Query) (n : ℕ) (outcome : Outcome) (after : List Record) : Type 0 where
     pub number : n ≡ length (reservations_of records)
     pub counted : length (reservations_of after) ≡ n + 1
-    pub well : IsWell (programs ++ query.program ∷ []) after
-    pub granted : IsGranted (programs ++ query.program ∷ []) after query n outcome
+    pub well : IsWell (sources ++ source_of query ∷ []) after
+    pub granted : IsGranted (sources ++ source_of query ∷ []) after query n outcome
 
-  settled_step : IsHistory owner.entry found → (programs : List (List ℕ)) (records : List Record) → IsWell programs records → (query : Query) (n : ℕ) (r : Reservation) (first : List Record) (outcome : Outcome)
-      → IsReserved records query n r first → IsSettledBy owner draws query n outcome → IsStep programs records query n outcome (first ++ settlement_for owner.entry first n outcome ∷ [])
-  settled_step begun programs records w query n r first outcome made settles =
-      let counted : n ≡ length programs = made.number ∙ sym w.explained.each_has in
-      let at : slice_get (programs ++ query.program ∷ []) n ≡ Some query.program = ap (λ k. slice_get (programs ++ query.program ∷ []) k) counted ∙ slice_get-append-seam programs query.program [] in
+  settled_step : IsHistory owner.entry found → (sources : List Source) (records : List Record) → IsWell sources records → (query : Query) (n : ℕ) (r : Reservation) (first : List Record) (outcome : Outcome)
+      → IsReserved records query n r first → IsSettledBy owner draws query n outcome → IsStep sources records query n outcome (first ++ settlement_for owner.entry first n outcome ∷ [])
+  settled_step begun sources records w query n r first outcome made settles =
+      let counted : n ≡ length sources = made.number ∙ sym w.explained.each_has in
+      let at : slice_get (sources ++ source_of query ∷ []) n ≡ Some (source_of query) = ap (λ k. slice_get (sources ++ source_of query ∷ []) k) counted ∙ slice_get-append-seam sources (source_of query) [] in
       let listed : slice_get (reservations_of first) n ≡ Some r
       = ap (λ (rs : List Record). slice_get (reservations_of rs) n) made.after_is ∙ ap (λ (rs : List Reservation). slice_get rs n) (filter_map-append reservation_in records (Reserve r ∷ []))
       ∙ ap (λ k. slice_get (reservations_of records ++ r ∷ []) k) made.number ∙ slice_get-append-seam (reservations_of records) r [] in
-      let reserved : IsWell (programs ++ query.program ∷ []) first = well_reserved programs records w query n r first made in
+      let reserved : IsWell (sources ++ source_of query ∷ []) first = well_reserved sources records w query n r first made in
       record {
         number = made.number;
         counted = reservations_of-append-Settle first n outcome (returned_by owner.entry first n outcome) ∙ made.counted;
         well = record {
           lawful = settle begun first made.lawful n outcome made.unsettled;
-          explained = explains_settlement owner draws (programs ++ query.program ∷ []) first reserved.explained n query.program r outcome (returned_by owner.entry first n outcome) at listed made.unsettled.unsettled
+          explained = explains_settlement owner draws (sources ++ source_of query ∷ []) first reserved.explained n (source_of query) r outcome (returned_by owner.entry first n outcome) at listed made.unsettled.unsettled
               (outcome_explains owner draws query n outcome r made.view made.epsilon settles);
         };
         granted = record {
@@ -159,18 +159,18 @@ module _ (owner : Owner) (draws : ℕ → ℕ → ℕ) (found : List Record) whe
           view = made.view;
           epsilon = made.epsilon;
           settled = outcome_of-append-new first n outcome (returned_by owner.entry first n outcome) made.unsettled.unsettled;
-          program = at;
+          source = at;
         };
       }
 
   -- One grant more.
-  pub step : IsHistory owner.entry found → (programs : List (List ℕ)) (records : List Record) → IsWell programs records → (query : Query) → IsQueryOf owner.entry query → (asking : Ask) (grant : Grant) (outcome : Outcome)
+  pub step : IsHistory owner.entry found → (sources : List Source) (records : List Record) → IsWell sources records → (query : Query) → IsQueryOf owner.entry query → (asking : Ask) (grant : Grant) (outcome : Outcome)
       → IsVerdict owner.entry (signature_of_view owner query.view) (length (reservations_of found)) records query (granted asking grant) → IsSettledBy owner draws query grant.number outcome
-      → IsStep programs records query grant.number outcome (records ++ grant_records owner.entry records asking grant outcome)
-  step begun programs records w query of asking grant outcome is settles =
+      → IsStep sources records query grant.number outcome (records ++ grant_records owner.entry records asking grant outcome)
+  step begun sources records w query of asking grant outcome is settles =
       let made = reserve begun records w.lawful query of asking grant is in
-      subst (λ (rs : List Record). IsStep programs records query grant.number outcome rs) (append_assoc records (granted_record asking grant ∷ []) (settlement_for owner.entry (records ++ granted_record asking grant ∷ []) grant.number outcome ∷ []))
-      (settled_step begun programs records w query grant.number (reservation_numbered grant.number asking grant.taken) (records ++ granted_record asking grant ∷ []) outcome made settles)
+      subst (λ (rs : List Record). IsStep sources records query grant.number outcome rs) (append_assoc records (granted_record asking grant ∷ []) (settlement_for owner.entry (records ++ granted_record asking grant ∷ []) grant.number outcome ∷ []))
+      (settled_step begun sources records w query grant.number (reservation_numbered grant.number asking grant.taken) (records ++ granted_record asking grant ∷ []) outcome made settles)
 
   -- The same of the records alone, whatever was found.
   pub lawful_step : IsHistory owner.entry found → (records : List Record) → IsLawful records → (query : Query) → IsQueryOf owner.entry query → (asking : Ask) (grant : Grant) (outcome : Outcome)
@@ -180,17 +180,17 @@ module _ (owner : Owner) (draws : ℕ → ℕ → ℕ) (found : List Record) whe
       subst IsLawful (append_assoc records (granted_record asking grant ∷ []) (settlement_for owner.entry (records ++ granted_record asking grant ∷ []) grant.number outcome ∷ []))
       (settle begun (records ++ granted_record asking grant ∷ []) made.lawful grant.number outcome made.unsettled)
 
--- what is said of a number stays so in records and programs that go on
-pub granted_on : (programs more : List (List ℕ)) (records after : List Record) (query : Query) (n : ℕ) (outcome : Outcome) → IsPrefix programs more → IsPrefix records after
-    → IsGranted programs records query n outcome → IsGranted more after query n outcome
-granted_on programs more records after query n outcome p r g = record {
+-- what is said of a number stays so in records and sources that go on
+pub granted_on : (sources more : List Source) (records after : List Record) (query : Query) (n : ℕ) (outcome : Outcome) → IsPrefix sources more → IsPrefix records after
+    → IsGranted sources records query n outcome → IsGranted more after query n outcome
+granted_on sources more records after query n outcome p r g = record {
   reserved = g.reserved;
   numbered = reservation_prefix records after n g.reserved r g.numbered;
   analyst = g.analyst;
   view = g.view;
   epsilon = g.epsilon;
   settled = outcome_prefix records after n outcome r g.settled;
-  program = slice_get_prefix programs more n query.program p g.program;
+  source = slice_get_prefix sources more n (source_of query) p g.source;
 }
 
 pub settled_for_on : (records after : List Record) (analyst n : ℕ) (outcome : Outcome) → IsPrefix records after → IsSettledFor records analyst n outcome → IsSettledFor after analyst n outcome

@@ -8,18 +8,18 @@ use Rattle.budget_core.specs.Counts.{reservation_of, outcome_of}
 use Rattle.wire_lines.specs.Reply.{Replied, greeted, answered, recalled, remaining, spending, ended, refused}
 use Rattle.wire_lines.specs.Refusal.{by_line, by_program, by_money, by_disk, by_number, no_memory}
 use Rattle.wire_lines.specs.declared.refusal.NumberRefusal.TheVariants.{Exhausted as NoNoise, Lost as NoAnswer, Unknown, NotYours}
-use Rattle.answer_path.specs.Query.{Query}
+use Rattle.answer_path.specs.Query.{Query, Source, source_of}
 
 -- The query was granted the number n, and the records settle n so. Number n's reservation has the query's analyst, view and
--- epsilon, and its program is the query's.
-pub record IsGranted (programs : List (List ℕ)) (records : List Record) (query : Query) (n : ℕ) (outcome : Outcome) : Type 0 where
+-- epsilon, and its source is the query's.
+pub record IsGranted (sources : List Source) (records : List Record) (query : Query) (n : ℕ) (outcome : Outcome) : Type 0 where
   pub reserved : Reservation
   pub numbered : reservation_of records n ≡ Some reserved
   pub analyst : reserved.analyst ≡ query.analyst
   pub view : reserved.view ≡ query.view
   pub epsilon : reserved.e ≡ query.e
   pub settled : outcome_of records n ≡ Some outcome
-  pub program : slice_get programs n ≡ Some query.program
+  pub source : slice_get sources n ≡ Some (source_of query)
 
 -- the number of the reservation that a reply to a query speaks of, and how it was settled
 abbrev pub told_settlement : Replied → Option (ℕ × Outcome)
@@ -40,9 +40,9 @@ told_settlement (greeted name) = None
 told_settlement ended = None
 
 -- The records bear out what a reply to a query says: a reservation that it speaks of was granted, and settled so.
-abbrev pub IsBorneOut : (programs : List (List ℕ)) → List Record → Query → Replied → Type 0
-IsBorneOut programs records query reply =
-    (n : ℕ) (outcome : Outcome) → told_settlement reply ≡ Some (n, outcome) → IsGranted programs records query n outcome
+abbrev pub IsBorneOut : (sources : List Source) → List Record → Query → Replied → Type 0
+IsBorneOut sources records query reply =
+    (n : ℕ) (outcome : Outcome) → told_settlement reply ≡ Some (n, outcome) → IsGranted sources records query n outcome
 
 -- The analyst reserved the number n, and the records settle n so.
 pub record IsSettledFor (records : List Record) (analyst n : ℕ) (outcome : Outcome) : Type 0 where

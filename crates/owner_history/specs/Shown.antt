@@ -12,6 +12,7 @@ use Rattle.metric_values.specs.Tables.{Dataset}
 use Rattle.answer_path.specs.OwnerCatalog.Entries.{PartitionEntry}
 use Rattle.answer_path.specs.PartViews.Views.{signature_in, rows_in}
 use Rattle.answer_path.specs.Admission.{HasValue}
+use Rattle.answer_path.specs.Query.{Source}
 
 -- Epsilon times how far a program's value is displaced between two datasets of some tables, where its reservation was
 -- answered; else there is nothing to displace.
@@ -22,27 +23,27 @@ IsDisplacedIf tables rows other epsilon program (Some Exhausted) d = d ≡ 0
 IsDisplacedIf tables rows other epsilon program (Some Lost) d = d ≡ 0
 IsDisplacedIf tables rows other epsilon program None d = d ≡ 0
 
--- A reservation's program sees the tables and the rows of the reservation's view, on either dataset.
-abbrev pub IsDisplaced : Signature → List PartitionEntry → List Record → (rows other : Dataset) → List ℕ → Reservation → ℕ → Type 0
-IsDisplaced tables partitions records rows other program reserved d =
+-- A source's program sees the tables and the rows of the reservation's view, on either dataset.
+abbrev pub IsDisplaced : Signature → List PartitionEntry → List Record → (rows other : Dataset) → Source → Reservation → ℕ → Type 0
+IsDisplaced tables partitions records rows other source reserved d =
     IsDisplacedIf (signature_in tables partitions reserved.view) (rows_in partitions reserved.view rows)
-    (rows_in partitions reserved.view other) reserved.e program (outcome_of records reserved.number) d
+    (rows_in partitions reserved.view other) reserved.e source.program (outcome_of records reserved.number) d
 
 -- A reservation that passes a test is displaced so; one that doesn't adds nothing.
 abbrev pub IsDisplacedWhere :
-    (passes : Bool) → Signature → List PartitionEntry → List Record → (rows other : Dataset) → List ℕ → Reservation → ℕ → Type 0
-IsDisplacedWhere true tables partitions records rows other program reserved d = IsDisplaced tables partitions records rows other program reserved d
-IsDisplacedWhere false tables partitions records rows other program reserved d = d ≡ 0
+    (passes : Bool) → Signature → List PartitionEntry → List Record → (rows other : Dataset) → Source → Reservation → ℕ → Type 0
+IsDisplacedWhere true tables partitions records rows other source reserved d = IsDisplaced tables partitions records rows other source reserved d
+IsDisplacedWhere false tables partitions records rows other source reserved d = d ≡ 0
 
--- added up over those reservations that pass the test, and their programs
+-- added up over those reservations that pass the test, and their sources
 abbrev pub AreDisplaced :
-    (test : Reservation → Bool) → Signature → List PartitionEntry → List Record → (rows other : Dataset) → List (List ℕ) → List Reservation → ℕ → Type 0
+    (test : Reservation → Bool) → Signature → List PartitionEntry → List Record → (rows other : Dataset) → List Source → List Reservation → ℕ → Type 0
 AreDisplaced test tables partitions records rows other [] [] d = d ≡ 0
-AreDisplaced test tables partitions records rows other (program ∷ programs) (reservation ∷ reservations) d =
-    (m n : ℕ) × IsDisplacedWhere (test reservation) tables partitions records rows other program reservation m
-    × AreDisplaced test tables partitions records rows other programs reservations n × (d ≡ m + n)
+AreDisplaced test tables partitions records rows other (source ∷ sources) (reservation ∷ reservations) d =
+    (m n : ℕ) × IsDisplacedWhere (test reservation) tables partitions records rows other source reservation m
+    × AreDisplaced test tables partitions records rows other sources reservations n × (d ≡ m + n)
 AreDisplaced test tables partitions records rows other [] (reservation ∷ reservations) d = ⊥
-AreDisplaced test tables partitions records rows other (program ∷ programs) [] d = ⊥
+AreDisplaced test tables partitions records rows other (source ∷ sources) [] d = ⊥
 
 -- anyone's reservation
 abbrev pub is_anyones : Reservation → Bool
@@ -50,11 +51,11 @@ is_anyones reservation = true
 
 -- The displacement that these records show between two datasets of tables so partitioned, in millionths; there is none where
 -- a program that was answered has no value on one of them.
-unfoldable pub IsShown : Signature → List PartitionEntry → List (List ℕ) → List Record → (rows other : Dataset) → ℕ → Type 0
-IsShown tables partitions programs records rows other d =
-    AreDisplaced is_anyones tables partitions records rows other programs (reservations_of records) d
+unfoldable pub IsShown : Signature → List PartitionEntry → List Source → List Record → (rows other : Dataset) → ℕ → Type 0
+IsShown tables partitions sources records rows other d =
+    AreDisplaced is_anyones tables partitions records rows other sources (reservations_of records) d
 
 -- what they show of this analyst's reservations alone
-unfoldable pub IsShownBy : (analyst : ℕ) → Signature → List PartitionEntry → List (List ℕ) → List Record → (rows other : Dataset) → ℕ → Type 0
-IsShownBy analyst tables partitions programs records rows other d =
-    AreDisplaced (is_by analyst) tables partitions records rows other programs (reservations_of records) d
+unfoldable pub IsShownBy : (analyst : ℕ) → Signature → List PartitionEntry → List Source → List Record → (rows other : Dataset) → ℕ → Type 0
+IsShownBy analyst tables partitions sources records rows other d =
+    AreDisplaced (is_by analyst) tables partitions records rows other sources (reservations_of records) d

@@ -8,20 +8,21 @@ use Rattle.budget_core.specs.Mine.{spent_by}
 use Rattle.metric_values.specs.Tables.{Dataset, apart}
 use Rattle.metric_values.specs.Tables.{IsDataset}
 use Rattle.answer_path.specs.OwnerHouse.Owner.{Owner}
+use Rattle.answer_path.specs.Query.{Source}
 use Rattle.owner_history.specs.Explains.{Explains}
 use Rattle.owner_history.specs.Shown.{IsShown, IsShownBy}
 
 -- Against any second dataset of the owner's tables the displacement shown is at most the cost times the distance, whatever
 -- views the records name.
-abbrev pub IsDisplacementBounded : Owner → (programs : List (List ℕ)) → List Record → Type 0
-IsDisplacementBounded owner programs records = (other : Dataset) → IsDataset owner.tables other
-    → (displaced : ℕ) × IsShown owner.tables owner.partitions programs records owner.rows other displaced
+abbrev pub IsDisplacementBounded : Owner → (sources : List Source) → List Record → Type 0
+IsDisplacementBounded owner sources records = (other : Dataset) → IsDataset owner.tables other
+    → (displaced : ℕ) × IsShown owner.tables owner.partitions sources records owner.rows other displaced
     × (displaced ≤ cost_of owner.entry records * apart owner.rows other)
 
 -- So it is of each analyst's own answers, with what that analyst has spent.
-abbrev pub AreSharesBounded : Owner → (programs : List (List ℕ)) → List Record → Type 0
-AreSharesBounded owner programs records = (analyst : ℕ) (other : Dataset) → IsDataset owner.tables other
-    → (displaced : ℕ) × IsShownBy analyst owner.tables owner.partitions programs records owner.rows other displaced
+abbrev pub AreSharesBounded : Owner → (sources : List Source) → List Record → Type 0
+AreSharesBounded owner sources records = (analyst : ℕ) (other : Dataset) → IsDataset owner.tables other
+    → (displaced : ℕ) × IsShownBy analyst owner.tables owner.partitions sources records owner.rows other displaced
     × (displaced ≤ spent_by owner.entry records analyst * apart owner.rows other)
 
 -- Each analyst has spent at most its limit, where it has one.
@@ -40,18 +41,18 @@ pub record IsOwed (owner : Owner) (found records : List Record) : Type 0 where
   pub within : cost_of owner.entry records ≤ budget_of owner.entry records
   pub limited : AreWithinLimits owner.entry records
 
--- Programs are behind an owner's records: these are legal after the found ones, within the budget and each analyst's limit, explained by
--- the programs, with a bounded displacement, of all together and of each analyst.
-pub record IsBacked (owner : Owner) (draws : ℕ → ℕ → ℕ) (found : List Record) (programs : List (List ℕ)) (records : List Record) : Type 0 where
+-- Sources are behind an owner's records: these are legal after the found ones, within the budget and each analyst's limit, explained by
+-- the sources, with a bounded displacement, of all together and of each analyst.
+pub record IsBacked (owner : Owner) (draws : ℕ → ℕ → ℕ) (found : List Record) (sources : List Source) (records : List Record) : Type 0 where
   pub legal : IsLegal owner.entry found records
   pub within : cost_of owner.entry records ≤ budget_of owner.entry records
   pub limited : AreWithinLimits owner.entry records
-  pub explained : Explains owner draws programs records
-  pub bounded : IsDisplacementBounded owner programs records
-  pub shares : AreSharesBounded owner programs records
+  pub explained : Explains owner draws sources records
+  pub bounded : IsDisplacementBounded owner sources records
+  pub shares : AreSharesBounded owner sources records
 
--- what a run finds where these programs explain it: each record may follow those before it, and their cost is within the budget
-pub record IsFound (owner : Owner) (draws : ℕ → ℕ → ℕ) (programs : List (List ℕ)) (found : List Record) : Type 0 where
+-- what a run finds where these sources explain it: each record may follow those before it, and their cost is within the budget
+pub record IsFound (owner : Owner) (draws : ℕ → ℕ → ℕ) (sources : List Source) (found : List Record) : Type 0 where
   pub history : IsHistory owner.entry found
   pub within : cost_of owner.entry found ≤ budget_of owner.entry found
-  pub explained : Explains owner draws programs found
+  pub explained : Explains owner draws sources found

@@ -1,4 +1,4 @@
-//! One owner's history: programs that explain its records, and what these show.
+//! One owner's history: sources that explain its records, and what these show.
 #![tactic(auto)]
 
 pub mod laws;

@@ -1,6 +1,7 @@
 -- what the names of an owner, a partition and a key find
-use Rattle.std.proofs.Common.{◌≡◌, ℕ, suc, ◌+◌, ◌<◌, Bool, true, false, cond, List, [], ◌∷◌, length, slice_get, Option, Some, option_map, sym, ◌∙◌, ap, subst, arith, bytes_eq}
+use Rattle.std.proofs.Common.{◌≡◌, ℕ, suc, ◌+◌, ◌<◌, Bool, true, false, cond, List, [], ◌∷◌, length, slice_get, Option, Some, None, option_map, sym, ◌∙◌, ap, subst, arith, bytes_eq}
 use Rattle.std.specs.Prelude.{IsSomeAnd}
+use Rattle.std.specs.Option.{option_or}
 use Rattle.std.proofs.lemmas.List.Quantifiers.{position-Some}
 use Rattle.std.proofs.lemmas.Option.{slice_get-get_or, slice_get-map}
 use Rattle.partition_charge.specs.declared.view.View.{View}
@@ -32,11 +33,11 @@ part_there owner partition key p j named keyed =
     let within = (position-Some (λ (other : PartitionEntry). bytes_eq partition other.name) owner.partitions p no_partition named).0 in
     (partition_at owner p, slice_get-get_or owner.partitions p no_partition within, (position-Some (λ (other : List ℕ). bytes_eq key other) (partition_at owner p).keys j [] keyed).0)
 
--- a view of an owner's partitions is a view of its entry
-pub part_has_view : (owner : Owner) → HasData owner → (view : View) → HasPart owner.partitions view → HasView owner.entry view
+-- a view of an owner's partitions is a view of its entry, whatever the records are
+pub part_has_view : (owner : Owner) → HasData owner → (view : View) → HasPart owner.partitions view → HasView owner.entry [] view
 part_has_view owner of Whole there = tt
 part_has_view owner of (Part p j) (partition, at, within) =
     let counted : slice_get owner.entry.keys p ≡ Some (length partition.keys)
     = ap (λ (ks : List ℕ). slice_get ks p) of.keys ∙ slice_get-map (λ (other : PartitionEntry). length other.keys) owner.partitions p
     ∙ ap (option_map (λ (other : PartitionEntry). length other.keys)) at in
-    subst (λ (k : Option ℕ). IsSomeAnd k (λ keys. j < keys)) (sym counted) within
+    subst (λ (k : Option ℕ). IsSomeAnd (option_or k None) (λ keys. j < keys)) (sym counted) within

@@ -266,7 +266,7 @@ register_owners register of o owner at =
 pub key_by : (register : Register) → IsRegister register → (o : ℕ) → o < length (house_of register).owners → (p : ℕ) (key : List ℕ) (found : Option ℕ) → p < length (owner_at (house_of register) o).partitions
     → found ≡ position (λ (other : List ℕ). bytes_eq key other) (get_or (listed_at register.catalog o).partitions p no_partition).keys
     → (found ≡ key_named (partition_at (owner_at (house_of register) o) p) key) × IfSome found (λ j. HasPart (owner_at (house_of register) o).partitions (Part p j))
-    × IfSome found (λ j. HasView (owner_at (house_of register) o).entry (Part p j))
+    × IfSome found (λ j. HasView (owner_at (house_of register) o).entry [] (Part p j))
 key_by register of o within p key found less is =
     let owner : Owner = owner_at (house_of register) o in
     let named : found ≡ key_named (partition_at owner p) key
@@ -280,6 +280,6 @@ key_by register of o within p key found less is =
     part_of partition at (Some j) named = (partition, at, (position-Some (λ (other : List ℕ). bytes_eq key other) partition.keys j [] (sym named)).0)
 
     view_of : HasData (owner_at (house_of register) o) → (found : Option ℕ) → IfSome found (λ j. HasPart (owner_at (house_of register) o).partitions (Part p j))
-        → IfSome found (λ j. HasView (owner_at (house_of register) o).entry (Part p j))
+        → IfSome found (λ j. HasView (owner_at (house_of register) o).entry [] (Part p j))
     view_of has None there = tt
     view_of has (Some j) there = part_has_view (owner_at (house_of register) o) has (Part p j) there

@@ -1,6 +1,6 @@
 //! A house: a catalog's owners, and what each of them holds.
 
-ghost use Rattle.std.specs.Prelude.{◌≡◌, ◌<◌, length, slice_get, slice_set, Some, IfSome, IfOk, IsTrue};
+ghost use Rattle.std.specs.Prelude.{◌≡◌, ◌<◌, [], length, slice_get, slice_set, Some, IfSome, IfOk, IsTrue};
 ghost use Rattle.wire_lines.specs.Name.{is_name};
 ghost use Rattle.partition_charge.specs.declared.view.View.TheVariants.{Part};
 ghost use Rattle.budget_core.specs.Entries.{HasView};
@@ -121,7 +121,7 @@ impl House {
         requires partition { partition < length (owner_at (house_of self.now) owner).partitions }
         ensures named { result ≡ key_named (partition_at (owner_at (house_of self.now) owner) partition) key.now }
         ensures part { IfSome result (λ j. HasPart (owner_at (house_of self.now) owner).partitions (Part partition j)) }
-        ensures view { IfSome result (λ j. HasView (owner_at (house_of self.now) owner).entry (Part partition j)) }
+        ensures view { IfSome result (λ j. HasView (owner_at (house_of self.now) owner).entry [] (Part partition j)) }
     {
         self.catalog.key(owner, partition, key)
     }

@@ -1,8 +1,8 @@
 -- Costs, worked out by computation.
-use Rattle.std.proofs.Common.{◌≡◌, ℕ, zero, suc, ◌≤◌, true, false, List, [], ◌∷◌, refl, arith, inl, inr}
+use Rattle.std.proofs.Common.{◌≡◌, ℕ, zero, suc, ◌+◌, true, false, List, [], ◌∷◌, refl, arith, inl, inr}
 use Rattle.partition_charge.specs.declared.view.View.TheVariants.{Whole, Part}
 use Rattle.partition_charge.specs.declared.parts.PartSum.{PartSum}
-use Rattle.partition_charge.specs.Views.{IsView, IsPartBelow, same_view, partition_limit, partition_range}
+use Rattle.partition_charge.specs.Views.{IsView, IsPartWithin, same_view, partition_limit, partition_range, parts_within}
 use Rattle.partition_charge.specs.Parts.{sum_of, sum_without, IsInOrder, AreBelow, HasPlaceAmong}
 use Rattle.partition_charge.specs.Cost.{Charge, charges_of, greatest_by, partition_cost, parts_cost, cost_of_charges}
 
@@ -40,7 +40,11 @@ part_twice : cost_of_charges (part 0 0 6 ∷ part 0 0 4 ∷ []) ≡ 10
 unfolding cost_of_charges parts_cost partition_cost
 part_twice = refl
 
--- and so are partitions
+-- and so are partitions, made ones too
+two_made : cost_of_charges (part 8 0 6 ∷ part 8 1 4 ∷ part 254 0 3 ∷ part 9 249 2 ∷ []) ≡ 11
+unfolding cost_of_charges parts_cost partition_cost
+two_made = refl
+
 two_partitions : cost_of_charges (part 0 1 6 ∷ part 1 1 4 ∷ []) ≡ 10
 unfolding cost_of_charges parts_cost partition_cost
 two_partitions = refl
@@ -51,11 +55,11 @@ unfolding cost_of_charges parts_cost partition_cost
 whole_and_parts = refl
 
 -- the last part of the last partition counts, and what is past the partitions doesn't
-last_part : cost_of_charges (part 7 3999 5 ∷ []) ≡ 5
+last_part : cost_of_charges (part 254 3999 5 ∷ []) ≡ 5
 unfolding cost_of_charges parts_cost partition_cost
 last_part = refl
 
-past_the_partitions : cost_of_charges (part 8 0 5 ∷ []) ≡ 0
+past_the_partitions : cost_of_charges (part 255 0 5 ∷ []) ≡ 0
 unfolding cost_of_charges parts_cost partition_cost
 past_the_partitions = refl
 
@@ -78,12 +82,19 @@ greatest_last = refl
 greatest_of_none : greatest_by (λ (n : ℕ). n) [] ≡ 0
 greatest_of_none = refl
 
--- each partition that an owner may have has views
-views_for_all : partition_limit ≤ partition_range
-views_for_all = omega arith
+-- each partition of a catalog has views, and so have 247 made ones
+views_for_all : partition_limit + 247 ≡ partition_range
+views_for_all = refl
+
+-- a catalog's last partition has as many parts as it says, and the first made one 250
+parts_of_last : parts_within 3999 7 ≡ 3999
+parts_of_last = refl
+
+parts_of_made : parts_within 3999 8 ≡ 250
+parts_of_made = refl
 
 -- which views there are
-last_view : IsView (Part 7 3999)
+last_view : IsView (Part 254 3999)
 last_view = (omega arith, omega arith)
 
 first_view : IsView (Part 0 0)
@@ -92,7 +103,7 @@ first_view = (omega arith, omega arith)
 no_such_part : IsView (Part 0 4000) → ⊥
 no_such_part view = let h = view.1 in omega (arith, h)
 
-no_such_partition : IsView (Part 8 0) → ⊥
+no_such_partition : IsView (Part 255 0) → ⊥
 no_such_partition view = let h = view.0 in omega (arith, h)
 
 -- whose amount is whose
@@ -171,11 +182,17 @@ last_below (suc i) lt = absurd (omega arith)
 last_not_below : AreBelow 3999 (sum 3999 4 ∷ []) → ⊥
 last_not_below below = let h = below 0 (omega arith) in omega (arith, h)
 
-view_below : IsPartBelow 4000 (Part 7 3999)
-view_below = omega arith
+view_within : IsPartWithin 4000 (Part 7 3999)
+view_within = omega arith
 
-view_not_below : IsPartBelow 3999 (Part 7 3999) → ⊥
-view_not_below below = omega (arith, below)
+view_not_within : IsPartWithin 3999 (Part 7 3999) → ⊥
+view_not_within below = omega (arith, below)
 
-whole_below : IsPartBelow 0 Whole
-whole_below = tt
+made_within : IsPartWithin 2 (Part 8 249)
+made_within = omega arith
+
+made_not_within : IsPartWithin 4000 (Part 254 250) → ⊥
+made_not_within below = omega (arith, below)
+
+whole_within : IsPartWithin 0 Whole
+whole_within = tt

@@ -5,10 +5,10 @@ use Rattle.partition_charge.specs.declared.parts.PartSum.{PartSum}
 use Rattle.partition_charge.specs.declared.costs.Costs.{Costs}
 use Rattle.partition_charge.specs.declared.view.View.{View}
 use Rattle.partition_charge.specs.declared.view.View.TheVariants.{Whole, Part}
-use Rattle.partition_charge.specs.Views.{IsPartBelow}
+use Rattle.partition_charge.specs.Views.{IsPartWithin, parts_within}
 use Rattle.partition_charge.specs.Cost.{Charge, charges_of}
 use Rattle.partition_charge.specs.Parts.{sum_of, part_at, IsInOrder, AreBelow, IsAt, HasPlaceAmong}
-use Rattle.partition_charge.specs.Totals.{AreTotalsOf, HasPlace, HasPlaces, HasRoomBelow}
+use Rattle.partition_charge.specs.Totals.{AreTotalsOf, HasPlace, HasPlaces}
 use Rattle.partition_charge.proofs.Sums.{NoneBefore, found-or-none}
 
 at-or-none : (sums : List PartSum) (part : ℕ) → ((place : ℕ) × IsAt sums part place) ⊎ NoneBefore sums part (length sums)
@@ -61,17 +61,18 @@ place-among sums part n room ordered below lt broad = ⊎_elim
     (λ none. inr (omega (arith, fewer sums part n ordered none below lt, broad)))
     (at-or-none sums part)
 
--- Where there is room for all parts below n, there is for a view of one.
-pub place-below : (costs : Costs) (charges : List Charge) (view : View) (n : ℕ) → AreTotalsOf costs charges → HasRoomBelow costs n → IsPartBelow n view → HasPlace costs view
-place-below costs charges Whole n stands has below = tt
-place-below costs charges (Part p j) n stands has below = λ parts found.
-    let there = has p parts found in
-    place-among parts.sums.items j n (vec_capacity parts.sums) (stands.partitions p parts found).ordered there.0 below there.1
+-- Where there is room for all parts, or for one more, there is a place for a view.
+pub place-for : (costs : Costs) (charges : List Charge) (view : View) (most more : ℕ) → AreTotalsOf costs charges → HasPlaces costs most (more + 1)
+    → IsPartWithin most view → HasPlace costs view
+place-for costs charges Whole most more stands has within = tt
+place-for costs charges (Part p j) most more stands has within = λ parts found. ⊎_elim
+    (λ all. place-among parts.sums.items j (parts_within most p) (vec_capacity parts.sums) (stands.partitions p parts found).ordered all.0 within all.1)
+    (λ free. inr (omega (arith, free)))
+    (has p parts found)
 
--- So there is where there is room for one part more.
-pub place-free : (costs : Costs) (view : View) (n : ℕ) → HasPlaces costs (n + 1) → HasPlace costs view
-place-free costs Whole n has = tt
-place-free costs (Part p j) n has = λ parts found. inr (omega (arith, has p parts found))
+-- Where there is room for some more, there is for fewer.
+pub places-fewer : (costs : Costs) (most more fewer : ℕ) → fewer ≤ more → HasPlaces costs most more → HasPlaces costs most fewer
+places-fewer costs most more fewer less has = λ p parts found. ⊎_elim (λ all. inl all) (λ free. inr (omega (arith, free, less))) (has p parts found)
 
 -- And there is for a view that was charged something.
 pub place-charged : (costs : Costs) (charges : List Charge) (view : View) → AreTotalsOf costs charges → 0 < charges_of view charges → HasPlace costs view

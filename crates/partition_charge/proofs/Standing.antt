@@ -1,18 +1,19 @@
 -- What totals that stand for charges hold.
-use Rattle.std.proofs.Common.{◌≡◌, ℕ, ◌<◌, List, [], ◌∷◌, length, get_or, sym, subst, ◌∙◌, ap, Some, arith, ⊎_elim, inl, inr, ◌⊎◌, max, set, ◌+◌, ◌++◌, All, Vec, Global, vec_capacity, length-set}
+use Rattle.std.proofs.Common.{◌≡◌, ℕ, ◌<◌, List, [], ◌∷◌, length, get_or, sym, subst, ◌∙◌, ap, Some, arith, ⊎_elim, inl, inr, ◌⊎◌, max, min, set, ◌+◌, ◌++◌, Vec, Global, vec_capacity, length-set, length-append}
 use Rattle.std.proofs.lemmas.Option.{slice_get-get_or, slice_get_within, get_or_from_slice_get}
-use Rattle.std.proofs.lemmas.List.{get_or-set_same, get_or-set_other}
-use Rattle.std.proofs.lemmas.Bool.{cases_eq}
+use Rattle.std.proofs.lemmas.List.{get_or-set_same, get_or-set_other, get_or_append_left}
+use Rattle.std.proofs.Math.Seq.{get_or-append_seam}
+use Rattle.std.proofs.lemmas.Bool.{cases_eq, cases_lt}
 use Rattle.std.specs.Prelude.{slice_get}
 use Rattle.partition_charge.specs.declared.parts.PartSum.{PartSum}
 use Rattle.partition_charge.specs.declared.parts.Parts.{Parts}
 use Rattle.partition_charge.specs.declared.costs.Costs.{Costs}
 use Rattle.partition_charge.specs.declared.view.View.{View}
 use Rattle.partition_charge.specs.declared.view.View.TheVariants.{Whole, Part}
-use Rattle.partition_charge.specs.Views.{partition_range}
+use Rattle.partition_charge.specs.Views.{partition_range, parts_within}
 use Rattle.partition_charge.specs.Cost.{Charge, charges_of, cost_of_charges}
 use Rattle.partition_charge.specs.Parts.{sum_of, IsInOrder, HasPut}
-use Rattle.partition_charge.specs.Totals.{AreTotalsOf, HasSums}
+use Rattle.partition_charge.specs.Totals.{AreTotalsOf, HasSums, HasPlaces}
 use Rattle.partition_charge.proofs.Charges.{cost-nil, partition-nil, whole-part, whole-partition, part-at, part-other, part-elsewhere, elsewhere-partition, part-partition}
 
 -- what was read at a partition is its sums
@@ -28,20 +29,48 @@ sums-at costs charges p parts stands lt is = stands.partitions p parts (sums-fou
 abbrev pub IsEmpty : ℕ → Parts → Type 0
 IsEmpty room parts = (parts.sums.items ≡ []) × (parts.greatest ≡ 0) × (vec_capacity parts.sums ≡ room)
 
-pub empty-at : (room : ℕ) (partitions : List Parts) (p : ℕ) (parts : Parts) → All (IsEmpty room) partitions → slice_get partitions p ≡ Some parts → IsEmpty room parts
-empty-at room partitions p parts all is =
-    subst (IsEmpty room) (get_or_from_slice_get partitions p parts parts is) (all p parts (slice_get_within partitions p parts is))
+-- so it is in each partition, with room for its parts, or for as many charges
+abbrev pub AreEmpty : (most charges : ℕ) → List Parts → Type 0
+AreEmpty most charges partitions = (p : ℕ) (other : Parts) → p < length partitions → IsEmpty (min (parts_within most p) charges) (get_or partitions p other)
+
+pub empty-nil : (most charges : ℕ) → AreEmpty most charges []
+empty-nil most charges p other lt = absurd (omega arith)
+
+pub empty-push : (most charges : ℕ) (partitions : List Parts) (new : Parts) → AreEmpty most charges partitions
+    → IsEmpty (min (parts_within most (length partitions)) charges) new → AreEmpty most charges (partitions ++ new ∷ [])
+empty-push most charges partitions new all last p other lt = ⊎_elim
+    (λ before. subst (IsEmpty (min (parts_within most p) charges)) (sym (get_or_append_left partitions (new ∷ []) other p before)) (all p other before))
+    (λ after.
+    let here : p ≡ length partitions = omega (arith, after, lt, length-append partitions (new ∷ [])) in
+    subst (λ (n : ℕ). IsEmpty (min (parts_within most n) charges) (get_or (partitions ++ new ∷ []) n other)) (sym here)
+    (subst (IsEmpty (min (parts_within most (length partitions)) charges)) (sym (get_or-append_seam partitions new [] other)) last))
+    (cases_lt p (length partitions))
+
+pub empty-at : (most charges : ℕ) (partitions : List Parts) (p : ℕ) (parts : Parts) → AreEmpty most charges partitions → slice_get partitions p ≡ Some parts
+    → IsEmpty (min (parts_within most p) charges) parts
+empty-at most charges partitions p parts all is =
+    subst (IsEmpty (min (parts_within most p) charges)) (get_or_from_slice_get partitions p parts parts is) (all p parts (slice_get_within partitions p parts is))
+
+pub empty-places : (most charges : ℕ) (partitions : Vec Parts Global) (spent : ℕ) → AreEmpty most charges partitions.items
+    → HasPlaces (record { spent = spent; partitions = partitions }) most charges
+empty-places most charges partitions spent all p parts found =
+    let empty = empty-at most charges partitions.items p parts all found in
+    let none : length parts.sums.items ≡ 0 = ap (length {A = PartSum}) empty.0 in
+    ⊎_elim
+    (λ tight. inr (omega (arith, empty.2, tight, none)))
+    (λ broad. inl (λ i within. absurd (omega (arith, within, none)), omega (arith, empty.2, broad)))
+    (cases_lt charges (parts_within most p))
 
 nothing-ordered : IsInOrder []
 nothing-ordered i k lt within = absurd (omega arith)
 
-pub new-stands : (room : ℕ) (partitions : Vec Parts Global) → length partitions.items ≡ partition_range → All (IsEmpty room) partitions.items
+pub new-stands : (most charges : ℕ) (partitions : Vec Parts Global) → length partitions.items ≡ partition_range → AreEmpty most charges partitions.items
     → AreTotalsOf (record { spent = 0; partitions = partitions }) []
-new-stands room partitions count all = record {
+new-stands most charges partitions count all = record {
   spent = sym cost-nil;
   count = count;
   partitions = λ p parts is.
-      let empty = empty-at room partitions.items p parts all is in
+      let empty = empty-at most charges partitions.items p parts all is in
       record {
         ordered = subst IsInOrder (sym empty.0) nothing-ordered;
         sums = λ part. ap (λ (sums : List PartSum). sum_of sums part) empty.0;
@@ -94,12 +123,12 @@ set-get xs p k x y is =
     (cases_eq k p)
 
 -- what holds of each after one has changed
-pub each-changed : (P Q : Parts → Type 0) (xs : List Parts) (p : ℕ) (old new : Parts) → slice_get xs p ≡ Some old → (P old → Q new)
-    → ((parts : Parts) → P parts → Q parts) → ((q : ℕ) (parts : Parts) → slice_get xs q ≡ Some parts → P parts)
-    → (q : ℕ) (parts : Parts) → slice_get (set xs p new) q ≡ Some parts → Q parts
+pub each-changed : (P Q : ℕ → Parts → Type 0) (xs : List Parts) (p : ℕ) (old new : Parts) → slice_get xs p ≡ Some old → (P p old → Q p new)
+    → ((q : ℕ) (parts : Parts) → P q parts → Q q parts) → ((q : ℕ) (parts : Parts) → slice_get xs q ≡ Some parts → P q parts)
+    → (q : ℕ) (parts : Parts) → slice_get (set xs p new) q ≡ Some parts → Q q parts
 each-changed P Q xs p old new found changed others each q parts is = ⊎_elim
-    (λ here. subst Q here.1 (changed (each p old found)))
-    (λ there. others parts (each q parts there.1))
+    (λ here. subst (Q q) here.1 (subst (λ (n : ℕ). Q n new) (sym here.0) (changed (each p old found))))
+    (λ there. others q parts (each q parts there.1))
     (set-get xs p q new parts is)
 
 module _ (costs : Costs) (charges : List Charge) (view : View)

@@ -1,10 +1,10 @@
 -- What running totals stand for.
-use Rattle.std.specs.Prelude.{◌≡◌, ℕ, ◌+◌, ◌^◌, ◌<◌, ◌≤◌, List, [], ◌∷◌, ◌++◌, length, slice_get, Some, vec_capacity, ⊤}
+use Rattle.std.specs.Prelude.{◌≡◌, ℕ, ◌+◌, ◌^◌, ◌<◌, ◌≤◌, List, [], ◌∷◌, ◌++◌, length, slice_get, Some, vec_capacity, ⊤, ◌⊎◌}
 use Rattle.partition_charge.specs.declared.view.View.{View}
 use Rattle.partition_charge.specs.declared.view.View.TheVariants.{Whole, Part}
 use Rattle.partition_charge.specs.declared.parts.Parts.{Parts}
 use Rattle.partition_charge.specs.declared.costs.Costs.{Costs}
-use Rattle.partition_charge.specs.Views.{partition_range}
+use Rattle.partition_charge.specs.Views.{partition_range, parts_within}
 use Rattle.partition_charge.specs.Parts.{sum_of, IsInOrder, AreBelow, HasPlaceIn}
 use Rattle.partition_charge.specs.Cost.{Charge, charged_to, charges_of, partition_cost, cost_of_charges}
 
@@ -34,19 +34,16 @@ abbrev pub HasRoom : Costs → View → ℕ → Type 0
 HasRoom costs view amount = (charges : List Charge) × AreTotalsOf costs charges
     × (cost_of_charges (charges ++ record { view = view; amount = amount } ∷ []) < 2 ^ 63)
 
--- P holds of each partition's sums.
-abbrev pub InEach : (Parts → Type 0) → Costs → Type 0
-InEach P costs = (partition : ℕ) (parts : Parts) → slice_get costs.partitions.items partition ≡ Some parts → P parts
-
 -- There is room for a charge of this view: it is the whole, or a part that has a sum, or its partition has room for one sum more.
 abbrev pub HasPlace : Costs → View → Type 0
 HasPlace costs Whole = ⊤
 HasPlace costs (Part partition part) = (parts : Parts) → slice_get costs.partitions.items partition ≡ Some parts → HasPlaceIn parts part
 
--- There is room for n different parts more.
-abbrev pub HasPlaces : Costs → ℕ → Type 0
-HasPlaces costs n = InEach (λ parts. length parts.sums.items + n ≤ vec_capacity parts.sums) costs
+-- There is room for all parts below a number, and no other has a sum; or there is room for so many different parts more.
+abbrev pub HasFree : (most more : ℕ) → Parts → Type 0
+HasFree most more parts = (AreBelow most parts.sums.items × (most ≤ vec_capacity parts.sums)) ⊎ (length parts.sums.items + more ≤ vec_capacity parts.sums)
 
--- There is room for all parts below n, and no other has a sum.
-abbrev pub HasRoomBelow : Costs → ℕ → Type 0
-HasRoomBelow costs n = InEach (λ parts. AreBelow n parts.sums.items × (n ≤ vec_capacity parts.sums)) costs
+-- Each partition has room for all parts that it may have, or for so many more.
+abbrev pub HasPlaces : Costs → (most more : ℕ) → Type 0
+HasPlaces costs most more = (partition : ℕ) (parts : Parts) → slice_get costs.partitions.items partition ≡ Some parts
+    → HasFree (parts_within most partition) more parts

@@ -2,11 +2,11 @@
 
 ghost use Rattle.std.specs.Prelude.{◌≡◌, ℕ, ◌+◌, ◌^◌, ◌<◌, ◌≤◌, min, [], ◌∷◌, ◌++◌, List, length, slice_get, Some, IfOk};
 ghost use Rattle.partition_charge.specs.Cost.{Charge as Charged, cost_of_charges};
-ghost use Rattle.partition_charge.specs.Views.{IsView, IsPartBelow, part_limit};
-ghost use Rattle.partition_charge.specs.Totals.{AreTotalsOf, HasCharged, HasRoom, HasPlace, HasPlaces, HasRoomBelow, IsRest};
+ghost use Rattle.partition_charge.specs.Views.{IsView, IsPartWithin, part_limit, parts_within};
+ghost use Rattle.partition_charge.specs.Totals.{AreTotalsOf, HasCharged, HasRoom, HasPlace, HasPlaces, IsRest};
 
 use crate::parts::Parts;
-use crate::view::{PARTITIONS, PARTS, View};
+use crate::view::{CATALOG_PARTITIONS, MADE_PARTS, PARTITIONS, PARTS, View};
 use std::alloc::{AllocError, Global};
 
 /// The cost of a list of charges, kept as it grows and as amounts are given back. No call but `new` takes memory.
@@ -18,16 +18,27 @@ pub struct Costs {
     partitions: Vec<Parts>,
 }
 
+// How many parts this partition may have, where a catalog's have at most this many.
+fn parts_within(most: usize, partition: usize) -> usize
+    ensures { result ≡ parts_within most partition }
+{
+    if partition < CATALOG_PARTITIONS {
+        most
+    } else {
+        MADE_PARTS
+    }
+}
+
 impl Costs {
-    /// The cost of no charges, with room for this many different parts of each partition.
-    pub fn new(alloc: Global, room: u32) -> Result<Costs, AllocError>
+    /// The cost of no charges, with room for this many charges, where a catalog's partitions have at most `most` parts.
+    pub fn new(alloc: Global, most: u32, charges: u32) -> Result<Costs, AllocError>
         ensures totals { IfOk result (λ costs. AreTotalsOf costs []) }
-        ensures places { IfOk result (λ costs. HasPlaces costs (min room part_limit)) }
-        ensures below { IfOk result (λ costs. HasRoomBelow costs (min room part_limit)) }
+        ensures places { IfOk result (λ costs. HasPlaces costs (min most part_limit) charges) }
     {
-        let room = (room as usize).min(PARTS);
+        let most = (most as usize).min(PARTS);
         let mut partitions = Vec::with_capacity(alloc, PARTITIONS)?;
-        for _partition in 0..PARTITIONS {
+        for partition in 0..PARTITIONS {
+            let room = parts_within(most, partition).min(charges as usize);
             partitions.push_reserved(Parts::new(alloc, room)?);
         }
         Ok(Costs {
@@ -64,8 +75,7 @@ impl Costs {
         requires place { HasPlace self.old view }
         ensures totals { (charges : List Charged) → AreTotalsOf self.old charges
             → AreTotalsOf self.new (charges ++ record { view = view; amount = amount } ∷ []) }
-        ensures places { (n : ℕ) → HasPlaces self.old (n + 1) → HasPlaces self.new n }
-        ensures below { (n : ℕ) → IsPartBelow n view → HasRoomBelow self.old n → HasRoomBelow self.new n }
+        ensures places { (most more : ℕ) → IsPartWithin most view → HasPlaces self.old most (more + 1) → HasPlaces self.new most more }
     {
         self.spent = self.after(view, amount);
         if let View::Part { partition, part } = view {
@@ -93,8 +103,7 @@ impl Costs {
         requires view { IsView view }
         requires enough { HasCharged self.old view amount }
         ensures totals { (charges rest : List Charged) → AreTotalsOf self.old charges → IsRest charges view amount rest → AreTotalsOf self.new rest }
-        ensures places { (n : ℕ) → HasPlaces self.old n → HasPlaces self.new n }
-        ensures below { (n : ℕ) → HasRoomBelow self.old n → HasRoomBelow self.new n }
+        ensures places { (most more : ℕ) → HasPlaces self.old most more → HasPlaces self.new most more }
     {
         self.spent = self.back(view, amount);
         if let View::Part { partition, part } = view {

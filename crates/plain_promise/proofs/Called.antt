@@ -12,6 +12,7 @@ use Rattle.budget_ledger.specs.Account.{IsKeptNow}
 use Rattle.budget_ledger.specs.declared.failure.Failure.{Failure}
 use Rattle.wire_lines.specs.Reply.{Replied}
 use Rattle.owner_house.specs.Owner.{HasData, Owner}
+use Rattle.successive_runs.specs.AnswerPath.Query.{Source}
 use Rattle.successive_runs.specs.AnswerPath.Demand.{Demand}
 use Rattle.successive_runs.specs.OwnerHistory.Sound.{IsFound}
 use Rattle.successive_runs.specs.Left.{IsLeft}
@@ -67,7 +68,7 @@ module _ (draws : ℕ → ℕ → ℕ → ℕ) (o : ℕ) (owner : Owner) (header
 
   -- ---- call after call
 
-  pub record IsPlayed (calls : List Call) (found : List Record) (earlier : List (List ℕ)) (last : List ℕ) : Type 0 where
+  pub record IsPlayed (calls : List Call) (found : List Record) (earlier : List Source) (last : List ℕ) : Type 0 where
     pub R : List Record
     pub stands : Stands header R last
     pub kept : IsKept (draws o) owner found earlier R (WasTold o owner calls) (worker_of calls)
@@ -106,7 +107,7 @@ module _ (draws : ℕ → ℕ → ℕ → ℕ) (o : ℕ) (owner : Owner) (header
   unfolding no_worker
   idle i place = refl
 
-  pub play : (calls : List Call) (found : List Record) (earlier : List (List ℕ)) (file last : List ℕ) → Stands header found file → IsFound owner (draws o) earlier found → AreCalls draws o owner header file calls last
+  pub play : (calls : List Call) (found : List Record) (earlier : List Source) (file last : List ℕ) → Stands header found file → IsFound owner (draws o) earlier found → AreCalls draws o owner header file calls last
       → IsPlayed calls found earlier last
   play [] found earlier file last stands f raised =
       let r = raised_on found file last stands raised in
@@ -125,7 +126,7 @@ module _ (draws : ℕ → ℕ → ℕ → ℕ) (o : ℕ) (owner : Owner) (header
       let run : Run = run_by call l.0 in
       let its : IsRun call.house draws o owner r.left run = subst (λ (w : List Record). IsRun call.house draws o owner w run) same l.2 in
       let g = gone_on call.house draws o owner r.left earlier run is.listed is.lawful from_here its run.left its.leaves in
-      let p = play calls l.0 g.programs left last l.1 g.explained rest in
+      let p = play calls l.0 g.sources left last l.1 g.explained rest in
       record {
         R = p.R;
         stands = p.stands;
@@ -135,7 +136,7 @@ module _ (draws : ℕ → ℕ → ℕ → ℕ) (o : ℕ) (owner : Owner) (header
             (kept_more call.house draws o owner is.listed is.lawful r.left earlier run from_here its p.R (WasTold o owner calls) (worker_of calls) p.kept));
       }
 
-  pub calls_keep : HasData owner → (calls : List Call) (found : List Record) (earlier : List (List ℕ)) (file last : List ℕ) → Stands header found file → IsFound owner (draws o) earlier found → AreCalls draws o owner header file calls last
+  pub calls_keep : HasData owner → (calls : List Call) (found : List Record) (earlier : List Source) (file last : List ℕ) → Stands header found file → IsFound owner (draws o) earlier found → AreCalls draws o owner header file calls last
       → (R : List Record) × Stands header R last × ((opened : ℕ → ℕ) × PlainPromise owner (draws o) found R opened (worker_of calls) (WasTold o owner calls))
   calls_keep has calls found earlier file last stands begun all =
       let p = play calls found earlier file last stands begun all in (

@@ -9,7 +9,7 @@ use Rattle.wire_lines.specs.Reply.{Replied}
 use Rattle.owner_house.specs.Owner.{Owner}
 use Rattle.owner_house.specs.House.{House, IsOwnerIn}
 use Rattle.successive_runs.specs.AnswerPath.Demand.{Demand, asks}
-use Rattle.successive_runs.specs.AnswerPath.Query.{Query}
+use Rattle.successive_runs.specs.AnswerPath.Query.{Query, Source, source_of}
 use Rattle.successive_runs.specs.OwnerHistory.Granted.{told_settlement, IsGranted}
 use Rattle.successive_runs.specs.OwnerHistory.Sound.{IsFound}
 use Rattle.successive_runs.specs.SessionCore.Served.{IsBorneOutTo}
@@ -42,11 +42,11 @@ unfoldable pub no_worker : (i place : ℕ) → ℕ
 no_worker i place = 0
 
 module _ (draws : ℕ → ℕ → ℕ) (owner : Owner) where
-  pub kept_none : (found : List Record) (earlier : List (List ℕ)) → IsFound owner draws earlier found → IsKept draws owner found earlier found none_told no_worker
+  pub kept_none : (found : List Record) (earlier : List Source) → IsFound owner draws earlier found → IsKept draws owner found earlier found none_told no_worker
   unfolding none_told
   kept_none found earlier f = record {
     begins = prefix_self found;
-    programs = earlier;
+    sources = earlier;
     goes_on = prefix_self earlier;
     explained = f;
     borne = λ i place demand reply w. absurd w;
@@ -60,11 +60,11 @@ module _ (draws : ℕ → ℕ → ℕ) (owner : Owner) where
   }
 
   -- what is kept since some records is kept since those that they begin with
-  pub kept_since : (found start : List Record) (earlier : List (List ℕ)) (last : List Record) (Told : (i place : ℕ) → Demand → Replied → Type 0) (worker : (i place : ℕ) → ℕ) → IsPrefix found start
+  pub kept_since : (found start : List Record) (earlier : List Source) (last : List Record) (Told : (i place : ℕ) → Demand → Replied → Type 0) (worker : (i place : ℕ) → ℕ) → IsPrefix found start
       → IsKept draws owner start earlier last Told worker → IsKept draws owner found earlier last Told worker
   kept_since found start earlier last Told worker begins k = record {
     begins = prefix_trans found start last begins k.begins;
-    programs = k.programs;
+    sources = k.sources;
     goes_on = k.goes_on;
     explained = k.explained;
     borne = k.borne;
@@ -78,12 +78,12 @@ module _ (draws : ℕ → ℕ → ℕ) (owner : Owner) where
   }
 
   -- .. and of all that was told it is kept of some
-  pub kept_of : (found : List Record) (earlier : List (List ℕ)) (last : List Record) (Told Some_told : (i place : ℕ) → Demand → Replied → Type 0) (worker other : (i place : ℕ) → ℕ)
+  pub kept_of : (found : List Record) (earlier : List Source) (last : List Record) (Told Some_told : (i place : ℕ) → Demand → Replied → Type 0) (worker other : (i place : ℕ) → ℕ)
       → ((i place : ℕ) (demand : Demand) (reply : Replied) → Some_told i place demand reply → Told i place demand reply) → ((i place : ℕ) → other i place ≡ worker i place)
       → IsKept draws owner found earlier last Told worker → IsKept draws owner found earlier last Some_told other
   kept_of found earlier last Told Some_told worker other some same k = record {
     begins = k.begins;
-    programs = k.programs;
+    sources = k.sources;
     goes_on = k.goes_on;
     explained = k.explained;
     borne = λ i place demand reply w. k.borne i place demand reply (some i place demand reply w);
@@ -99,7 +99,7 @@ module _ (draws : ℕ → ℕ → ℕ) (owner : Owner) where
         k.knows i place later n m query next reply again outcome lt (sym (same i place) ∙ mine ∙ same i later) (some i place (asks query) reply w) (some i later next again z) said shows;
   }
 
-module _ (house : House) (draws : ℕ → ℕ → ℕ → ℕ) (o : ℕ) (owner : Owner) (here : slice_get house.owners o ≡ Some owner) (inside : IsOwnerIn house owner) (found : List Record) (earlier : List (List ℕ)) (run : Run)
+module _ (house : House) (draws : ℕ → ℕ → ℕ → ℕ) (o : ℕ) (owner : Owner) (here : slice_get house.owners o ≡ Some owner) (inside : IsOwnerIn house owner) (found : List Record) (earlier : List Source) (run : Run)
     (f : IsFound owner (draws o) earlier found) (r : IsRun house draws o owner found run) where
   abbrev Sent : (place : ℕ) → Demand → Replied → Type 0
   Sent place demand reply = IsSent house draws o owner run place demand reply
@@ -107,8 +107,8 @@ module _ (house : House) (draws : ℕ → ℕ → ℕ → ℕ) (o : ℕ) (owner 
   abbrev pub went : IsGoneOn house draws o owner found earlier run here inside f r run.left
   went = gone_on house draws o owner found earlier run here inside f r run.left r.leaves
 
-  borne_first : (place : ℕ) (demand : Demand) (reply : Replied) → Sent place demand reply → IsBorneOutTo went.programs run.left demand reply
-  borne_first place demand reply s = subst (λ (w : Replied). IsBorneOutTo went.programs run.left demand w) s.is_reply (borne_left house draws o owner found earlier run here inside f r went place s.x demand s.sent s.there s.meant)
+  borne_first : (place : ℕ) (demand : Demand) (reply : Replied) → Sent place demand reply → IsBorneOutTo went.sources run.left demand reply
+  borne_first place demand reply s = subst (λ (w : Replied). IsBorneOutTo went.sources run.left demand w) s.is_reply (borne_left house draws o owner found earlier run here inside f r went place s.x demand s.sent s.there s.meant)
 
   said_first : (place : ℕ) (query : Query) (reply : Replied) (n : ℕ) (outcome : Outcome) (s : Sent place (asks query) reply) → told_settlement reply ≡ Some (n, outcome) → told_settlement s.x.reply ≡ Some (n, outcome)
   said_first place query reply n outcome s said = ap told_settlement s.is_reply ∙ said
@@ -116,10 +116,10 @@ module _ (house : House) (draws : ℕ → ℕ → ℕ → ℕ) (o : ℕ) (owner 
   -- a number of this run is below those of the later ones
   below_later : (place : ℕ) (query : Query) (reply : Replied) (n : ℕ) (outcome : Outcome) → Sent place (asks query) reply → told_settlement reply ≡ Some (n, outcome) → n < length (reservations_of run.left)
   below_later place query reply n outcome s said =
-      let granted : IsGranted went.programs run.left query n outcome = borne_first place (asks query) reply s n outcome said in
-      subst (λ (m : ℕ). n < m) went.explained.explained.each_has (slice_get_within went.programs n query.program granted.program)
+      let granted : IsGranted went.sources run.left query n outcome = borne_first place (asks query) reply s n outcome said in
+      subst (λ (m : ℕ). n < m) went.explained.explained.each_has (slice_get_within went.sources n (source_of query) granted.source)
 
-  module _ (last : List Record) (Told : (i place : ℕ) → Demand → Replied → Type 0) (worker : (i place : ℕ) → ℕ) (k : IsKept (draws o) owner run.left went.programs last Told worker) where
+  module _ (last : List Record) (Told : (i place : ℕ) → Demand → Replied → Type 0) (worker : (i place : ℕ) → ℕ) (k : IsKept (draws o) owner run.left went.sources last Told worker) where
     abbrev Both : (i place : ℕ) → Demand → Replied → Type 0
     Both = told_first Sent Told
 
@@ -129,9 +129,9 @@ module _ (house : House) (draws : ℕ → ℕ → ℕ → ℕ) (o : ℕ) (owner 
     abbrev left_on : IsPrefix found run.left
     left_on = left_begins house draws o owner here inside found earlier run f r
 
-    all_borne : (i place : ℕ) (demand : Demand) (reply : Replied) → Both i place demand reply → IsBorneOutTo k.programs last demand reply
+    all_borne : (i place : ℕ) (demand : Demand) (reply : Replied) → Both i place demand reply → IsBorneOutTo k.sources last demand reply
     unfolding told_first
-    all_borne zero place demand reply s = borne_on went.programs k.programs run.left last k.goes_on k.begins demand reply (borne_first place demand reply s)
+    all_borne zero place demand reply s = borne_on went.sources k.sources run.left last k.goes_on k.begins demand reply (borne_first place demand reply s)
     all_borne (suc i) place demand reply w = k.borne i place demand reply w
 
     all_new : (i place n : ℕ) (query : Query) (reply : Replied) (outcome : Outcome) → Both i place (asks query) reply → told_settlement reply ≡ Some (n, outcome) → length (reservations_of found) ≤ n
@@ -192,8 +192,8 @@ module _ (house : House) (draws : ℕ → ℕ → ℕ → ℕ) (o : ℕ) (owner 
     pub kept_more : IsKept (draws o) owner found earlier last Both both_workers
     kept_more = record {
       begins = prefix_trans found run.left last left_on k.begins;
-      programs = k.programs;
-      goes_on = prefix_trans earlier went.programs k.programs went.goes_on k.goes_on;
+      sources = k.sources;
+      goes_on = prefix_trans earlier went.sources k.sources went.goes_on k.goes_on;
       explained = k.explained;
       borne = all_borne;
       new = all_new;

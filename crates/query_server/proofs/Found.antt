@@ -81,8 +81,8 @@ keeps_found owner draws header found before now of history stands synced =
       since = since_synced header found before.trace now.trace synced.synced stands;
       twins = synced.twins;
       owed = lawful_owed owner draws found found within (lawful_found owner draws found (record { history = history; within = within }));
-      backed = λ programs explained.
-          well_backed owner draws found programs found of within (well_found owner draws found programs (record { history = history; within = within; explained = explained }));
+      backed = λ sources explained.
+          well_backed owner draws found sources found of within (well_found owner draws found sources (record { history = history; within = within; explained = explained }));
     }
 
 -- what a disk tells that shows this

@@ -2,11 +2,11 @@
 use Rattle.std.proofs.Common.{ℕ, ◌≤◌, List, [], ◌∷◌, ◌++◌, sym, subst, arith}
 use Rattle.std.proofs.lemmas.Option.{slice_get_within}
 use Rattle.journal_records.specs.declared.records.Record.{Record}
-use Rattle.journal_records.specs.declared.records.Record.TheVariants.{Reserve, Settle, Grant as Granted}
+use Rattle.journal_records.specs.declared.records.Record.TheVariants.{Reserve, Settle, Grant as Granted, Define}
 use Rattle.budget_core.specs.Cost.{cost_of, budget_of}
 use Rattle.budget_core.specs.Entries.{Entry}
 use Rattle.budget_core.specs.Legal.{IsHistory, MayFollow}
-use Rattle.budget_core.proofs.Costs.{cost_of-le-Settle, cost_of-append-Grant, budget_of-append, cost_of-nil}
+use Rattle.budget_core.proofs.Costs.{cost_of-le-Settle, cost_of-append-Grant, cost_of-append-Define, budget_of-append, cost_of-nil}
 use Rattle.budget_core.proofs.Histories.{history-induction}
 use Rattle.generated_run.specs.OwnerHistory.Sound.{MayBeFound}
 use Rattle.generated_run.specs.SessionCore.Headline.{AreHistories}
@@ -27,6 +27,7 @@ history_within entry = history-induction entry (λ records. cost_of entry record
     step xs (Settle settlement) history may within =
         omega (arith, within, cost_of-le-Settle entry xs settlement.number settlement.outcome settlement.returned, budget_of-append entry xs (Settle settlement))
     step xs (Granted grant) history may within = omega (arith, within, cost_of-append-Grant entry xs grant, budget_of-append entry xs (Granted grant))
+    step xs (Define made) history may within = omega (arith, within, cost_of-append-Define entry xs made, budget_of-append entry xs (Define made))
 
 -- What the owners' journals are opened with may be found.
 pub histories : (loading : Loading) (key : List ℕ) (old new : Shelf) (versions : List ℕ) (found : Journals) → IsLoading loading → AreOpened loading key old new versions found

@@ -8,6 +8,7 @@ use Rattle.fz_outside.specs.Faults.{HasRisen}
 use Rattle.owner_house.specs.House.{House, IsOwnerIn}
 use Rattle.owner_house.specs.Owner.{Owner}
 use Rattle.owner_house.proofs.Owners.{register_owners}
+use Rattle.generated_run.specs.AnswerPath.Query.{Source}
 use Rattle.generated_run.specs.OwnerHistory.Sound.{IsFound, IsOwed, MayBeFound}
 use Rattle.service_workers.specs.Kept.{KeepThePromises}
 use Rattle.service_workers.proofs.Together.{together_keep, together_owed}
@@ -79,7 +80,7 @@ module _ (loading : Loading) (key : List ℕ) (lawful : IsLoading loading) (work
       (together_owed house_found (draws_of key) workers at.service.sittings at.service.lasts at.first at.last at.over.records at.over.closed at.over.fresh at.service.held at.over.closes o owner here
       found_owners may)
 
-  kept_to : (earlier : List (List ℕ)) → IsFound owner (draws_of key o) earlier (at.found o)
+  kept_to : (earlier : List Source) → IsFound owner (draws_of key o) earlier (at.found o)
       → KeepThePromises house_found (draws_of key) o (at.found o) (map (λ x. x.turn) at.service.held.exchanges) workers at.service.held.crew owner earlier at.service.held.exchanges
       (at.over.records o) at.service.sittings
   kept_to earlier explained =

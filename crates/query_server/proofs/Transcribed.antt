@@ -1,5 +1,5 @@
 -- one worker's transcript, and the headline of all owners
-use Rattle.std.proofs.Common.{◌≡◌, ℕ, ◌<◌, Option, Some, None, refl, ◌∙◌, ap, subst}
+use Rattle.std.proofs.Common.{◌≡◌, ℕ, ◌<◌, map, Option, Some, None, refl, ◌∙◌, ap, subst}
 use Rattle.std.specs.Prelude.{List, IsSome}
 use Rattle.std.specs.List.{flat_map}
 use Rattle.std.proofs.lemmas.Option.{slice_get_within}
@@ -8,6 +8,7 @@ use Rattle.budget_ledger.specs.declared.failure.Failure.{Failure}
 use Rattle.wire_lines.specs.Reply.{reply_text}
 use Rattle.owner_house.specs.House.{House}
 use Rattle.owner_house.proofs.Owners.{in_catalog}
+use Rattle.generated_run.specs.SessionCore.Exchanges.{Exchange}
 use Rattle.generated_run.specs.SessionCore.Gathered.{AreShut, IsGatheredScript}
 use Rattle.generated_run.proofs.SessionCore.Turns.{turns_lines}
 use Rattle.generated_run.proofs.SessionLaws.Whole.{whole_transcript}
@@ -47,7 +48,7 @@ pub headline_by_owners : OwnersMakeTheHeadline
 headline_by_owners words reads old new script written a earlier explained = record {
   crews = a.answered.gathered.crews;
   turns = a.answered.gathered.turns;
-  lines = turns_lines (house_in a.loading a.versions) script;
+  lines = turns_lines (house_in a.loading a.versions) script (map (λ (x : Exchange). x.reply) a.answered.exchanges);
   plain = a.answered.gathered.plain;
   owners = λ o owner here. a.headline o owner here (earlier o) (explained o owner here);
 }

@@ -13,6 +13,7 @@ use Rattle.budget_core.specs.Legal.{MayFollow}
 use Rattle.budget_ledger.specs.declared.failure.Failure.{Failure}
 use Rattle.owner_house.specs.Owner.{HasData, Owner}
 use Rattle.owner_catalog.specs.Limits.{owner_limit}
+use Rattle.generated_run.specs.AnswerPath.Query.{Source}
 use Rattle.generated_run.specs.OwnerHistory.Explains.{Explains}
 use Rattle.generated_run.specs.OwnerHistory.Sound.{IsBacked, IsOwed}
 use Rattle.catalog_loading.specs.Loaded.{KeyedOwner, Loading, entry_at, header_of, in_versions}
@@ -25,7 +26,7 @@ use Rattle.query_server.specs.declared.end.Status.{Status}
 use Rattle.query_server.specs.declared.end.Status.TheVariants.{Done}
 
 -- An owner's disk stood for these records, and does so still. They are legal, cost at most the budget, and are explained by just the
--- programs that explain them, against any second dataset with a displacement of at most cost times distance.
+-- sources that explain them, against any second dataset with a displacement of at most cost times distance.
 pub record KeepsFound (owner : Owner) (draws : ℕ → ℕ → ℕ) (header : Header) (found : List Record) (before after : Stored) : Type 0 where
   pub stands : IfSome after.trace (λ t. Stands header found (seen_of t))
   -- each file that a stop may have left meanwhile is one that a stop before may have left; and since the disk was synced, as a
@@ -35,7 +36,7 @@ pub record KeepsFound (owner : Owner) (draws : ℕ → ℕ → ℕ) (header : He
   -- of two disks each was synced, or got what it lacked of the other's records
   pub twins : BothGo AreSynced before.twins after.twins
   pub owed : IsOwed owner found found
-  pub backed : (programs : List (List ℕ)) → Explains owner draws programs found → IsBacked owner draws found programs found
+  pub backed : (sources : List Source) → Explains owner draws sources found → IsBacked owner draws found sources found
 
 -- So it is of each owner whose disk is at home with a journal that is opened in its version, whatever became of the others.
 abbrev pub AreKept : Loading → (key : List ℕ) → (old new : Shelf) → Type 0

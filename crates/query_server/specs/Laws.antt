@@ -24,7 +24,7 @@ use Rattle.generated_run.specs.SessionCore.Meant.{wants}
 use Rattle.generated_run.specs.SessionCore.Turns.{meant_at, turns_of}
 use Rattle.generated_run.specs.SessionCore.Code.{WantsTooManyWalks}
 use Rattle.generated_run.specs.SessionCore.Exchanges.{Exchange}
-use Rattle.generated_run.specs.SessionCore.Headline.{AreFound, Headline, Programs}
+use Rattle.generated_run.specs.SessionCore.Headline.{AreFound, Explanations, Headline}
 use Rattle.generated_run.specs.SessionCore.Said.{NothingFailedAt}
 use Rattle.generated_run.specs.SessionLaws.Whole.{HadMemoryFor}
 use Rattle.generated_run.specs.SessionCore.Transcript.{IsScriptRun, Journals}
@@ -223,14 +223,14 @@ OneWorkerWritesTheTranscript = (words : List (List ℕ)) (reads : ReadsToCome) (
     → ((place : ℕ) (x : Exchange) → slice_get a.answered.exchanges place ≡ Some x
     → HadMemoryFor (WantsTooManyWalks (meant_at (house_in a.loading a.versions) x.turn)) x.reply)
     → (replies : List Replied) (last : Journals) → IsScriptRun (house_in a.loading a.versions) (draws_of a.key) a.found script replies last
-    → NothingFailedAt (house_in a.loading a.versions) (turns_of (house_in a.loading a.versions) script) replies
+    → NothingFailedAt (house_in a.loading a.versions) (turns_of (house_in a.loading a.versions) script replies) replies
     → (written ≡ flat_map reply_text replies)
     × ((o : ℕ) (owner : Owner) → slice_get (house_in a.loading a.versions).owners o ≡ Some owner → a.answered.records o ≡ last o)
 
--- What is promised to each owner by itself is the headline of all, where programs explain what was found of all of them.
+-- What is promised to each owner by itself is the headline of all, where sources explain what was found of all of them.
 abbrev pub OwnersMakeTheHeadline : Type 0
 OwnersMakeTheHeadline = (words : List (List ℕ)) (reads : ReadsToCome) (old new : Shelf) (script written : List ℕ)
-    → (a : IsAnsweredScript words reads old new script written) → (earlier : Programs)
+    → (a : IsAnsweredScript words reads old new script written) → (earlier : Explanations)
     → AreFound (house_in a.loading a.versions) (draws_of a.key) earlier a.found
     → Headline (house_in a.loading a.versions) (draws_of a.key) a.found earlier script a.workers a.answered.crew a.answered.exchanges
     a.answered.records

@@ -2,6 +2,7 @@
 use Rattle.std.specs.Prelude.{◌≡◌, ◌⊎◌, ℕ, ◌≤◌, List, length, slice_get, Some, Ok}
 use Rattle.word_streams.specs.Draws.{draws_of}
 use Rattle.owner_house.specs.Owner.{Owner}
+use Rattle.generated_run.specs.AnswerPath.Query.{Source}
 use Rattle.generated_run.specs.OwnerHistory.Sound.{IsFound}
 use Rattle.generated_run.specs.SessionCore.Headline.{AreOwed, IsHonoured}
 use Rattle.generated_run.specs.SessionCore.Transcript.{Journals}
@@ -26,7 +27,7 @@ pub record IsHouseOf (words : List (List ℕ)) (reads : ReadsToCome) (workers : 
 
 -- The script is no longer than it may be. The owners' journals are opened, and what is written is the script's replies, in the house of
 -- the files. The records behind them are legal after those found, and within the budget, for every owner; and to each owner, for all
--- programs that explain the records found of its own, the exchanges that these replies are of and its records keep the promises, whatever
+-- sources that explain the records found of its own, the exchanges that these replies are of and its records keep the promises, whatever
 -- was found of others.
 pub record IsAnsweredScript (words : List (List ℕ)) (reads : ReadsToCome) (old new : Shelf) (script written : List ℕ) : Type 0 where
   pub workers : ℕ
@@ -40,7 +41,7 @@ pub record IsAnsweredScript (words : List (List ℕ)) (reads : ReadsToCome) (old
   pub answered : IsScriptAnswered (in_versions loading versions) key workers old new found script written
   pub owed : AreOwed (house_in loading versions) found answered.records
   pub headline : (o : ℕ) (owner : Owner) → slice_get (house_in loading versions).owners o ≡ Some owner
-      → (earlier : List (List ℕ)) → IsFound owner (draws_of key o) earlier (found o)
+      → (earlier : List Source) → IsFound owner (draws_of key o) earlier (found o)
       → IsHonoured (house_in loading versions) (draws_of key) script workers answered.crew o owner (found o) earlier answered.exchanges
       (answered.records o)
 

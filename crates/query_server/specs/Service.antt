@@ -6,6 +6,7 @@ use Rattle.fz_outside.specs.Faults.{HasRisen}
 use Rattle.owner_desk.specs.Passes.{Pass}
 use Rattle.owner_house.specs.House.{House}
 use Rattle.owner_house.specs.Owner.{Owner}
+use Rattle.generated_run.specs.AnswerPath.Query.{Source}
 use Rattle.generated_run.specs.OwnerHistory.Sound.{IsFound}
 use Rattle.generated_run.specs.SessionCore.Headline.{AreOwed}
 use Rattle.generated_run.specs.SessionCore.Transcript.{Journals}
@@ -87,7 +88,7 @@ service_status outcome.DoorFault = Fault
 service_status outcome.NoMemory = NoMemory
 
 -- Sessions were held in the house of the files. The records behind their lines are legal after those found, and within the budget, for
--- every owner; and to each owner, for all programs that explain the records found of its own, the lines of all workers keep the promises,
+-- every owner; and to each owner, for all sources that explain the records found of its own, the lines of all workers keep the promises,
 -- together and each session by itself, whatever was found of others. The status says how the workers ended, unless its line couldn't be
 -- written.
 pub record IsServiceDone (words : List (List ℕ)) (reads : ReadsToCome) (old new : Shelf) (before after : List Door) (status : Status)
@@ -101,7 +102,7 @@ pub record IsServiceDone (words : List (List ℕ)) (reads : ReadsToCome) (old ne
   pub at : IsServiceOver loading key workers each old new before after end
   pub owed : AreOwed (house_in loading at.versions) at.found at.over.records
   pub kept : (o : ℕ) (owner : Owner) → slice_get (house_in loading at.versions).owners o ≡ Some owner
-      → (earlier : List (List ℕ)) → IsFound owner (draws_of key o) earlier (at.found o)
+      → (earlier : List Source) → IsFound owner (draws_of key o) earlier (at.found o)
       → KeepThePromises (house_in loading at.versions) (draws_of key) o (at.found o) (map (λ x. x.turn) at.service.held.exchanges) workers
       at.service.held.crew owner earlier at.service.held.exchanges (at.over.records o) at.service.sittings
   pub told : (status ≡ service_status end) ⊎ ((status ≡ Fault) × HasRisen sink sunk)

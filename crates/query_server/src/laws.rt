@@ -60,7 +60,7 @@ pub fn runs_are_answered()
 {}
 
 /// Where a run has answered no script, or a service has held no session, and after each audit, every owner that was opened keeps what
-/// was found: legal records within the budget, explained by the same programs, with a bounded displacement, for which each file stands
+/// was found: legal records within the budget, explained by the same sources, with a bounded displacement, for which each file stands
 /// that a stop may have left. So does the owner of a grant that wasn't allowed or ended before; one that was allowed leaves what was
 /// found with this grant behind it, perhaps without where it didn't end well.
 pub fn other_ends_keep_what_was_found()

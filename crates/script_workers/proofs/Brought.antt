@@ -1,5 +1,5 @@
 -- What all workers did, by what each of them did.
-use Rattle.std.proofs.Common.{◌≡◌, ℕ, zero, suc, ◌+◌, ◌<◌, ◌≤◌, List, [], ◌∷◌, ◌++◌, length, get_or, map, slice_get, Some, None, refl, sym, ◌∙◌, ap, subst, arith}
+use Rattle.std.proofs.Common.{◌≡◌, ℕ, zero, suc, ◌+◌, ◌<◌, ◌≤◌, List, [], ◌∷◌, ◌++◌, length, get_or, map, slice_get, Some, refl, sym, ◌∙◌, ap, subst, arith}
 use Rattle.std.specs.Prelude.{All, sum_by}
 use Rattle.std.specs.List.{AllByRecursion, flat_map}
 use Rattle.std.proofs.lemmas.List.{length-map, get_or-map, map-append, get_or_default}
@@ -11,18 +11,19 @@ use Rattle.wire_lines.specs.Reply.{Replied, reply_text}
 use Rattle.session_core.specs.OwnerHouse.Owner.{Owner}
 use Rattle.session_core.specs.OwnerHouse.House.{House}
 use Rattle.session_core.specs.OwnerDesk.Passes.{Pass, Told}
-use Rattle.session_core.specs.Turns.{Turn, meant_at, session_turns, turns_of}
+use Rattle.session_core.specs.Turns.{meant_at}
 use Rattle.session_core.specs.Exchanges.{Exchange, IsPlain}
 use Rattle.session_core.specs.Gathered.{StillShut, added_below, part_of}
-use Rattle.session_core.specs.Blocks.{own_blocks, crew_of, script_blocks}
+use Rattle.session_core.specs.Blocks.{AreOfBlocks, own_blocks, crew_of, script_blocks}
 use Rattle.session_core.specs.Bundles.{Bundle, handed_on}
 use Rattle.session_core.specs.Code.{AreFresh, AreServed, GoesOn, no_pass, pass_at}
 use Rattle.session_core.specs.Worked.{HasWorked, IsBroughtIn}
-use Rattle.session_core.proofs.Dealing.{dealt, session_length}
+use Rattle.session_core.proofs.Dealing.{dealt}
+use Rattle.session_core.proofs.Turns.{script_joined}
 use Rattle.script_workers.specs.declared.texts.Texts.{Texts}
 use Rattle.script_workers.specs.Texts.{KeepsTexts, ends_from, in_all}
 use Rattle.script_workers.specs.Crews.{HasDone, HasTakenAll, IsHired, replies_text}
-use Rattle.script_workers.proofs.Dealt.{joined, own_map, same_blocks, all_blocks, crew_by_lengths, IsOrdered, in_order, chosen}
+use Rattle.script_workers.proofs.Dealt.{joined, all_blocks, all_of_blocks, crew_by_lengths, lengths_of, IsOrdered, in_order, chosen}
 
 -- ---- sums over workers
 
@@ -95,26 +96,11 @@ text_joined (xs ∷ xss) =
     ∙ sym (flat_map-append reply_text (map (λ (x : Exchange). x.reply) xs) (map (λ (x : Exchange). x.reply) (joined xss)))
     ∙ ap (flat_map reply_text) (sym (map-append (λ (x : Exchange). x.reply) xs (joined xss)))
 
-map_joined : {A B : Type 0} (f : A → B) (xss : List (List A)) → map f (joined xss) ≡ joined (map (map f) xss)
-map_joined f [] = refl
-map_joined f (xs ∷ xss) = map-append f xs (joined xss) ∙ ap (λ w. map f xs ++ w) (map_joined f xss)
-
-joined_map : {A B : Type 0} (g : List A → List B) (xss : List (List A)) → joined (map g xss) ≡ flat_map g xss
-joined_map g [] = refl
-joined_map g (xs ∷ xss) = ap (λ w. g xs ++ w) (joined_map g xss)
-
-lengths_kept : {A B : Type 0} (g : List A → List B) → ((xs : List A) → length (g xs) ≡ length xs) → (xss : List (List A)) → map length (map g xss) ≡ map length xss
-lengths_kept g long [] = refl
-lengths_kept g long (xs ∷ xss) = ap (λ (n : ℕ). n ∷ map length (map g xss)) (long xs) ∙ ap (λ w. length xs ∷ w) (lengths_kept g long xss)
-
 -- ---- the script
-
-abbrev pub turn_of : Exchange → Turn
-turn_of x = x.turn
 
 -- One worker answered its own blocks, from passes that know what these ones do.
 pub record Answers (house : House) (draws : ℕ → ℕ → ℕ → ℕ) (count : ℕ) (script : List ℕ) (knows : List Pass) (i : ℕ) (after : Bundle) (texts : Texts) (parts : List (List Exchange)) : Type 0 where
-  pub turns_are : map (map turn_of) parts ≡ map (session_turns house None) (own_blocks count i 0 (script_blocks script))
+  pub turns_are : AreOfBlocks house (own_blocks count i 0 (script_blocks script)) parts
   pub kept : KeepsTexts texts (map replies_text parts)
   pub served : AreServed house draws (joined parts) (map handed_on knows) after.knows
 
@@ -136,17 +122,13 @@ module _ {A : Type 0} (pass : A → Bundle) (kept : A → Texts) (house : House)
   pub all : IsOrdered replies_text count some 0 texts picks.0
   all = in_order replies_text count some 0 texts picks.0 (λ i lt. same_texts (kept (get_or crew i d)) (own_blocks count i 0 texts) (map replies_text (picks.0 i)) (order i lt) (picks.1 i lt).kept)
 
-  by_turns : map (map turn_of) all.all ≡ map (session_turns house None) blocks
-  by_turns = same_blocks count 0 (map (map turn_of) all.all) (map (session_turns house None) blocks) some
-      (omega (arith, length-map all.all (map turn_of), length-map blocks (session_turns house None), ap length all.gives, length-map all.all replies_text, long))
-      (λ i lt. own_map (map turn_of) count i 0 all.all ∙ ap (map (map turn_of)) (all.each i lt) ∙ (picks.1 i lt).turns_are ∙ sym (own_map (session_turns house None) count i 0 blocks))
-
-  lengths : map length blocks ≡ map length all.all
-  lengths = sym (lengths_kept (session_turns house None) (session_length house None) blocks) ∙ ap (map length) (sym by_turns) ∙ lengths_kept (map turn_of) (λ xs. length-map xs turn_of) all.all
+  of_blocks : AreOfBlocks house blocks all.all
+  of_blocks = all_of_blocks house count 0 blocks all.all some (omega (arith, ap length all.gives, length-map all.all replies_text, long))
+      (λ i lt. subst (λ (p : List (List Exchange)). AreOfBlocks house (own_blocks count i 0 blocks) p) (sym (all.each i lt)) (picks.1 i lt).turns_are)
 
   part : (i : ℕ) → i < count → part_of (crew_of count 0 blocks) i 0 (joined all.all) ≡ joined (picks.0 i)
   part i lt = dealt count i 0 (λ (xs : List Exchange). xs) (λ xs. refl) (crew_of count 0 blocks) 0 all.all
-      (λ p. let same : 0 + p ≡ p = omega arith in ap (crew_of count 0 blocks) same ∙ crew_by_lengths count 0 blocks all.all lengths p)
+      (λ p. let same : 0 + p ≡ p = omega arith in ap (crew_of count 0 blocks) same ∙ crew_by_lengths count 0 blocks all.all (lengths_of house blocks all.all of_blocks) p)
       ∙ ap joined (all.each i lt)
 
   pub brought_in : (o : ℕ) (owner : Owner) → slice_get house.owners o ≡ Some owner → (pass_at main.knows o).own ≡ []
@@ -182,7 +164,7 @@ module _ {A : Type 0} (pass : A → Bundle) (kept : A → Texts) (house : House)
       → HasWorked house draws count script out main.knows after.knows
   has_worked out written long taken = record {
     exchanges = joined all.all;
-    turns_are = map_joined turn_of all.all ∙ ap joined by_turns ∙ joined_map (session_turns house None) blocks;
+    turns_are = script_joined house script all.all of_blocks;
     plain = all_blocks (λ (x : Exchange). IsPlain (meant_at house x.turn) x) count 0 all.all some
         (λ i lt. subst (λ xss. AllByRecursion (λ (x : Exchange). IsPlain (meant_at house x.turn) x) (joined xss)) (sym (all.each i lt)) (picks.1 i lt).served.plain);
     written = written ∙ ap in_all all.gives ∙ text_joined all.all;

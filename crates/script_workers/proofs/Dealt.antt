@@ -3,7 +3,11 @@ use Rattle.std.proofs.Common.{◌≡◌, ℕ, zero, suc, ◌+◌, ◌-◌, ◌%�
 use Rattle.std.proofs.lemmas.Bool.{eqb-false}
 use Rattle.std.specs.Prelude.{if◌then◌else◌}
 use Rattle.std.specs.List.{AllByRecursion, flat_map}
-use Rattle.session_core.specs.Blocks.{own_blocks, crew_of}
+use Rattle.session_core.specs.OwnerHouse.House.{House}
+use Rattle.session_core.specs.Speakers.{no_speaker}
+use Rattle.session_core.specs.Exchanges.{Exchange, AreOfLines}
+use Rattle.session_core.specs.Blocks.{AreOfBlocks, own_blocks, crew_of}
+use Rattle.session_core.proofs.Turning.{of_length}
 
 abbrev behind : {A : Type 0} → List A → List A
 behind [] = []
@@ -17,34 +21,34 @@ first_or a (x ∷ xs) = x
 abbrev pub joined : {A : Type 0} → List (List A) → List A
 joined xss = flat_map (λ xs. xs) xss
 
-pub own_map : {A B : Type 0} (f : List A → List B) (count i k : ℕ) (xs : List (List A)) → own_blocks count i k (map f xs) ≡ map f (own_blocks count i k xs)
-own_map f count i k [] = refl
-own_map f count i k (x ∷ xs) = here (k % count == i) (own_map f count i (k + 1) xs)
-  where
-    here : (b : Bool) → own_blocks count i (k + 1) (map f xs) ≡ map f (own_blocks count i (k + 1) xs)
-        → (if b then f x ∷ own_blocks count i (k + 1) (map f xs) else own_blocks count i (k + 1) (map f xs)) ≡ map f (if b then x ∷ own_blocks count i (k + 1) xs else own_blocks count i (k + 1) xs)
-    here true rest = ap (λ w. f x ∷ w) rest
-    here false rest = rest
-
--- where workers agree on their own blocks, they agree on all
-module _ {A : Type 0} (count : ℕ) where
-  own_step : (i k : ℕ) (x y : List A) (xs ys : List (List A)) → own_blocks count i k (x ∷ xs) ≡ own_blocks count i k (y ∷ ys)
-      → (own_blocks count i (k + 1) xs ≡ own_blocks count i (k + 1) ys) × ((k % count == i) ≡ true → x ≡ y)
+-- Where each worker's own blocks were answered as sessions, all were.
+module _ (house : House) (count : ℕ) where
+  own_step : (i k : ℕ) (x : List (List ℕ)) (y : List Exchange) (xs : List (List (List ℕ))) (ys : List (List Exchange)) → AreOfBlocks house (own_blocks count i k (x ∷ xs)) (own_blocks count i k (y ∷ ys))
+      → AreOfBlocks house (own_blocks count i (k + 1) xs) (own_blocks count i (k + 1) ys) × ((k % count == i) ≡ true → AreOfLines house no_speaker x y)
   own_step i k x y xs ys h = here (k % count == i) refl h
     where
-      here : (b : Bool) → (k % count == i) ≡ b → (if b then x ∷ own_blocks count i (k + 1) xs else own_blocks count i (k + 1) xs) ≡ (if b then y ∷ own_blocks count i (k + 1) ys else own_blocks count i (k + 1) ys)
-          → (own_blocks count i (k + 1) xs ≡ own_blocks count i (k + 1) ys) × ((k % count == i) ≡ true → x ≡ y)
-      here true hit same = (ap behind same, λ e. ap (first_or x) same)
-      here false miss same = (same, λ e. absurd (cc (miss, e)))
+      here : (b : Bool) → (k % count == i) ≡ b
+          → AreOfBlocks house (if b then x ∷ own_blocks count i (k + 1) xs else own_blocks count i (k + 1) xs) (if b then y ∷ own_blocks count i (k + 1) ys else own_blocks count i (k + 1) ys)
+          → AreOfBlocks house (own_blocks count i (k + 1) xs) (own_blocks count i (k + 1) ys) × ((k % count == i) ≡ true → AreOfLines house no_speaker x y)
+      here true hit both = (both.1, λ e. both.0)
+      here false miss rest = (rest, λ e. absurd (cc (miss, e)))
 
-  pub same_blocks : (k : ℕ) (xs ys : List (List A)) → 0 < count → length xs ≡ length ys → ((i : ℕ) → i < count → own_blocks count i k xs ≡ own_blocks count i k ys) → xs ≡ ys
-  same_blocks k [] [] some long h = refl
-  same_blocks k [] (y ∷ ys) some long h = absurd (omega (arith, long))
-  same_blocks k (x ∷ xs) [] some long h = absurd (omega (arith, long))
-  same_blocks k (x ∷ xs) (y ∷ ys) some long h =
-      let first : x ≡ y = (own_step (k % count) k x y xs ys (h (k % count) (mod-lt k some))).1 (eq-eqb (k % count) (k % count) refl) in
-      let rest : xs ≡ ys = same_blocks (k + 1) xs ys some (omega (arith, long)) (λ i lt. (own_step i k x y xs ys (h i lt)).0) in
-      ap (λ w. w ∷ xs) first ∙ ap (λ w. y ∷ w) rest
+  pub all_of_blocks : (k : ℕ) (xs : List (List (List ℕ))) (ys : List (List Exchange)) → 0 < count → length xs ≡ length ys
+      → ((i : ℕ) → i < count → AreOfBlocks house (own_blocks count i k xs) (own_blocks count i k ys)) → AreOfBlocks house xs ys
+  all_of_blocks k [] [] some long h = tt
+  all_of_blocks k [] (y ∷ ys) some long h = absurd (omega (arith, long))
+  all_of_blocks k (x ∷ xs) [] some long h = absurd (omega (arith, long))
+  all_of_blocks k (x ∷ xs) (y ∷ ys) some long h = (
+    (own_step (k % count) k x y xs ys (h (k % count) (mod-lt k some))).1 (eq-eqb (k % count) (k % count) refl),
+    all_of_blocks (k + 1) xs ys some (omega (arith, long)) (λ i lt. (own_step i k x y xs ys (h i lt)).0),
+  )
+
+-- A session has an exchange for each line.
+pub lengths_of : (house : House) (bs : List (List (List ℕ))) (ps : List (List Exchange)) → AreOfBlocks house bs ps → map length bs ≡ map length ps
+lengths_of house [] [] of = refl
+lengths_of house [] (p ∷ ps) of = absurd of
+lengths_of house (b ∷ bs) [] of = absurd of
+lengths_of house (b ∷ bs) (p ∷ ps) of = cc (of_length house no_speaker b p of.0, lengths_of house bs ps of.1)
 
 all_split : {X : Type 0} (P : X → Type 0) (xs ys : List X) → AllByRecursion P (xs ++ ys) → AllByRecursion P xs × AllByRecursion P ys
 all_split P [] ys h = (tt, h)

@@ -1,14 +1,14 @@
 -- A worker's blocks, answered one after another.
-use Rattle.std.proofs.Common.{◌≡◌, ◌≢◌, ℕ, ◌+◌, ◌%◌, ◌<◌, ◌≤◌, List, [], ◌∷◌, ◌++◌, length, map, sum_by, None, refl, sym, ap, ◌∙◌, subst, arith, append_assoc, append-nil}
+use Rattle.std.proofs.Common.{◌≡◌, ◌≢◌, ℕ, ◌+◌, ◌%◌, ◌<◌, ◌≤◌, List, [], ◌∷◌, ◌++◌, length, map, sum_by, refl, sym, ap, ◌∙◌, subst, arith, append_assoc, append-nil}
 use Rattle.std.specs.Prelude.{⊤, vec_capacity}
 use Rattle.std.specs.List.{flat_map}
 use Rattle.std.proofs.lemmas.List.{map-append}
 use Rattle.std.proofs.lemmas.List.Concat.{flat_map-append}
 use Rattle.std.proofs.lemmas.List.Sums.{sum_by-cons}
 use Rattle.session_core.specs.OwnerHouse.House.{House}
-use Rattle.session_core.specs.Turns.{session_turns}
-use Rattle.session_core.specs.Exchanges.{Exchange}
-use Rattle.session_core.specs.Blocks.{own_blocks}
+use Rattle.session_core.specs.Speakers.{no_speaker}
+use Rattle.session_core.specs.Exchanges.{Exchange, AreOfLines}
+use Rattle.session_core.specs.Blocks.{AreOfBlocks, own_blocks}
 use Rattle.session_core.specs.Bundles.{Bundle}
 use Rattle.session_core.specs.Code.{AreServed, room_for_lines}
 use Rattle.session_core.proofs.Serving.{none_served, served_append}
@@ -21,18 +21,18 @@ use Rattle.script_workers.proofs.Kept.{push_longer}
 module _ (house : House) where
   -- A block is a session of its own, and its room holds the replies.
   abbrev pub IsPart : (part : List Exchange) → (block : List (List ℕ)) → Type 0
-  IsPart part block = (map (λ (x : Exchange). x.turn) part ≡ session_turns house None block) × (length (replies_text part) ≤ room_for_lines block)
+  IsPart part block = AreOfLines house no_speaker block part × (length (replies_text part) ≤ room_for_lines block)
 
   abbrev pub AreParts : List (List Exchange) → List (List (List ℕ)) → Type 0
   AreParts [] [] = ⊤
   AreParts (part ∷ parts) (block ∷ blocks) = IsPart part block × AreParts parts blocks
   AreParts parts blocks = ⊥
 
-  parts_turns : (parts : List (List Exchange)) (blocks : List (List (List ℕ))) → AreParts parts blocks → map (λ (xs : List Exchange). map (λ (x : Exchange). x.turn) xs) parts ≡ map (session_turns house None) blocks
-  parts_turns [] [] are = refl
+  parts_turns : (parts : List (List Exchange)) (blocks : List (List (List ℕ))) → AreParts parts blocks → AreOfBlocks house blocks parts
+  parts_turns [] [] are = tt
   parts_turns [] (block ∷ blocks) are = absurd are
   parts_turns (part ∷ parts) [] are = absurd are
-  parts_turns (part ∷ parts) (block ∷ blocks) are = cc (are.0.0, parts_turns parts blocks are.1)
+  parts_turns (part ∷ parts) (block ∷ blocks) are = (are.0.0, parts_turns parts blocks are.1)
 
   parts_fit : (parts : List (List Exchange)) (blocks : List (List (List ℕ))) → AreParts parts blocks → AreFor (map replies_text parts) blocks
   parts_fit [] [] are = tt

@@ -1,5 +1,5 @@
 -- Workers: what they are hired with, and what they have done.
-use Rattle.std.specs.Prelude.{◌≡◌, ℕ, zero, suc, ◌+◌, ◌-◌, ◌*◌, ◌^◌, ◌≤◌, List, [], ◌∷◌, length, map, min, sum_by, get_or, None, ⊤, vec_capacity}
+use Rattle.std.specs.Prelude.{◌≡◌, ℕ, zero, suc, ◌+◌, ◌-◌, ◌*◌, ◌^◌, ◌≤◌, List, [], ◌∷◌, length, map, min, sum_by, get_or, ⊤, vec_capacity}
 use Rattle.std.specs.List.{AllByRecursion, flat_map}
 use mathlib.Core.List.{IsPrefix}
 use Rattle.budget_ledger.specs.declared.failure.Failure.{Failure}
@@ -7,10 +7,9 @@ use Rattle.owner_lock.specs.Entries.{Ascends}
 use Rattle.wire_lines.specs.Reply.{reply_text}
 use Rattle.session_core.specs.OwnerHouse.House.{House}
 use Rattle.session_core.specs.OwnerDesk.Passes.{Pass, Told}
-use Rattle.session_core.specs.Turns.{session_turns}
 use Rattle.session_core.specs.Exchanges.{Exchange}
 use Rattle.session_core.specs.Gathered.{StillShut}
-use Rattle.session_core.specs.Blocks.{own_blocks}
+use Rattle.session_core.specs.Blocks.{AreOfBlocks, own_blocks}
 use Rattle.session_core.specs.Bundles.{Bundle, handed_on}
 use Rattle.session_core.specs.Code.{AreServed, room_for_lines}
 use Rattle.script_workers.specs.Texts.{KeepsTexts}
@@ -51,7 +50,7 @@ pub record IsHired (count i : ℕ) (blocks : List (List (List ℕ))) (main passe
 -- A worker has answered its blocks, each as a session of its own, and keeps the text of each.
 pub record HasDone (house : House) (draws : ℕ → ℕ → ℕ → ℕ) (count i : ℕ) (blocks : List (List (List ℕ))) (before after : Bundle) (texts : Texts) : Type 0 where
   pub parts : List (List Exchange)
-  pub turns_are : map (λ xs. map (λ (x : Exchange). x.turn) xs) parts ≡ map (session_turns house None) (own_blocks count i 0 blocks)
+  pub turns_are : AreOfBlocks house (own_blocks count i 0 blocks) parts
   pub kept : KeepsTexts texts (map replies_text parts)
   pub fit : AreFor (map replies_text parts) (own_blocks count i 0 blocks)
   pub served : AreServed house draws (flat_map (λ xs. xs) parts) before.knows after.knows

@@ -1,10 +1,10 @@
 //! One worker, and what it does.
 
-ghost use Rattle.std.specs.Prelude.{◌≡◌, ◌+◌, ◌++◌, ◌<◌, ◌≤◌, [], ◌∷◌, List, ℕ, length, map, All, IfErr, IfOk, None, vec_capacity};
+ghost use Rattle.std.specs.Prelude.{◌≡◌, ◌+◌, ◌++◌, ◌<◌, ◌≤◌, [], ◌∷◌, List, ℕ, length, All, IfErr, IfOk, vec_capacity};
 ghost use Rattle.wire_lines.specs.Lines.{lines_of};
 ghost use Rattle.session_core.specs.OwnerHouse.House.{house_of};
-ghost use Rattle.session_core.specs.Turns.{session_turns};
-ghost use Rattle.session_core.specs.Exchanges.{Exchange};
+ghost use Rattle.session_core.specs.Speakers.{no_speaker};
+ghost use Rattle.session_core.specs.Exchanges.{Exchange, AreOfLines};
 ghost use Rattle.session_core.specs.Blocks.{first_block};
 ghost use Rattle.session_core.specs.Bundles.{given_halves, kept_halves};
 ghost use Rattle.session_core.specs.Code.{ArePasses, AreServed, room_for_lines};
@@ -85,7 +85,7 @@ fn serve_block<'a, R: Wait, D: Disk, S: Streams, G: Gate>(
     requires bytes { length worker.old.texts.bytes.items + room_for_lines (first_block (lines_of lines.now)) ≤ vec_capacity worker.old.texts.bytes }
     requires ends { length worker.old.texts.ends.items < vec_capacity worker.old.texts.ends }
     ensures served { (xs : List Exchange)
-        × (map (λ (x : Exchange). x.turn) xs ≡ session_turns (house_of server.now.house.now) None (first_block (lines_of lines.now)))
+        × AreOfLines (house_of server.now.house.now) no_speaker (first_block (lines_of lines.now)) xs
         × AreServed (house_of server.now.house.now) (S.given server.now.streams.now) xs worker.old.passes.knows worker.new.passes.knows
         × (length (replies_text xs) ≤ room_for_lines (first_block (lines_of lines.now)))
         × ((texts : List (List ℕ)) → KeepsTexts worker.old.texts texts → KeepsTexts worker.new.texts (texts ++ replies_text xs ∷ [])) }

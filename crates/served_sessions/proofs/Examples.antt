@@ -20,6 +20,7 @@ use Rattle.outside_links.specs.Links.{shown}
 use Rattle.owner_house.specs.Owner.{Owner}
 use Rattle.owner_house.specs.House.{House, house_of}
 use Rattle.owner_desk.specs.Passes.{Pass, Told}
+use Rattle.successive_runs.specs.AnswerPath.Query.{Source}
 use Rattle.successive_runs.specs.AnswerPath.Demand.{asks}
 use Rattle.successive_runs.specs.AnswerPath.Met.{IsMetExactly}
 use Rattle.successive_runs.specs.AnswerPath.Noise.{noise_at}
@@ -419,5 +420,5 @@ two_are_a_run draws =
     (inl ((reserved, refl), (settling 0 (outcome_at draws) ∷ [], refl))) (two_stopped draws)
 
 -- where the answer's records aren't there, the session isn't kept
-not_without_records : (draws : ℕ → ℕ → ℕ → ℕ) (programs : List (List ℕ)) → IsKept house draws 0 [] programs [] (first draws) → ⊥
-not_without_records draws programs kept = let more = kept.stands in cc (more.1)
+not_without_records : (draws : ℕ → ℕ → ℕ → ℕ) (sources : List Source) → IsKept house draws 0 [] sources [] (first draws) → ⊥
+not_without_records draws sources kept = let more = kept.stands in cc (more.1)

@@ -16,7 +16,7 @@ use Rattle.owner_house.specs.House.{House, house_of, owner_at}
 use Rattle.owner_house.proofs.Owners.{owner_there, owners_length, register_owners}
 use Rattle.successive_runs.specs.OwnerHistory.Sound.{IsFound}
 use Rattle.successive_runs.specs.AnswerPath.Demand.{asks}
-use Rattle.successive_runs.specs.AnswerPath.Query.{Query}
+use Rattle.successive_runs.specs.AnswerPath.Query.{Query, Source}
 use Rattle.successive_runs.specs.AnswerPath.Shut.{IsPendingOf, disk_word}
 use Rattle.successive_runs.specs.SessionCore.Code.{IsAnalyst}
 use Rattle.successive_runs.specs.SessionCore.Meant.{wants}
@@ -61,7 +61,7 @@ module _ (loading : Loading) (key : List ℕ) (workers : ℕ) (old new : Shelf) 
           lines_are_runs house (draws_of key) workers were.held.crew o owner (found o) were.held.exchanges (were.over.records o) (were.over.closed o) (header_of loading key o) before after speaker
           (were.over.gathered o owner at) (were.over.shut o owner at) disk
 
-      pub services_go_on : (earlier : List (List ℕ)) → IsFound owner (draws_of key o) earlier (found o)
+      pub services_go_on : (earlier : List Source) → IsFound owner (draws_of key o) earlier (found o)
           → WhereTold (Passes (MayBeGoneOnFrom owner (draws_of key o) (header_of loading key o) earlier)) (noted Synced before.trace) after.trace
           × IfSome after.trace (Leaves (MayBeGoneOnFrom owner (draws_of key o) (header_of loading key o) earlier))
       services_go_on earlier f =

@@ -14,7 +14,7 @@ use Rattle.wire_lines.specs.Reply.{Replied, answered}
 use Rattle.owner_house.specs.Owner.{Owner}
 use Rattle.owner_house.specs.House.{House, IsOwnerIn}
 use Rattle.successive_runs.specs.AnswerPath.Demand.{asks}
-use Rattle.successive_runs.specs.AnswerPath.Query.{Query}
+use Rattle.successive_runs.specs.AnswerPath.Query.{Query, Source}
 use Rattle.successive_runs.specs.OwnerHistory.Sound.{IsFound}
 use Rattle.successive_runs.specs.SessionCore.Code.{IsAnalyst}
 use Rattle.successive_runs.specs.SessionCore.Exchanges.{Exchange}
@@ -32,7 +32,7 @@ use Rattle.successive_runs.proofs.Sent.{borne_left}
 use Rattle.served_sessions.specs.Stopped.{HoldsAllTold}
 
 module _ (house : House) (draws : ℕ → ℕ → ℕ → ℕ) (count : ℕ) (crew : ℕ → ℕ) (o : ℕ) (owner : Owner) (found : List Record) (xs : List Exchange) (records : List Record) (closed : Option Failure) (header : Header)
-    (earlier : List (List ℕ)) (at : slice_get house.owners o ≡ Some owner) (inside : IsOwnerIn house owner) (f : IsFound owner (draws o) earlier found) where
+    (earlier : List Source) (at : slice_get house.owners o ≡ Some owner) (inside : IsOwnerIn house owner) (f : IsFound owner (draws o) earlier found) where
   abbrev run_with : (sent : ℕ → Bool) (left : List Record) → Run
   run_with sent left = record { count = count; crew = crew; exchanges = xs; records = records; closed = closed; sent = sent; left = left }
 
@@ -45,16 +45,16 @@ module _ (house : House) (draws : ℕ → ℕ → ℕ → ℕ) (count : ℕ) (cr
   by_run : (bytes : List ℕ) (left : List Record) → Stands header left bytes → (r : IsRun house draws o owner found (run_with all_sent left)) → IsGoneOn house draws o owner found earlier (run_with all_sent left) at inside f r left → Holds bytes
   by_run bytes left stands r g = record {
     records = left;
-    programs = g.programs;
+    sources = g.sources;
     stands = stands;
     goes_on = g.goes_on;
     explained = g.explained;
     limited = history_limited owner.entry left g.explained.history;
     borne_out = λ place x demand there meant. borne_left house draws o owner found earlier (run_with all_sent left) at inside f r g place x demand refl there meant;
     answers = λ place x query n taken value there meant is.
-        let borne : IsBorneOutTo g.programs left (asks query) (answered n value taken)
-        = subst (λ (w : Replied). IsBorneOutTo g.programs left (asks query) w) is (borne_left house draws o owner found earlier (run_with all_sent left) at inside f r g place x (asks query) refl there meant) in
-        answer_stands owner (draws o) g.programs left g.explained query n value (borne n (Answered value) refl);
+        let borne : IsBorneOutTo g.sources left (asks query) (answered n value taken)
+        = subst (λ (w : Replied). IsBorneOutTo g.sources left (asks query) w) is (borne_left house draws o owner found earlier (run_with all_sent left) at inside f r g place x (asks query) refl there meant) in
+        answer_stands owner (draws o) g.sources left g.explained query n value (borne n (Answered value) refl);
   }
 
   holds : (bytes : List ℕ) → Left bytes → Holds bytes
@@ -69,7 +69,7 @@ module _ (house : House) (draws : ℕ → ℕ → ℕ → ℕ) (count : ℕ) (cr
       leaves_weaker Left Holds holds after.trace (lines_are_runs house draws count crew o owner found xs records closed header before after speaks all shut went).1
 
 -- So the number of an answer is settled with it in whatever records the file stands for.
-pub told_is_settled : (house : House) (draws : ℕ → ℕ → ℕ) (o : ℕ) (owner : Owner) (header : Header) (earlier : List (List ℕ)) (xs : List Exchange) (file : List ℕ) → HoldsAllTold house draws o owner header earlier xs file
+pub told_is_settled : (house : House) (draws : ℕ → ℕ → ℕ) (o : ℕ) (owner : Owner) (header : Header) (earlier : List Source) (xs : List Exchange) (file : List ℕ) → HoldsAllTold house draws o owner header earlier xs file
     → (records : List Record) → Stands header records file → (place : ℕ) (x : Exchange) (query : Query) (n taken : ℕ) (value : ℤ) → slice_get xs place ≡ Some x
     → meant_at house x.turn ≡ wants o owner (asks query) → x.reply ≡ answered n value taken → outcome_of records n ≡ Some (Answered value)
 told_is_settled house draws o owner header earlier xs file h records stands place x query n taken value there meant is =

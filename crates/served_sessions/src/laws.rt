@@ -22,9 +22,9 @@ ghost use Rattle.wire_lines.specs.declared.refusal.DiskRefusal.{DiskRefusal};
 ghost use Rattle.wire_lines.specs.declared.refusal.DiskRefusal.TheVariants.{Fault as DiskFault};
 ghost use Rattle.owner_house.specs.House.{AreOwners, House, house_of};
 ghost use Rattle.successive_runs.specs.AnswerPath.Demand.{asks};
-ghost use Rattle.successive_runs.specs.AnswerPath.Query.{Query};
+ghost use Rattle.successive_runs.specs.AnswerPath.Query.{Query, Source};
 ghost use Rattle.successive_runs.specs.AnswerPath.Shut.{IsPendingOf};
-ghost use Rattle.successive_runs.specs.SessionCore.Headline.{AreFound, Programs};
+ghost use Rattle.successive_runs.specs.SessionCore.Headline.{AreFound, Explanations};
 ghost use Rattle.successive_runs.specs.SessionCore.Meant.{wants};
 ghost use Rattle.successive_runs.specs.SessionCore.Turns.{meant_at};
 ghost use Rattle.catalog_loading.specs.Loaded.{IsLoading, Loading, header_of, owners_in};
@@ -89,19 +89,19 @@ pub fn sessions_are_runs()
 
 /// Any number of a server's runs, one after another from the journals' making on, each of which has sessions one after another and ended
 /// or was stopped behind any of their lines, with grants between them, keep the promise over all of them; and so do those that go on from whatever records
-/// programs explain.
+/// sources explain.
 pub fn served_runs_keep_the_promise()
     ensures first { (house : House) (draws : ℕ → ℕ → ℕ → ℕ) (o : ℕ) (owner : Owner) (runs : List Run) (last : List Record) →
         AreOwners house → slice_get house.owners o ≡ Some owner → AreServiceRuns house draws o owner [] runs last →
         KeepThePromise house draws o owner [] [] runs last }
-    ensures later { (house : House) (draws : ℕ → ℕ → ℕ → ℕ) (o : ℕ) (owner : Owner) (found : List Record) (earlier : List (List ℕ)) →
+    ensures later { (house : House) (draws : ℕ → ℕ → ℕ → ℕ) (o : ℕ) (owner : Owner) (found : List Record) (earlier : List Source) →
         (runs : List Run) (last : List Record) → AreOwners house → slice_get house.owners o ≡ Some owner → IsFound owner (draws o) earlier found →
         AreServiceRuns house draws o owner found runs last → KeepThePromise house draws o owner found earlier runs last }
 {}
 
 /// A service is a run of each owner's, by however many workers, and however it ended: each file that a stop may have left since an owner's
 /// journal was opened stands for records that the run leaves, and each that a stop leaves now for such as it leaves whichever replies were
-/// sent by then. Where programs explain what it found, each such file stands for records that programs explain which begin with these.
+/// sent by then. Where sources explain what it found, each such file stands for records that sources explain which begin with these.
 /// A query is refused for its owner's disk (42 or 52) only where that disk's count of faults rose meanwhile; of a line that is told 52 it
 /// is its own record that may stand in the journal behind the others.
 pub fn services_are_runs()
@@ -111,7 +111,7 @@ pub fn services_are_runs()
         WhereTold (Passes (λ bytes. IsLeftOfService loading key workers old new found were o owner none_sent bytes))
         (noted Synced before.trace) after.trace
         × IfSome after.trace (Leaves (λ bytes. (sent : ℕ → Bool) → IsLeftOfService loading key workers old new found were o owner sent bytes)) }
-    ensures go_on { (loading : Loading) (key : List ℕ) (workers : ℕ) (old new : Shelf) (found : Journals) (earlier : Programs) → IsLoading loading →
+    ensures go_on { (loading : Loading) (key : List ℕ) (workers : ℕ) (old new : Shelf) (found : Journals) (earlier : Explanations) → IsLoading loading →
         AreFound (house_of loading.register) (draws_of key) earlier found → WereHeld loading key workers old new found →
         (o : ℕ) (owner : Owner) (before after : Stored) → slice_get (house_of loading.register).owners o ≡ Some owner →
         old o ≡ Some before → new o ≡ Some after →
@@ -130,19 +130,19 @@ pub fn services_are_runs()
 /// them those that fail from some moment on, which is what a stop is. So it is of all answers that were sent before a stop.
 pub fn answers_stand_in_every_image()
     ensures services { (loading : Loading) (key : List ℕ) (workers : ℕ) (old new : Shelf) (found : Journals) → IsLoading loading →
-        (were : WereHeld loading key workers old new found) → (o : ℕ) (owner : Owner) (earlier : List (List ℕ)) (before after : Stored) →
+        (were : WereHeld loading key workers old new found) → (o : ℕ) (owner : Owner) (earlier : List Source) (before after : Stored) →
         slice_get (house_of loading.register).owners o ≡ Some owner → IsFound owner (draws_of key o) earlier (found o) →
         old o ≡ Some before → new o ≡ Some after →
         IfSome after.trace (Leaves (HoldsAllTold (house_of loading.register) (draws_of key o) o owner (header_of loading key o) earlier
         were.held.exchanges)) }
     ensures scripts { (loading : Loading) (key : List ℕ) (workers : ℕ) (old new : Shelf) (found : Journals) (script text : List ℕ) →
         IsLoading loading → (done : IsScriptAnswered loading key workers old new found script text) →
-        (o : ℕ) (owner : Owner) (earlier : List (List ℕ)) (before after : Stored) →
+        (o : ℕ) (owner : Owner) (earlier : List Source) (before after : Stored) →
         slice_get (house_of loading.register).owners o ≡ Some owner → IsFound owner (draws_of key o) earlier (found o) →
         old o ≡ Some before → new o ≡ Some after →
         IfSome after.trace (Leaves (HoldsAllTold (house_of loading.register) (draws_of key o) o owner (header_of loading key o) earlier
         done.exchanges)) }
-    ensures settled { (house : House) (draws : ℕ → ℕ → ℕ) (o : ℕ) (owner : Owner) (header : Header) (earlier : List (List ℕ)) (xs : List Exchange) →
+    ensures settled { (house : House) (draws : ℕ → ℕ → ℕ) (o : ℕ) (owner : Owner) (header : Header) (earlier : List Source) (xs : List Exchange) →
         (file : List ℕ) → HoldsAllTold house draws o owner header earlier xs file → (records : List Record) → Stands header records file →
         (place : ℕ) (x : Exchange) (query : Query) (n taken : ℕ) (value : ℤ) → slice_get xs place ≡ Some x →
         meant_at house x.turn ≡ wants o owner (asks query) → x.reply ≡ answered n value taken → outcome_of records n ≡ Some (Answered value) }

@@ -1,16 +1,18 @@
 -- A worker at its door, connection after connection.
 use Rattle.std.proofs.Common.{◌≡◌, ◌≢◌, ◌||◌, ℕ, ◌+◌, ◌<◌, ◌≤◌, Bool, true, false, List, [], ◌∷◌, ◌++◌, length, map, Option, None, Some, refl, sym, ap, ◌∙◌, subst, arith, append_assoc, append-nil}
 use Rattle.std.specs.Prelude.{MatchBool, option_map}
-use Rattle.std.specs.List.{AllByRecursion, flat_map}
+use Rattle.std.specs.List.{AllByRecursion}
 use mathlib.Core.Logic.{◌⊎◌, inl, inr}
 use Rattle.std.proofs.lemmas.List.{length_push, map-append}
 use Rattle.fz_outside.specs.Faults.{HasRisen}
+use Rattle.wire_lines.specs.Reply.{Replied}
 use Rattle.wire_lines.proofs.Cuts.{no_lines}
 use Rattle.outside_links.specs.Links.{Connection, shown}
 use Rattle.outside_doors.specs.Doors.{HasCome, HasServed}
 use Rattle.owner_house.specs.House.{House}
 use Rattle.owner_desk.specs.Passes.{Pass}
-use Rattle.held_sessions.specs.SessionCore.Turns.{blocks_of, session_turns, turns_of}
+use Rattle.held_sessions.specs.SessionCore.Speakers.{no_speaker}
+use Rattle.held_sessions.specs.SessionCore.Turns.{turns_from, turns_of}
 use Rattle.held_sessions.specs.SessionCore.Exchanges.{Exchange}
 use Rattle.held_sessions.proofs.SessionCore.Exchanges.{all_append}
 use Rattle.held_sessions.specs.Session.{IsSession, reply_texts}
@@ -56,7 +58,8 @@ appended (Some earlier) now bytes none is = is ∙ ap (λ behind. Some (earlier 
 
 pub link_untouched : (house : House) (draws : ℕ → ℕ → ℕ → ℕ) (old new : Connection) (before after : List Pass) → IsSession house draws HadNoMemory old new before after → new ≡ old
 link_untouched house draws old new before after s =
-    let no_turn : turns_of house s.answered ≡ [] = ap (turns_of house) s.ends.0 ∙ ap (λ lines. flat_map (session_turns house None) (blocks_of lines)) (no_lines [] refl) in
+    let told : List Replied = map (λ (x : Exchange). x.reply) s.told.exchanges in
+    let no_turn : turns_of house s.answered told ≡ [] = ap (λ (bytes : List ℕ). turns_of house bytes told) s.ends.0 ∙ ap (λ (lines : List (List ℕ)). turns_from house no_speaker lines told) (no_lines [] refl) in
     let no_exchange : s.told.exchanges ≡ [] = none_left (λ (x : Exchange). x.turn) s.told.exchanges (s.told.turns ∙ no_turn) in
     let no_reply : s.replies ≡ [] = sym s.told.replied ∙ ap (map (λ (x : Exchange). x.reply)) no_exchange in
     let no_text : s.text ≡ [] = s.ends.2.0 ∙ ap reply_texts no_reply in

@@ -26,7 +26,7 @@ use Rattle.owner_history.specs.PartViews.Holding.{Holding}
 use Rattle.owner_history.specs.PartViews.Views.{signature_in}
 use Rattle.owner_history.specs.OwnerHouse.Owner.{IsOwnerOf, Owner, signature_of_view, rows_of_view, HasData}
 use Rattle.owner_history.specs.OwnerDesk.Passes.{Told, closing, records_told}
-use Rattle.owner_history.specs.AnswerPath.Query.{Query}
+use Rattle.owner_history.specs.AnswerPath.Query.{Query, Source}
 use Rattle.owner_history.specs.AnswerPath.Demand.{Demand, asks, recalls, balances, spends}
 use Rattle.owner_history.specs.AnswerPath.Reading.{Reading, IsReading}
 use Rattle.owner_history.specs.AnswerPath.Code.{AsksTooManyWalks}
@@ -91,7 +91,7 @@ exactly_adds owner draws start (spends analyst) seen reply told after (said, non
 -- a demand that adds nothing: all records that go on from those known after it bear out its reply
 pub record AddsNone (demand : Demand) (reply : Replied) (told : List Told) (after : List Record) : Type 0 where
   pub none : told ≡ []
-  pub borne : (programs : List (List ℕ)) (later : List Record) → IsPrefix after later → IsBorneOutTo programs later demand reply
+  pub borne : (sources : List Source) (later : List Record) → IsPrefix after later → IsBorneOutTo sources later demand reply
 
 recalled_on : (start analyst number : ℕ) (reply : Replied) (g after later : List Record) → IsPrefix after later
     → reply ≡ recall_reply number (recalled_from start g number analyst) → after ≡ g → IsRecallBorneOut later analyst reply
@@ -107,9 +107,9 @@ pub met_kind : (owner : Owner) (draws : ℕ → ℕ → ℕ) (start : ℕ) (dema
 unfolding IsMet IsRecalled IsBalance IsSpending
 met_kind owner draws start (asks query) seen reply told after met = inr (query, refl, met)
 met_kind owner draws start (recalls analyst number) seen reply told after ((g, pre, said, is), none) =
-    inl (record { none = none; borne = λ programs later on. recalled_on start analyst number reply g after later on said is })
-met_kind owner draws start balances seen reply told after ((g, pre, said, is), none) = inl (record { none = none; borne = λ programs later on. tt })
-met_kind owner draws start (spends analyst) seen reply told after ((g, pre, said, is), none) = inl (record { none = none; borne = λ programs later on. tt })
+    inl (record { none = none; borne = λ sources later on. recalled_on start analyst number reply g after later on said is })
+met_kind owner draws start balances seen reply told after ((g, pre, said, is), none) = inl (record { none = none; borne = λ sources later on. tt })
+met_kind owner draws start (spends analyst) seen reply told after ((g, pre, said, is), none) = inl (record { none = none; borne = λ sources later on. tt })
 
 -- The records known go on, by all that was told at least; where they go on by no more, nothing comes in between.
 pub record Grows (seen : List Record) (told : List Told) (after : List Record) : Type 0 where

@@ -35,7 +35,7 @@ use Rattle.owner_history.specs.PartViews.Holding.{Holding}
 use Rattle.owner_history.specs.PartViews.Views.{signature_in, rows_in}
 use Rattle.owner_history.specs.OwnerHouse.Owner.{Owner, signature_of_view}
 use Rattle.owner_history.specs.AnswerPath.Met.{IsMet, IsMetExactly}
-use Rattle.owner_history.specs.AnswerPath.Query.{Query}
+use Rattle.owner_history.specs.AnswerPath.Query.{Query, Source}
 use Rattle.owner_history.specs.AnswerPath.Admission.{admission_of, HasValue}
 use Rattle.owner_history.specs.AnswerPath.Program.{IsCharged}
 use Rattle.owner_history.specs.AnswerPath.Noise.{noise_at}
@@ -45,11 +45,12 @@ use Rattle.owner_history.specs.AnswerPath.Demand.{asks, balances, recalls}
 use Rattle.owner_history.specs.AnswerPath.Reading.{IsReading, read}
 use Rattle.owner_history.proofs.AnswerPath.Answering.{money_says}
 use Rattle.owner_history.proofs.AnswerPath.Limits.{seven_walk_too_much, six_have_a_plan, unweighed}
-use Rattle.owner_history.proofs.AnswerPath.SizePeople.{size_people, size_term, size_reads}
+use Rattle.owner_history.proofs.AnswerPath.SizePeople.{of_size, size_people, size_term, size_reads}
 use Rattle.owner_history.proofs.AnswerPath.Told.{planned_walks_little}
 use Rattle.owner_history.specs.Granted.{told_settlement}
 use Rattle.owner_history.specs.OwnerHouse.House.{Register, house_of, owner_at}
 use Rattle.session_core.specs.Code.{WantsTooManyWalks}
+use Rattle.session_core.specs.Speakers.{plain_speaker}
 use Rattle.session_core.specs.Meant.{Meant, meant_by, wants}
 use Rattle.session_core.specs.Turns.{Turn, turns_of}
 use Rattle.session_core.specs.Exchanges.{Exchange, told_of}
@@ -115,7 +116,7 @@ unfolding HasValue
 no_value = (size_term, size_reads, (2, ([], refl, refl)))
 
 abbrev pub a_query : Query
-a_query = record { analyst = 0; view = Whole; e = 1000000; program = size_people }
+a_query = record { analyst = 0; view = Whole; e = 1000000; program = size_people; made = None }
 
 abbrev pub an_ask : Ask
 an_ask = record { analyst = 0; view = Whole; e = 1000000; p = 1; q = 1; digest = sha256 size_people }
@@ -157,7 +158,7 @@ abbrev one_ask_script : List ℕ
 one_ask_script = codes "hello ann\nask clinic 1 size people\nbye\n"
 
 abbrev pub turn : Option ℕ → List ℕ → Turn
-turn who line = record { who = who; line = line }
+turn who line = record { who = plain_speaker who; line = line }
 
 abbrev pub quiet : Option ℕ → List ℕ → Replied → Exchange
 quiet who line reply = record { turn = turn who line; reply = reply; told = [] }
@@ -172,9 +173,9 @@ abbrev one_ask : Outcome → List Exchange
 one_ask outcome = quiet None (codes "hello ann") (greeted (codes "ann")) ∷ asked outcome ∷ quiet (Some 0) (codes "bye") ended ∷ []
 
 -- its turns, and its transcript, whatever the noise ..
-one_ask_turns : turns_of (house_of three_rows) one_ask_script ≡ turn None (codes "hello ann") ∷ turn (Some 0) ask_line ∷ turn (Some 0) (codes "bye") ∷ []
+one_ask_turns : (outcome : Outcome) → turns_of (house_of three_rows) one_ask_script (map (λ (x : Exchange). x.reply) (one_ask outcome)) ≡ turn None (codes "hello ann") ∷ turn (Some 0) ask_line ∷ turn (Some 0) (codes "bye") ∷ []
 unfolding lines_of meant_by request_of
-one_ask_turns = refl
+one_ask_turns outcome = refl
 
 pub one_owner : (register : Register) → (house_of register).owners ≡ the_owner register ∷ [] → (draws : ℕ → ℕ → ℕ → ℕ) (xs : List Exchange) (records : List Record) → LeadExactly (house_of register) draws 0 0 [] xs records
     → (o : ℕ) (owner : Owner) → slice_get (house_of register).owners o ≡ Some owner → LeadExactly (house_of register) draws o 0 [] xs (only records o)
@@ -366,34 +367,44 @@ told_stands = (refl, (refl, tt))
 told_elsewhere : StandIn (made (Answered (pos 2))) (enumerate_from 1 (made (Answered (pos 2)))) → ⊥
 told_elsewhere h = cc (h.0)
 
--- the reservation's program is asked by the turn at 1 ..
+-- the reservation's source is asked by the turn at 1 ..
 abbrev sources : (place : ℕ) → Sources
-sources place = record { programs = size_people ∷ []; places = place ∷ [] }
+sources place = record { behind = of_size ∷ []; places = place ∷ [] }
 
 abbrev three_turns : List Turn
 three_turns = turn None (codes "hello ann") ∷ turn (Some 0) ask_line ∷ turn (Some 0) (codes "bye") ∷ []
 
-asked_at : IsAskedAt (house_of three_rows) 0 (the_owner three_rows) three_turns 1 size_people
+asked_at : IsAskedAt (house_of three_rows) 0 (the_owner three_rows) three_turns 1 of_size
 unfolding meant_by request_of
 asked_at = record { turn = turn (Some 0) ask_line; query = a_query; stands = refl; written = inl (codes "clinic", 1000000, refl); comes_to = refl; asks = refl }
 
 asked_once : AreAskedBy (house_of three_rows) 0 (the_owner three_rows) three_turns (sources 1)
-asked_once = record { each_has = refl; once = λ m n below within same. absurd (omega arith); asked = λ n place program placed programmed. one n place program placed programmed }
+asked_once = record { each_has = refl; once = λ m n below within same. absurd (omega arith); asked = λ n place source placed sourced. one n place source placed sourced }
   where
-    one : (n place : ℕ) (program : List ℕ) → slice_get (1 ∷ []) n ≡ Some place → slice_get (size_people ∷ []) n ≡ Some program → IsAskedAt (house_of three_rows) 0 (the_owner three_rows) three_turns place program
-    one zero place program placed programmed =
+    one : (n place : ℕ) (source : Source) → slice_get (1 ∷ []) n ≡ Some place → slice_get (of_size ∷ []) n ≡ Some source → IsAskedAt (house_of three_rows) 0 (the_owner three_rows) three_turns place source
+    one zero place source placed sourced =
         let there : 1 ≡ place = cc (placed) in
-        let same : size_people ≡ program = cc (programmed) in
-        subst (λ (k : ℕ). IsAskedAt (house_of three_rows) 0 (the_owner three_rows) three_turns k program) there
-        (subst (λ (x : List ℕ). IsAskedAt (house_of three_rows) 0 (the_owner three_rows) three_turns 1 x) same asked_at)
-    one (suc n) place program placed programmed = absurd (cc (placed))
+        let same : of_size ≡ source = cc (sourced) in
+        subst (λ (k : ℕ). IsAskedAt (house_of three_rows) 0 (the_owner three_rows) three_turns k source) there
+        (subst (λ (x : Source). IsAskedAt (house_of three_rows) 0 (the_owner three_rows) three_turns 1 x) same asked_at)
+    one (suc n) place source placed sourced = absurd (cc (placed))
 
--- .. not by one past the end, not twice, and not with another program
-not_asked_past : IsAskedAt (house_of three_rows) 0 (the_owner three_rows) three_turns 3 size_people → ⊥
+-- .. not by one past the end, not twice, and not with a definition
+not_asked_past : IsAskedAt (house_of three_rows) 0 (the_owner three_rows) three_turns 3 of_size → ⊥
 not_asked_past h = cc (h.stands)
 
-not_asked_twice : AreAskedBy (house_of three_rows) 0 (the_owner three_rows) three_turns (record { programs = size_people ∷ size_people ∷ []; places = 1 ∷ 1 ∷ [] }) → ⊥
+not_asked_twice : AreAskedBy (house_of three_rows) 0 (the_owner three_rows) three_turns (record { behind = of_size ∷ of_size ∷ []; places = 1 ∷ 1 ∷ [] }) → ⊥
 not_asked_twice h = h.once 0 1 (omega arith) (omega arith) refl
+
+not_asked_with_a_definition : IsAskedAt (house_of three_rows) 0 (the_owner three_rows) three_turns 1 (record of_size { made = Some [] }) → ⊥
+unfolding meant_by request_of
+not_asked_with_a_definition h =
+    let there : turn (Some 0) ask_line ≡ h.turn = cc (h.stands) in
+    let comes : wants 0 (the_owner three_rows) (asks a_query) ≡ wants 0 (the_owner three_rows) (asks h.query)
+    = ap (λ (t : Turn). meant_at (house_of three_rows) t) there ∙ h.comes_to in
+    let same : a_query ≡ h.query = cc (comes) in
+    let none : None ≡ Some [] = ap (λ (q : Query). q.made) same ∙ ap (λ (s : Source). s.made) h.asks in
+    cc (none)
 
 -- the reply at the turn's place speaks of the reservation; the greeting doesn't, and a later number isn't spoken of
 placed_at : ArePlaced 0 (1 ∷ []) (one_ask (Answered (pos 2)))

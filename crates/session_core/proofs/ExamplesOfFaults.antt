@@ -26,6 +26,7 @@ use Rattle.owner_history.specs.AnswerPath.Answered.{granted_record, IsAnswered}
 use Rattle.owner_history.proofs.AnswerPath.Answering.{money_says}
 use Rattle.owner_history.specs.OwnerHouse.House.{house_of}
 use Rattle.owner_history.specs.AnswerPath.Demand.{asks, recalls, balances, spends}
+use Rattle.session_core.specs.Speakers.{no_speaker, plain_speaker}
 use Rattle.session_core.specs.Meant.{says, wants, meant_by}
 use Rattle.session_core.specs.Exchanges.{Exchange}
 use Rattle.session_core.specs.Transcript.{LeadExactly, ClosesBy, ClosesOn}
@@ -36,35 +37,35 @@ abbrev clinic : Owner
 clinic = the_owner three_rows
 
 -- Anybody may see what is spent. A recall and what is spent by oneself need a hello, and an owner that there is.
-left_by_nobody : meant_by (house_of three_rows) None (codes "left clinic") ≡ wants 0 clinic balances
+left_by_nobody : meant_by (house_of three_rows) no_speaker (codes "left clinic") ≡ wants 0 clinic balances
 unfolding meant_by request_of
 left_by_nobody = refl
 
-recalled_by_nobody : meant_by (house_of three_rows) None (codes "recall clinic 7") ≡ says (refused (by_line NoHello)) None
+recalled_by_nobody : meant_by (house_of three_rows) no_speaker (codes "recall clinic 7") ≡ says (refused (by_line NoHello)) no_speaker
 unfolding meant_by request_of
 recalled_by_nobody = refl
 
-recalled_by_bob : meant_by (house_of three_rows) (Some 1) (codes "recall clinic 7") ≡ wants 0 clinic (recalls 1 7)
+recalled_by_bob : meant_by (house_of three_rows) (plain_speaker (Some 1)) (codes "recall clinic 7") ≡ wants 0 clinic (recalls 1 7)
 unfolding meant_by request_of
 recalled_by_bob = refl
 
-unknown_first : meant_by (house_of three_rows) None (codes "recall nobody 7") ≡ says (refused (by_line (Unknown 1))) None
+unknown_first : meant_by (house_of three_rows) no_speaker (codes "recall nobody 7") ≡ says (refused (by_line (Unknown 1))) no_speaker
 unfolding meant_by request_of
 unknown_first = refl
 
-unknown_left : meant_by (house_of three_rows) (Some 1) (codes "left nobody") ≡ says (refused (by_line (Unknown 1))) (Some 1)
+unknown_left : meant_by (house_of three_rows) (plain_speaker (Some 1)) (codes "left nobody") ≡ says (refused (by_line (Unknown 1))) (plain_speaker (Some 1))
 unfolding meant_by request_of
 unknown_left = refl
 
-own_of_nobody : meant_by (house_of three_rows) None (codes "mine clinic") ≡ says (refused (by_line NoHello)) None
+own_of_nobody : meant_by (house_of three_rows) no_speaker (codes "mine clinic") ≡ says (refused (by_line NoHello)) no_speaker
 unfolding meant_by request_of
 own_of_nobody = refl
 
-own_of_bob : meant_by (house_of three_rows) (Some 1) (codes "mine clinic") ≡ wants 0 clinic (spends 1)
+own_of_bob : meant_by (house_of three_rows) (plain_speaker (Some 1)) (codes "mine clinic") ≡ wants 0 clinic (spends 1)
 unfolding meant_by request_of
 own_of_bob = refl
 
-own_of_no_owner : meant_by (house_of three_rows) None (codes "mine nobody") ≡ says (refused (by_line (Unknown 1))) None
+own_of_no_owner : meant_by (house_of three_rows) no_speaker (codes "mine nobody") ≡ says (refused (by_line (Unknown 1))) no_speaker
 unfolding meant_by request_of
 own_of_no_owner = refl
 

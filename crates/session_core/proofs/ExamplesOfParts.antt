@@ -38,6 +38,7 @@ use Rattle.owner_history.proofs.AnswerPath.Answering.{money_says}
 use Rattle.owner_history.proofs.AnswerPath.SizePeople.{size_people, size_term, size_reads}
 use Rattle.owner_history.specs.OwnerHouse.House.{Register, IsHeldBy, house_of, owner_at}
 use Rattle.owner_history.specs.AnswerPath.Demand.{asks}
+use Rattle.session_core.specs.Speakers.{Speaker, plain_speaker}
 use Rattle.session_core.specs.Meant.{says, wants, meant_by}
 use Rattle.session_core.specs.Exchanges.{Exchange}
 use Rattle.session_core.specs.Transcript.{LeadExactly, IsScriptRun}
@@ -75,7 +76,7 @@ abbrev clinic : Owner
 clinic = owner_at (house_of two_owners) 0
 
 abbrev part : (p j e : ℕ) → Query
-part p j e = record { analyst = 0; view = Part p j; e = e; program = size_people }
+part p j e = record { analyst = 0; view = Part p j; e = e; program = size_people; made = None }
 
 -- what an owner holds are the partitions that the catalog says, and no others
 not_other_partitions : IsHeldBy clinic_entry (record { tables = townsfolk ∷ []; rows = rows ∷ []; partitions = coast ∷ area ∷ [] }) → ⊥
@@ -89,21 +90,21 @@ not_without_partitions h = cc (h.partitions)
 -- ---- what the lines come to
 
 -- a partition and a key are numbered by their places
-second_key : meant_by (house_of two_owners) (Some 0) (codes "askpart clinic area B 0.000006 size people") ≡ wants 0 clinic (asks (part 0 1 6))
+second_key : meant_by (house_of two_owners) (plain_speaker (Some 0)) (codes "askpart clinic area B 0.000006 size people") ≡ wants 0 clinic (asks (part 0 1 6))
 unfolding meant_by request_of
 second_key = refl
 
-second_partition : meant_by (house_of two_owners) (Some 0) (codes "askpart clinic coast C 1 size people") ≡ wants 0 clinic (asks (part 1 0 1000000))
+second_partition : meant_by (house_of two_owners) (plain_speaker (Some 0)) (codes "askpart clinic coast C 1 size people") ≡ wants 0 clinic (asks (part 1 0 1000000))
 unfolding meant_by request_of
 second_partition = refl
 
 -- the same line without a part asks the whole
-the_whole : meant_by (house_of two_owners) (Some 0) (codes "ask clinic 1 size people") ≡ wants 0 clinic (asks (record { analyst = 0; view = Whole; e = 1000000; program = size_people }))
+the_whole : meant_by (house_of two_owners) (plain_speaker (Some 0)) (codes "ask clinic 1 size people") ≡ wants 0 clinic (asks (record { analyst = 0; view = Whole; e = 1000000; program = size_people; made = None }))
 unfolding meant_by request_of
 the_whole = refl
 
-abbrev IsRefused : (who : Option ℕ) → (line : List ℕ) → LineRefusal → Type 0
-IsRefused who line refusal = meant_by (house_of two_owners) who line ≡ says (refused (by_line refusal)) who
+abbrev IsRefused : (analyst : Option ℕ) → (line : List ℕ) → LineRefusal → Type 0
+IsRefused analyst line refusal = let who : Speaker = plain_speaker analyst in meant_by (house_of two_owners) who line ≡ says (refused (by_line refusal)) who
 
 -- The first unknown word is refused, whatever else is wrong behind it: the owner, or the partition, also one of another owner, or one that is
 -- written otherwise.
@@ -169,7 +170,7 @@ abbrev asking : (p j e : ℕ) → Ask
 asking p j e = record { analyst = 0; view = Part p j; e = e; p = 1; q = 1; digest = sha256 size_people }
 
 abbrev whole_query : Query
-whole_query = record { analyst = 0; view = Whole; e = 1; program = size_people }
+whole_query = record { analyst = 0; view = Whole; e = 1; program = size_people; made = None }
 
 -- what each is answered, where the noise of its number is this: two rows are of A, and one of B
 abbrev added_first : Option ℤ → List Record

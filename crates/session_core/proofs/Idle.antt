@@ -1,5 +1,5 @@
 -- lines that add no record
-use Rattle.std.proofs.Common.{◌≡◌, ℕ, ◌==◌, Bool, true, false, List, [], ◌∷◌, ◌++◌, slice_get, Option, Some, refl, sym, ◌∙◌, ap, subst, append-nil}
+use Rattle.std.proofs.Common.{◌≡◌, ℕ, ◌==◌, Bool, true, false, List, [], ◌∷◌, ◌++◌, slice_get, Some, refl, sym, ◌∙◌, ap, subst, append-nil}
 use Rattle.std.specs.Prelude.{MatchBool, if◌then◌else◌}
 use mathlib.Core.Logic.{◌⊎◌, inl, inr}
 use Rattle.journal_records.specs.declared.records.Record.{Record}
@@ -12,6 +12,7 @@ use Rattle.owner_history.specs.AnswerPath.Idle.{AddsNone, IsAlone, IsIdle, IsShu
 use Rattle.owner_history.specs.AnswerPath.Met.{IsMet}
 use Rattle.owner_history.specs.AnswerPath.Shut.{Shut, ShutsBy, shut_of}
 use Rattle.owner_history.proofs.AnswerPath.Idle.{add_nothing, leave_pass}
+use Rattle.session_core.specs.Speakers.{Speaker}
 use Rattle.session_core.specs.Meant.{Meant, says, wants}
 use Rattle.session_core.specs.Turns.{meant_at}
 use Rattle.session_core.specs.Exchanges.{Exchange, TurnLeads, is_of}
@@ -56,7 +57,7 @@ one_goes house draws o x before after goes = by (meant_at house x.turn) goes.own
 untouched : (pass : Pass) → LeavesBook pass pass
 untouched pass = (([], append-nil pass.seen), record { seen = refl; own = refl; faults = refl; closed = λ failure was. was })
 
-pub lines_add_nothing : (house : House) (draws : ℕ → ℕ → ℕ → ℕ) (who : Option ℕ) (line : List ℕ) (reply : Replied) (told : List Told) (before after : List Pass) (o : ℕ) (owner : Owner)
+pub lines_add_nothing : (house : House) (draws : ℕ → ℕ → ℕ → ℕ) (who : Speaker) (line : List ℕ) (reply : Replied) (told : List Told) (before after : List Pass) (o : ℕ) (owner : Owner)
     → AreServed house draws (one_line who line reply told) before after → slice_get house.owners o ≡ Some owner → IsIdle (pass_at before o) reply → LeavesBook (pass_at before o) (pass_at after o)
 lines_add_nothing house draws who line reply told before after o owner served at idle =
     here (one_goes house draws o (record { turn = record { who = who; line = line }; reply = reply; told = told }) (pass_at before o) (pass_at after o) (served.owners o owner at))
@@ -66,7 +67,7 @@ lines_add_nothing house draws who line reply told before after o owner served at
     here (inl same) = subst (λ (p : Pass). LeavesBook (pass_at before o) p) (sym same) (untouched (pass_at before o))
     here (inr m) = add_nothing m.owner (draws o) m.demand (pass_at before o) (pass_at after o) reply told m.met m.own m.shuts idle
 
-pub lines_leave_passes : (house : House) (draws : ℕ → ℕ → ℕ → ℕ) (who : Option ℕ) (line : List ℕ) (reply : Replied) (told : List Told) (before after : List Pass) (o : ℕ) (owner : Owner)
+pub lines_leave_passes : (house : House) (draws : ℕ → ℕ → ℕ → ℕ) (who : Speaker) (line : List ℕ) (reply : Replied) (told : List Told) (before after : List Pass) (o : ℕ) (owner : Owner)
     → AreServed house draws (one_line who line reply told) before after → slice_get house.owners o ≡ Some owner → IsAlone (pass_at before o) → IsAlone (pass_at after o) → AddsNone reply ⊎ IsShutOut reply
     → pass_at after o ≡ pass_at before o
 lines_leave_passes house draws who line reply told before after o owner served at was is idle =

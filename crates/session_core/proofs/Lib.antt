@@ -19,6 +19,7 @@ pub mod ExamplesOfOwners
 mod ExamplesOfFaults
 mod ExamplesOfParts
 mod ExamplesOfNames
+mod ExamplesOfTurns
 -- passed on to the crates above
 pub mod OwnerHistory
 pub use Rattle.owner_history.proofs.AnswerPath

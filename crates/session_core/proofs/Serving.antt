@@ -1,9 +1,10 @@
 -- lines that are served one after another
-use Rattle.std.proofs.Common.{◌≡◌, ℕ, ◌+◌, ◌<◌, ◌≤◌, ◌==◌, Bool, true, false, List, [], ◌∷◌, ◌++◌, length, map, set, Option, None, refl, sym, ◌∙◌, ap, subst, arith, append-nil, append_assoc, length-append}
+use Rattle.std.proofs.Common.{◌≡◌, ℕ, ◌+◌, ◌<◌, ◌≤◌, ◌==◌, Bool, true, false, List, [], ◌∷◌, ◌++◌, length, map, set, refl, sym, ◌∙◌, ap, subst, arith, append-nil, append_assoc, length-append}
 use Rattle.std.proofs.Common.{eq-eqb, eqb-true, length-set, get_or-set_same, get_or-set_other}
 use Rattle.std.specs.Prelude.{if◌then◌else◌, MatchBool}
+use Rattle.std.specs.List.{flat_map}
 use Rattle.std.proofs.lemmas.List.Sums.{sum_by-cons}
-use Rattle.std.proofs.lemmas.List.{map-append}
+use Rattle.std.proofs.lemmas.List.{length-map, map-append}
 use Rattle.std.proofs.lemmas.List.Concat.{flat_map-append}
 use Rattle.budget_ledger.specs.Account.{Account}
 use Rattle.wire_lines.specs.Reply.{Replied, reply_text}
@@ -13,12 +14,14 @@ use Rattle.owner_history.specs.OwnerDesk.Passes.{Pass, Told, first_of_run}
 use Rattle.owner_history.specs.AnswerPath.Demand.{Demand}
 use Rattle.owner_history.specs.AnswerPath.Shut.{shut_of}
 use Rattle.budget_core.specs.Ledger.{start_of}
-use Rattle.session_core.specs.Meant.{Meant, says, wants, meant_by, next_who}
-use Rattle.session_core.specs.Turns.{Turn, meant_at, session_turns}
+use Rattle.session_core.specs.Speakers.{Speaker, no_speaker}
+use Rattle.session_core.specs.Meant.{Meant, says, wants}
+use Rattle.session_core.specs.Turns.{meant_at, who_after, who_behind}
 use Rattle.session_core.specs.Exchanges.{Exchange, IsPlain, TurnLeads, Lead, is_of, told_of}
 use Rattle.session_core.specs.Served.{MeetsOnSome, AnswersOn, ShutsFor}
 use Rattle.session_core.specs.Code.{no_pass, pass_at, ArePasses, GoesOn, AreServed, HasServed, room_for_line, room_for_lines}
 use Rattle.session_core.proofs.Exchanges.{all_append, lead_append}
+use Rattle.session_core.proofs.Turning.{lines_append, of_length, turn_by, who_append}
 
 -- room for a line's reply, and for those of the lines behind it
 pub room_next : (line : List ℕ) (lines : List (List ℕ)) → room_for_lines (line ∷ lines) ≡ room_for_line (length line) + room_for_lines lines
@@ -67,7 +70,7 @@ module _ (house : House) (draws : ℕ → ℕ → ℕ → ℕ) where
   quiet_told true told is = ap (λ ts. ts ++ []) is
   quiet_told false told is = refl
 
-  pub served_plain : (x : Exchange) (reply : Replied) (next : Option ℕ) (a : List Pass) → meant_at house x.turn ≡ says reply next → x.reply ≡ reply → x.told ≡ [] → AreServed house draws (x ∷ []) a a
+  pub served_plain : (x : Exchange) (reply : Replied) (next : Speaker) (a : List Pass) → meant_at house x.turn ≡ says reply next → x.reply ≡ reply → x.told ≡ [] → AreServed house draws (x ∷ []) a a
   served_plain x reply next a is said none = record {
     each_has = refl;
     plain = (subst (λ (m : Meant). IsPlain m x) (sym is) (said, none), tt);
@@ -144,45 +147,49 @@ module _ (house : House) (draws : ℕ → ℕ → ℕ → ℕ) (x : Exchange) (d
 
 -- what is written for served lines
 module _ (house : House) (draws : ℕ → ℕ → ℕ → ℕ) where
-  pub written_append : (turns more : List Turn) (text next : List ℕ) (a b c : List Pass) → HasServed house draws turns text a b → HasServed house draws more next b c
-      → HasServed house draws (turns ++ more) (text ++ next) a c
-  written_append turns more text next a b c f g = record {
-    exchanges = f.exchanges ++ g.exchanges;
-    turns_are = map-append (λ (x : Exchange). x.turn) f.exchanges g.exchanges ∙ cc (f.turns_are, g.turns_are);
-    written = cc (f.written, g.written, flat_map-append reply_text (map (λ (x : Exchange). x.reply) f.exchanges) (map (λ (x : Exchange). x.reply) g.exchanges), map-append (λ (x : Exchange). x.reply) f.exchanges g.exchanges);
-    served = served_append house draws f.exchanges g.exchanges a b c f.served g.served;
-  }
-
   pub written_none : (a : List Pass) → HasServed house draws [] [] a a
   written_none a = record { exchanges = []; turns_are = refl; written = refl; served = none_served house draws a }
 
-  pub written_one : (x : Exchange) (a b : List Pass) → AreServed house draws (x ∷ []) a b → HasServed house draws (x.turn ∷ []) (reply_text x.reply) a b
-  written_one x a b served = record { exchanges = x ∷ []; turns_are = refl; written = sym (append-nil (reply_text x.reply)); served = served }
-
 -- a block that is answered but for the lines that are left of it, and fits its room
-pub record IsUpTo (house : House) (draws : ℕ → ℕ → ℕ → ℕ) (block left : List (List ℕ)) (who : Option ℕ) (text : List ℕ) (before now : List Pass) : Type 0 where
-  pub done : List Turn
-  pub turns : done ++ session_turns house who left ≡ session_turns house None block
+pub record IsUpTo (house : House) (draws : ℕ → ℕ → ℕ → ℕ) (block left : List (List ℕ)) (who : Speaker) (text : List ℕ) (before now : List Pass) : Type 0 where
+  pub done : List (List ℕ)
+  pub all : done ++ left ≡ block
   pub fits : length text + room_for_lines left ≤ room_for_lines block
   pub served : HasServed house draws done text before now
+  pub speaks : who ≡ who_after house no_speaker done (map (λ (x : Exchange). x.reply) served.exchanges)
 
 module _ (house : House) (draws : ℕ → ℕ → ℕ → ℕ) (block : List (List ℕ)) (before : List Pass) where
-  pub up_to_first : IsUpTo house draws block block None [] before before
-  up_to_first = record { done = []; turns = refl; fits = omega arith; served = written_none house draws before }
+  pub up_to_first : IsUpTo house draws block block no_speaker [] before before
+  up_to_first = record { done = []; all = refl; fits = omega arith; served = written_none house draws before; speaks = refl }
 
-  pub up_to_next : (who next : Option ℕ) (line : List ℕ) (rest : List (List ℕ)) (text : List ℕ) (now after : List Pass) (x : Exchange) → x.turn ≡ record { who = who; line = line }
-      → IsUpTo house draws block (line ∷ rest) who text before now → AreServed house draws (x ∷ []) now after → length (reply_text x.reply) ≤ room_for_line (length line)
-      → session_turns house next rest ≡ session_turns house (next_who who (meant_by house who line)) rest → IsUpTo house draws block rest next (text ++ reply_text x.reply) before after
-  up_to_next who next line rest text now after x turn up served short behind = record {
-    done = up.done ++ x.turn ∷ [];
-    turns = append_assoc up.done (x.turn ∷ []) (session_turns house next rest) ∙ ap (λ ts. up.done ++ ts) (cc (turn, behind)) ∙ up.turns;
-    fits = omega (arith, up.fits, room_next line rest, length-append text (reply_text x.reply), short);
-    served = written_append house draws up.done (x.turn ∷ []) text (reply_text x.reply) before now after up.served (written_one house draws x now after served);
-  }
+  pub up_to_next : (next : Speaker) (rest : List (List ℕ)) (text : List ℕ) (now after : List Pass) (x : Exchange)
+      → IsUpTo house draws block (x.turn.line ∷ rest) x.turn.who text before now → AreServed house draws (x ∷ []) now after → length (reply_text x.reply) ≤ room_for_line (length x.turn.line)
+      → next ≡ who_behind house x.turn.who x.turn.line x.reply → IsUpTo house draws block rest next (text ++ reply_text x.reply) before after
+  up_to_next next rest text now after x up served short behind =
+      let replies : List Replied = map (λ (y : Exchange). y.reply) up.served.exchanges in
+      let long : length replies ≡ length up.done = length-map up.served.exchanges (λ (y : Exchange). y.reply) ∙ of_length house no_speaker up.done up.served.exchanges up.served.turns_are in
+      record {
+        done = up.done ++ x.turn.line ∷ [];
+        all = append_assoc up.done (x.turn.line ∷ []) rest ∙ up.all;
+        fits = omega (arith, up.fits, room_next x.turn.line rest, length-append text (reply_text x.reply), short);
+        served = record {
+          exchanges = up.served.exchanges ++ x ∷ [];
+          turns_are = lines_append house no_speaker up.done (x.turn.line ∷ []) up.served.exchanges (x ∷ []) up.served.turns_are
+              (ap (λ (w : Speaker). turn_by w x.turn.line ∷ []) up.speaks);
+          written = ap (λ (t : List ℕ). t ++ reply_text x.reply) up.served.written
+              ∙ ap (λ (t : List ℕ). flat_map reply_text replies ++ t) (sym (append-nil (reply_text x.reply)))
+              ∙ sym (flat_map-append reply_text replies (x.reply ∷ []))
+              ∙ ap (flat_map reply_text) (sym (map-append (λ (y : Exchange). y.reply) up.served.exchanges (x ∷ [])));
+          served = served_append house draws up.served.exchanges (x ∷ []) before now after up.served.served served;
+        };
+        speaks = behind ∙ ap (λ (w : Speaker). who_behind house w x.turn.line x.reply) up.speaks
+            ∙ sym (who_append house no_speaker up.done (x.turn.line ∷ []) replies (x.reply ∷ []) long)
+            ∙ ap (who_after house no_speaker (up.done ++ x.turn.line ∷ [])) (sym (map-append (λ (y : Exchange). y.reply) up.served.exchanges (x ∷ [])));
+      }
 
-  pub up_to_all : (who : Option ℕ) (text : List ℕ) (now : List Pass) → IsUpTo house draws block [] who text before now
-      → (length text ≤ room_for_lines block) × HasServed house draws (session_turns house None block) text before now
+  pub up_to_all : (who : Speaker) (text : List ℕ) (now : List Pass) → IsUpTo house draws block [] who text before now
+      → (length text ≤ room_for_lines block) × HasServed house draws block text before now
   up_to_all who text now up = (
     omega (arith, up.fits),
-    subst (λ (ts : List Turn). HasServed house draws ts text before now) (sym (append-nil up.done) ∙ up.turns) up.served,
+    subst (λ (ls : List (List ℕ)). HasServed house draws ls text before now) (sym (append-nil up.done) ∙ up.all) up.served,
   )

@@ -10,6 +10,7 @@ use Rattle.wire_lines.specs.declared.refusal.LineRefusal.{LineRefusal}
 use Rattle.wire_lines.specs.declared.refusal.LineRefusal.TheVariants.{Malformed, TooLong, Unknown, NoEpsilon, NoHello}
 use Rattle.wire_lines.proofs.Requests.{grammar_from}
 use Rattle.owner_history.specs.OwnerHouse.House.{House}
+use Rattle.session_core.specs.Speakers.{Speaker}
 use Rattle.session_core.specs.Meant.{meant_by, meant_by_request}
 use Rattle.session_core.specs.Code.{short_reply_limit}
 
@@ -80,6 +81,6 @@ mine_long line owner reads few =
     omega (arith, ap length written.1 ∙ length-append (codes "mine ") owner, written.0.0)
 
 -- what a line comes to, by how it is read
-pub meant_of : (house : House) (who : Option ℕ) (line : List ℕ) (request : Result Asked LineRefusal) → request_of line ≡ request → meant_by_request house who request ≡ meant_by house who line
+pub meant_of : (house : House) (who : Speaker) (line : List ℕ) (request : Result Asked LineRefusal) → request_of line ≡ request → meant_by_request house who request ≡ meant_by house who line
 unfolding meant_by
 meant_of house who line request is = ap (meant_by_request house who) (sym is)

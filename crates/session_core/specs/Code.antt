@@ -1,6 +1,6 @@
 -- What the code's values mean.
 use Rattle.std.specs.Prelude.{◌≡◌, ℕ, ◌<◌, ◌≤◌, nat_lt, List, [], ◌∷◌, length, ◌++◌, Option, Some, None, Result, ⊤, Bool, true, false}
-use Rattle.std.specs.Prelude.{if◌then◌else◌, get_or, map, slice_get, sum_by}
+use Rattle.std.specs.Prelude.{IfSome, if◌then◌else◌, get_or, map, slice_get, sum_by}
 use Rattle.std.specs.List.{flat_map}
 use Rattle.std.specs.Result.{result_map_both}
 use mathlib.Core.List.{IsPrefix}
@@ -17,14 +17,16 @@ use Rattle.owner_history.specs.OwnerDesk.Passes.{Pass, Told, first_of_run, recor
 use Rattle.owner_history.specs.AnswerPath.Shut.{shut_of}
 use Rattle.owner_history.specs.AnswerPath.Code.{AsksTooManyWalks, demand_of, IsDemandOf, HasPartFor}
 use Rattle.owner_history.specs.OwnerHouse.House.{House, owner_at, no_entry}
-use Rattle.session_core.specs.Meant.{Meant, Subject, says, wants, meant_by, next_who}
-use Rattle.session_core.specs.Turns.{Turn, session_turns, blocks_of, is_bye}
-use Rattle.session_core.specs.Exchanges.{Exchange, ArePlain, told_of}
+use Rattle.session_core.specs.Speakers.{Speaker, no_speaker}
+use Rattle.session_core.specs.Meant.{Meant, Subject, says, wants}
+use Rattle.session_core.specs.Exchanges.{Exchange, AreOfLines, ArePlain, told_of}
 use Rattle.session_core.specs.Served.{AnswersOn, ShutsOn}
 use Rattle.session_core.specs.Transcript.{Journals}
 use Rattle.session_core.specs.declared.line.Subject.{Subject as SubjectAt}
 use Rattle.session_core.specs.declared.line.LineMeaning.{LineMeaning}
 use Rattle.session_core.specs.declared.line.LineMeaning.TheVariants.{Says, Wants}
+use Rattle.session_core.specs.declared.speaker.Next.{Next}
+use Rattle.session_core.specs.declared.speaker.Next.TheVariants.{Same, Analyst, Nobody}
 
 -- what a query is to look at, in a house
 abbrev pub subject_of : House → SubjectAt → Subject
@@ -40,19 +42,29 @@ IsSubjectIn house subject =
 abbrev pub found_in : House → Result SubjectAt LineRefusal → Result Subject LineRefusal
 found_in house found = result_map_both (subject_of house) (λ refusal. refusal) found
 
--- what a line comes to, in a house
-abbrev pub meaning_of : House → LineMeaning → Meant
-meaning_of house (Says reply who) = says (replied reply) who
-meaning_of house (Wants owner demand) = wants owner (owner_at house owner) (demand_of demand)
+-- who speaks next
+abbrev pub speaker_next : Speaker → Next → Speaker
+speaker_next who Same = who
+speaker_next who (Analyst analyst) = record who { analyst = Some analyst }
+speaker_next who Nobody = no_speaker
 
--- who speaks is an analyst of the house
-abbrev pub IsAnalyst : House → Option ℕ → Type 0
-IsAnalyst house None = ⊤
-IsAnalyst house (Some analyst) = analyst < length house.analysts
+-- what a line comes to, in a house, where this one speaks
+abbrev pub meaning_of : House → Speaker → LineMeaning → Meant
+meaning_of house who (Says reply next) = says (replied reply) (speaker_next who next)
+meaning_of house who (Wants owner demand) = wants owner (owner_at house owner) (demand_of demand)
+
+-- who speaks is an analyst of the house, or hasn't said who it is
+abbrev pub IsAnalyst : House → Speaker → Type 0
+IsAnalyst house who = IfSome who.analyst (λ analyst. analyst < length house.analysts)
+
+-- .. and so is who speaks next
+abbrev pub IsNextIn : House → Next → Type 0
+IsNextIn house (Analyst analyst) = analyst < length house.analysts
+IsNextIn house next = ⊤
 
 -- A demand is of one of the house's owners: a query is of that owner's entry, and its view one of that owner's.
 abbrev pub IsMeaningIn : House → LineMeaning → Type 0
-IsMeaningIn house (Says reply who) = IsAnalyst house who
+IsMeaningIn house (Says reply next) = IsNextIn house next
 IsMeaningIn house (Wants owner demand) =
     (owner < length house.owners) × IsDemandOf (owner_at house owner).entry (demand_of demand)
     × HasPartFor (owner_at house owner).partitions (demand_of demand)
@@ -73,27 +85,15 @@ short_reply_limit = 8
 
 -- as short a reply as any line may have, and no demand
 abbrev pub IsShort : LineMeaning → Type 0
-IsShort (Says reply who) = length (reply_text (replied reply)) ≤ short_reply_limit
+IsShort (Says reply next) = length (reply_text (replied reply)) ≤ short_reply_limit
 IsShort (Wants owner demand) = ⊥
-
--- the turns that are left in a script, where this analyst speaks at the first
-abbrev pub turns_behind : House → Option ℕ → List (List (List ℕ)) → List Turn
-turns_behind house who [] = []
-turns_behind house who (block ∷ blocks) = session_turns house who block ++ flat_map (session_turns house None) blocks
-
-abbrev pub turns_left : House → Option ℕ → List (List ℕ) → List Turn
-turns_left house who lines = turns_behind house who (blocks_of lines)
-
--- who speaks after a line: nobody behind the end of a block
-abbrev pub who_behind : House → Option ℕ → List ℕ → Option ℕ
-who_behind house who line = if is_bye line then None else next_who who (meant_by house who line)
 
 abbrev pub is_ended : Replied → Bool
 is_ended ended = true
 is_ended reply = false
 
--- the exchange of one line, where this analyst speaks
-abbrev pub one_line : (who : Option ℕ) → (line : List ℕ) → Replied → List Told → List Exchange
+-- the exchange of one line, where this one speaks
+abbrev pub one_line : (who : Speaker) → (line : List ℕ) → Replied → List Told → List Exchange
 one_line who line reply told = record { turn = record { who = who; line = line }; reply = reply; told = told } ∷ []
 
 abbrev no_header : Header
@@ -152,10 +152,10 @@ abbrev pub AreFresh : House → List Pass → Type 0
 AreFresh house passes = (o : ℕ) (owner : Owner) → slice_get house.owners o ≡ Some owner
     → pass_at passes o ≡ fresh_pass (pass_at passes o).opened
 
--- The text is the replies to these turns, which were served.
-pub record HasServed (house : House) (draws : ℕ → ℕ → ℕ → ℕ) (turns : List Turn) (text : List ℕ) (before after : List Pass) : Type 0 where
+-- The text is the replies to these lines of a session, which were served.
+pub record HasServed (house : House) (draws : ℕ → ℕ → ℕ → ℕ) (lines : List (List ℕ)) (text : List ℕ) (before after : List Pass) : Type 0 where
   pub exchanges : List Exchange
-  pub turns_are : map (λ x. x.turn) exchanges ≡ turns
+  pub turns_are : AreOfLines house no_speaker lines exchanges
   pub written : text ≡ flat_map reply_text (map (λ x. x.reply) exchanges)
   pub served : AreServed house draws exchanges before after
 

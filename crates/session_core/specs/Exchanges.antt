@@ -1,19 +1,28 @@
 -- Lines and their replies, as far as they concern one owner.
-use Rattle.std.specs.Prelude.{◌≡◌, ℕ, ◌==◌, Bool, false, List, [], ◌∷◌, ⊤, MatchBool, if◌then◌else◌}
+use Rattle.std.specs.Prelude.{◌≡◌, ℕ, ◌==◌, Bool, false, List, [], ◌∷◌, map, ⊤, MatchBool, if◌then◌else◌}
 use Rattle.std.specs.List.{AllByRecursion, flat_map}
 use Rattle.wire_lines.specs.Reply.{Replied}
 use Rattle.owner_history.specs.OwnerHouse.Owner.{Owner}
 use Rattle.owner_history.specs.OwnerDesk.Passes.{Told}
 use Rattle.owner_history.specs.AnswerPath.Demand.{Demand}
 use Rattle.owner_history.specs.OwnerHouse.House.{House}
+use Rattle.session_core.specs.Speakers.{Speaker}
 use Rattle.session_core.specs.Meant.{Meant, says, wants}
-use Rattle.session_core.specs.Turns.{Turn, meant_at}
+use Rattle.session_core.specs.Turns.{Turn, meant_at, turns_from, turns_of}
 
 -- A turn, its reply, and the records that it added to those of the owner that it asks, with their places.
 pub record Exchange : Type 0 where
   pub turn : Turn
   pub reply : Replied
   pub told : List Told
+
+-- These exchanges are of these lines, in order, from this speaker on.
+abbrev pub AreOfLines : House → Speaker → (lines : List (List ℕ)) → List Exchange → Type 0
+AreOfLines house who lines xs = map (λ x. x.turn) xs ≡ turns_from house who lines (map (λ x. x.reply) xs)
+
+-- These exchanges are of the script's lines, in order.
+abbrev pub AreOfScript : House → (script : List ℕ) → List Exchange → Type 0
+AreOfScript house script xs = map (λ x. x.turn) xs ≡ turns_of house script (map (λ x. x.reply) xs)
 
 -- what a turn that asks no owner is told
 abbrev pub IsPlain : Meant → Exchange → Type 0

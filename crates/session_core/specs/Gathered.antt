@@ -1,5 +1,5 @@
 -- What several workers make of a script's lines and of one owner's records, in whatever order their lines came.
-use Rattle.std.specs.Prelude.{◌≡◌, ℕ, zero, suc, ◌+◌, ◌<◌, ◌==◌, if◌then◌else◌, List, [], ◌∷◌, length, map, sum_by, slice_get, Option, Some}
+use Rattle.std.specs.Prelude.{◌≡◌, ℕ, zero, suc, ◌+◌, ◌<◌, ◌==◌, if◌then◌else◌, List, [], ◌∷◌, length, sum_by, slice_get, Option, Some}
 use mathlib.Core.List.{IsPrefix}
 use Rattle.journal_records.specs.declared.records.Record.{Record}
 use Rattle.budget_ledger.specs.declared.failure.Failure.{Failure}
@@ -7,8 +7,7 @@ use Rattle.owner_history.specs.OwnerHouse.Owner.{Owner}
 use Rattle.owner_history.specs.OwnerHouse.House.{House}
 use Rattle.owner_history.specs.OwnerDesk.Passes.{Told, told_behind, closing}
 use Rattle.owner_history.specs.AnswerPath.Shut.{Shut, unshut}
-use Rattle.session_core.specs.Turns.{turns_of}
-use Rattle.session_core.specs.Exchanges.{Exchange, ArePlain, told_of}
+use Rattle.session_core.specs.Exchanges.{Exchange, AreOfScript, ArePlain, told_of}
 use Rattle.session_core.specs.Served.{AnswersOn, ShutsOn}
 use Rattle.session_core.specs.Transcript.{Journals, first_new}
 
@@ -64,10 +63,6 @@ pub record AreShut (house : House) (draws : ℕ → ℕ → ℕ → ℕ) (count 
   pub ends : ℕ → Shut
   pub workers : (i : ℕ) → i < count → ShutsOn house draws o unshut (part_of crew i 0 xs) (ends i) × StillShut (ends i).failure closed
   pub counted : added_below (λ i. length (ends i).own) count ≡ length (closing closed)
-
--- These exchanges are of the script's turns, in order.
-abbrev pub AreOfScript : House → (script : List ℕ) → List Exchange → Type 0
-AreOfScript house script xs = map (λ x. x.turn) xs ≡ turns_of house script
 
 -- A script's exchanges and each owner's records, where workers answered it, each at its own places.
 pub record IsGatheredScript (house : House) (draws : ℕ → ℕ → ℕ → ℕ) (count : ℕ) (crew : ℕ → ℕ) (found : Journals) (script : List ℕ)

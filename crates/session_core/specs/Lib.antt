@@ -1,3 +1,4 @@
+pub mod Speakers
 pub mod Meant
 pub mod Turns
 pub mod Exchanges

@@ -10,16 +10,23 @@ use Rattle.wire_lines.specs.declared.refusal.LineRefusal.TheVariants.{Unknown, N
 use Rattle.owner_history.specs.OwnerHouse.Owner.{Owner}
 use Rattle.owner_history.specs.AnswerPath.Demand.{Demand, asks, recalls, balances, spends}
 use Rattle.owner_history.specs.OwnerHouse.House.{House, analyst_named, owner_named, partition_named, partition_at, key_named}
+use Rattle.session_core.specs.Speakers.{Speaker, no_speaker}
 
 -- What a line comes to by itself, by the house's names and by who speaks: a reply and who speaks then, or a demand of an
 -- owner. Refusals are looked for in the order of their codes.
 pub data Meant : Type 0 where
-  says : Replied → Option ℕ → Meant
+  says : Replied → Speaker → Meant
   wants : ℕ → Owner → Demand → Meant
 
-abbrev pub meant_by_hello : House → Option ℕ → List ℕ → Option ℕ → Meant
+-- A later hello replaces the analyst, and what the session made stays.
+abbrev pub meant_by_hello : House → Speaker → List ℕ → Option ℕ → Meant
 meant_by_hello house who name None = says (refused (by_line (Unknown 1))) who
-meant_by_hello house who name (Some analyst) = says (greeted name) (Some analyst)
+meant_by_hello house who name (Some analyst) = says (greeted name) (record who { analyst = Some analyst })
+
+-- What only an analyst may ask: a hello comes first.
+abbrev pub by_analyst : Speaker → Option ℕ → (ℕ → Meant) → Meant
+by_analyst who None asked = says (refused (by_line NoHello)) who
+by_analyst who (Some analyst) asked = asked analyst
 
 -- what a query is to look at: an owner, by its number, and the whole of its data or a part
 pub record Subject : Type 0 where
@@ -43,32 +50,29 @@ part_named house name partition key = do
   Ok (record { number = found.0; owner = found.1; view = Part p j })
 
 -- The names come before the epsilon, and the epsilon before the analyst.
-abbrev pub meant_by_ask : Option ℕ → Result Subject LineRefusal → Option ℕ → List ℕ → Meant
+abbrev pub meant_by_ask : Speaker → Result Subject LineRefusal → Option ℕ → List ℕ → Meant
 meant_by_ask who (Err refusal) epsilon program = says (refused (by_line refusal)) who
 meant_by_ask who (Ok subject) None program = says (refused (by_line NoEpsilon)) who
-meant_by_ask None (Ok subject) (Some e) program = says (refused (by_line NoHello)) None
-meant_by_ask (Some analyst) (Ok subject) (Some e) program =
-    wants subject.number subject.owner
-    (asks (record { analyst = analyst; view = subject.view; e = e; program = program }))
+meant_by_ask who (Ok subject) (Some e) program = by_analyst who who.analyst
+    (λ analyst. wants subject.number subject.owner (asks (record { analyst = analyst; view = subject.view; e = e; program = program; made = None })))
 
--- An analyst recalls its own numbers, so a hello comes first.
-abbrev pub meant_by_recall : Option ℕ → Option (ℕ × Owner) → ℕ → Meant
+-- An analyst recalls its own numbers.
+abbrev pub meant_by_recall : Speaker → Option (ℕ × Owner) → ℕ → Meant
 meant_by_recall who None number = says (refused (by_line (Unknown 1))) who
-meant_by_recall None (Some found) number = says (refused (by_line NoHello)) None
-meant_by_recall (Some analyst) (Some found) number = wants found.0 found.1 (recalls analyst number)
+meant_by_recall who (Some found) number = by_analyst who who.analyst (λ analyst. wants found.0 found.1 (recalls analyst number))
 
 -- Anybody may see what is spent.
-abbrev pub meant_by_left : Option ℕ → Option (ℕ × Owner) → Meant
+abbrev pub meant_by_left : Speaker → Option (ℕ × Owner) → Meant
 meant_by_left who None = says (refused (by_line (Unknown 1))) who
 meant_by_left who (Some found) = wants found.0 found.1 balances
 
 -- What is spent by oneself is told to who said hello.
-abbrev pub meant_by_mine : Option ℕ → Option (ℕ × Owner) → Meant
+abbrev pub meant_by_mine : Speaker → Option (ℕ × Owner) → Meant
 meant_by_mine who None = says (refused (by_line (Unknown 1))) who
-meant_by_mine None (Some found) = says (refused (by_line NoHello)) None
-meant_by_mine (Some analyst) (Some found) = wants found.0 found.1 (spends analyst)
+meant_by_mine who (Some found) = by_analyst who who.analyst (λ analyst. wants found.0 found.1 (spends analyst))
 
-abbrev pub meant_by_request : House → Option ℕ → Result Asked LineRefusal → Meant
+-- Behind a `bye` nobody speaks.
+abbrev pub meant_by_request : House → Speaker → Result Asked LineRefusal → Meant
 meant_by_request house who (Err refusal) = says (refused (by_line refusal)) who
 meant_by_request house who (Ok (hello name)) = meant_by_hello house who name (analyst_named house name)
 meant_by_request house who (Ok (ask name epsilon program)) = meant_by_ask who (whole_named house name) epsilon program
@@ -77,12 +81,12 @@ meant_by_request house who (Ok (askpart name partition key epsilon program)) =
 meant_by_request house who (Ok (recall name number)) = meant_by_recall who (owner_named house name) number
 meant_by_request house who (Ok (left name)) = meant_by_left who (owner_named house name)
 meant_by_request house who (Ok (mine name)) = meant_by_mine who (owner_named house name)
-meant_by_request house who (Ok bye) = says ended who
+meant_by_request house who (Ok bye) = says ended no_speaker
 
-unfoldable pub meant_by : House → Option ℕ → List ℕ → Meant
+unfoldable pub meant_by : House → Speaker → List ℕ → Meant
 meant_by house who line = meant_by_request house who (request_of line)
 
--- who speaks after a line
-abbrev pub next_who : Option ℕ → Meant → Option ℕ
-next_who who (says reply next) = next
-next_who who (wants n owner demand) = who
+-- who speaks after a line that has this reply
+abbrev pub next_who : Speaker → Meant → Replied → Speaker
+next_who who (says said next) reply = next
+next_who who (wants n owner demand) reply = who

@@ -11,7 +11,7 @@ use Rattle.wire_lines.specs.Refusal.{by_disk}
 use Rattle.wire_lines.specs.declared.refusal.DiskRefusal.{DiskRefusal}
 use Rattle.wire_lines.specs.Request.{ask, askpart, request_of}
 use Rattle.owner_history.specs.OwnerHouse.Owner.{Owner}
-use Rattle.owner_history.specs.AnswerPath.Query.{Query}
+use Rattle.owner_history.specs.AnswerPath.Query.{Query, Source, source_of}
 use Rattle.owner_history.specs.OwnerDesk.Passes.{Told}
 use Rattle.owner_history.specs.AnswerPath.Demand.{Demand, asks, recalls, balances, spends}
 use Rattle.owner_history.specs.AnswerPath.Met.{IsMet}
@@ -45,23 +45,23 @@ abbrev pub StandIn : List Record → List Told → Type 0
 StandIn records told = AllByRecursion (λ z. slice_get records z.0 ≡ Some z.1) told
 
 -- The records bear out the reply to a demand. (What a balance says is said by the records that it is made on.)
-abbrev pub IsBorneOutTo : (programs : List (List ℕ)) → List Record → Demand → Replied → Type 0
-IsBorneOutTo programs records (asks query) reply = IsBorneOut programs records query reply
-IsBorneOutTo programs records (recalls analyst number) reply = IsRecallBorneOut records analyst reply
-IsBorneOutTo programs records balances reply = ⊤
-IsBorneOutTo programs records (spends analyst) reply = ⊤
+abbrev pub IsBorneOutTo : (sources : List Source) → List Record → Demand → Replied → Type 0
+IsBorneOutTo sources records (asks query) reply = IsBorneOut sources records query reply
+IsBorneOutTo sources records (recalls analyst number) reply = IsRecallBorneOut records analyst reply
+IsBorneOutTo sources records balances reply = ⊤
+IsBorneOutTo sources records (spends analyst) reply = ⊤
 
 -- where the turn asks this owner: what it added stands in the owner's records, which bear out what its reply says
-abbrev pub IsHeldTo : (o : ℕ) → (programs : List (List ℕ)) → List Record → Meant → Exchange → Type 0
-IsHeldTo o programs records meant x = (owner : Owner) (demand : Demand) → meant ≡ wants o owner demand
-    → StandIn records x.told × IsBorneOutTo programs records demand x.reply
+abbrev pub IsHeldTo : (o : ℕ) → (sources : List Source) → List Record → Meant → Exchange → Type 0
+IsHeldTo o sources records meant x = (owner : Owner) (demand : Demand) → meant ≡ wants o owner demand
+    → StandIn records x.told × IsBorneOutTo sources records demand x.reply
 
-abbrev pub AreHeldTo : House → (o : ℕ) → (programs : List (List ℕ)) → List Record → List Exchange → Type 0
-AreHeldTo house o programs records xs = AllByRecursion (λ x. IsHeldTo o programs records (meant_at house x.turn) x) xs
+abbrev pub AreHeldTo : House → (o : ℕ) → (sources : List Source) → List Record → List Exchange → Type 0
+AreHeldTo house o sources records xs = AllByRecursion (λ x. IsHeldTo o sources records (meant_at house x.turn) x) xs
 
--- The programs that turns of a script asked of an owner, one for each new reservation in order, and the places of the turns.
+-- The sources of what turns of a script asked of an owner, one for each new reservation in order, and the places of the turns.
 pub record Sources : Type 0 where
-  pub programs : List (List ℕ)
+  pub behind : List Source
   pub places : List ℕ
 
 -- the line asks for this program, of the whole of an owner's data or of a part
@@ -70,22 +70,22 @@ IsAskFor line program =
     ((owner : List ℕ) × (e : ℕ) × (request_of line ≡ Ok (ask owner (Some e) program)))
     ⊎ ((owner partition key : List ℕ) × (e : ℕ) × (request_of line ≡ Ok (askpart owner partition key (Some e) program)))
 
--- The line of the turn at a place asks for this program, and by who speaks it comes to a query of the owner of this
--- number with that program: it isn't refused for its names, its epsilon or want of a `hello`.
-pub record IsAskedAt (house : House) (o : ℕ) (owner : Owner) (turns : List Turn) (place : ℕ) (program : List ℕ) : Type 0 where
+-- The line of the turn at a place asks for this source's program, and by who speaks it comes to a query of the owner of this
+-- number with that source: it isn't refused for its names, its epsilon or want of a `hello`.
+pub record IsAskedAt (house : House) (o : ℕ) (owner : Owner) (turns : List Turn) (place : ℕ) (source : Source) : Type 0 where
   pub turn : Turn
   pub query : Query
   pub stands : slice_get turns place ≡ Some turn
-  pub written : IsAskFor turn.line program
+  pub written : IsAskFor turn.line source.program
   pub comes_to : meant_at house turn ≡ wants o owner (asks query)
-  pub asks : query.program ≡ program
+  pub asks : source_of query ≡ source
 
--- Each program is that of a turn that asks it of the owner, each turn at most once.
+-- Each source is that of a turn that asks it of the owner, each turn at most once.
 pub record AreAskedBy (house : House) (o : ℕ) (owner : Owner) (turns : List Turn) (sources : Sources) : Type 0 where
-  pub each_has : length sources.places ≡ length sources.programs
+  pub each_has : length sources.places ≡ length sources.behind
   pub once : (m n : ℕ) → m < n → n < length sources.places → slice_get sources.places m ≢ slice_get sources.places n
-  pub asked : (n place : ℕ) (program : List ℕ) → slice_get sources.places n ≡ Some place → slice_get sources.programs n ≡ Some program
-      → IsAskedAt house o owner turns place program
+  pub asked : (n place : ℕ) (source : Source) → slice_get sources.places n ≡ Some place → slice_get sources.behind n ≡ Some source
+      → IsAskedAt house o owner turns place source
 
 -- the reply speaks of the reservation of this number, and of how it was settled
 abbrev pub SpeaksOf : ℕ → Exchange → Type 0

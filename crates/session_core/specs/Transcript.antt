@@ -10,8 +10,7 @@ use Rattle.owner_history.specs.AnswerPath.Demand.{Demand, asks, recalls, balance
 use Rattle.owner_history.specs.AnswerPath.Closing.{Closes}
 use Rattle.owner_history.specs.AnswerPath.Met.{IsMetExactly}
 use Rattle.owner_history.specs.OwnerHouse.House.{House}
-use Rattle.session_core.specs.Turns.{turns_of}
-use Rattle.session_core.specs.Exchanges.{Exchange, ArePlain, Lead}
+use Rattle.session_core.specs.Exchanges.{Exchange, AreOfScript, ArePlain, Lead}
 
 -- A demand is met on just the records that were known: what it adds stands right behind them.
 abbrev pub MeetsExactly : (ℕ → ℕ → ℕ) → (start : ℕ) → Owner → Demand → (seen : List Record) → Exchange → (after : List Record) → Type 0
@@ -47,7 +46,7 @@ first_new found = length (reservations_of found)
 pub record IsScriptRun (house : House) (draws : ℕ → ℕ → ℕ → ℕ) (found : Journals) (script : List ℕ)
     (replies : List Replied) (last : Journals) : Type 0 where
   pub exchanges : List Exchange
-  pub turns : map (λ x. x.turn) exchanges ≡ turns_of house script
+  pub turns : AreOfScript house script exchanges
   pub replied : map (λ x. x.reply) exchanges ≡ replies
   pub plain : ArePlain house exchanges
   pub owners : (o : ℕ) (owner : Owner) → slice_get house.owners o ≡ Some owner

@@ -8,8 +8,8 @@ use Rattle.wire_lines.specs.Reply.{reply_text}
 use Rattle.owner_history.specs.OwnerHouse.Owner.{Owner}
 use Rattle.owner_history.specs.OwnerHouse.House.{House}
 use Rattle.owner_history.specs.OwnerDesk.Passes.{Pass, Told}
-use Rattle.session_core.specs.Exchanges.{Exchange, ArePlain}
-use Rattle.session_core.specs.Gathered.{AreOfScript, StillShut, added_below, part_of}
+use Rattle.session_core.specs.Exchanges.{Exchange, AreOfScript, ArePlain}
+use Rattle.session_core.specs.Gathered.{StillShut, added_below, part_of}
 use Rattle.session_core.specs.Blocks.{crew_of, script_blocks}
 use Rattle.session_core.specs.Bundles.{handed_on}
 use Rattle.session_core.specs.Code.{GoesOn, pass_at}

@@ -7,6 +7,7 @@ pub mod line;
 pub mod passes;
 pub mod script;
 pub mod server;
+pub mod speaker;
 
 // The crates above hold an owner's desk and the last program by these, and admit programs.
 pub use owner_history::{

@@ -3,9 +3,11 @@
 ghost use Rattle.std.specs.Prelude.{◌≡◌, IfSome, IfOk, Some, ◌<◌, length};
 ghost use Rattle.budget_core.specs.Entries.{IsEpsilon};
 ghost use Rattle.owner_history.specs.OwnerHouse.House.{house_of, analyst_named, owner_named};
+ghost use Rattle.session_core.specs.Speakers.{Speaker as Seen};
 ghost use Rattle.session_core.specs.Meant.{meant_by, meant_by_ask, meant_by_hello, meant_by_left, meant_by_mine, meant_by_recall, part_named, whole_named};
 ghost use Rattle.session_core.specs.Code.{found_in, meaning_of, IsAnalyst, IsMeaningIn, IsShort, IsSubjectIn};
 
+use crate::speaker::{Next, Speaker};
 use owner_history::{Demand, House, Query};
 use partition_charge::view::View;
 use wire_lines::{LineRefusal, Name, Refusal, Reply, Request, read_request};
@@ -14,7 +16,7 @@ use wire_lines::{LineRefusal, Name, Refusal, Reply, Request, read_request};
 #[derive(Clone, Copy)]
 pub enum LineMeaning<'a> {
     /// A reply, and who speaks then.
-    Says { reply: Reply<'a>, who: Option<u16> },
+    Says { reply: Reply<'a>, next: Next },
     /// A demand of this owner.
     Wants { owner: u32, demand: Demand<'a> },
 }
@@ -26,15 +28,15 @@ struct Subject {
     view: View,
 }
 
-/// What a line comes to, where this analyst speaks.
-pub fn read_line<'a>(house: &House, who: Option<u16>, line: &'a [u8]) -> LineMeaning<'a>
-    requires { IsAnalyst (house_of house.now) who }
-    ensures meaning { meaning_of (house_of house.now) result ≡ meant_by (house_of house.now) who line.now }
+/// What a line comes to, where this one speaks.
+pub fn read_line<'a>(house: &House, who: &Speaker, line: &'a [u8]) -> LineMeaning<'a>
+    requires { IsAnalyst (house_of house.now) who.now }
+    ensures meaning { meaning_of (house_of house.now) who.now result ≡ meant_by (house_of house.now) who.now line.now }
     ensures proper { IsMeaningIn (house_of house.now) result }
     ensures short { length line.now < 6 → IsShort result }
 {
     match read_request(line) {
-        Ok(Request::Hello { analyst }) => greet(house, who, analyst),
+        Ok(Request::Hello { analyst }) => greet(house, analyst),
         Ok(
             Request::Ask {
                 owner,
@@ -55,40 +57,39 @@ pub fn read_line<'a>(house: &House, who: Option<u16>, line: &'a [u8]) -> LineMea
             read_ask(house, who, part, epsilon, program)
         }
         Ok(Request::Recall { owner, number }) => read_recall(house, who, owner, number),
-        Ok(Request::Left { owner }) => read_left(house, who, owner),
+        Ok(Request::Left { owner }) => read_left(house, owner),
         Ok(Request::Mine { owner }) => read_mine(house, who, owner),
         Ok(Request::Bye) => LineMeaning::Says {
             reply: Reply::Bye,
-            who,
+            next: Next::Nobody,
         },
-        Err(refusal) => refuse(refusal, who),
+        Err(refusal) => refuse(refusal),
     }
 }
 
 // A refusal leaves who speaks.
-fn refuse<'a>(refusal: LineRefusal, who: Option<u16>) -> LineMeaning<'a>
-    ensures { result ≡ LineMeaning.Says (Reply.Refused (Refusal.Line refusal)) who }
+fn refuse<'a>(refusal: LineRefusal) -> LineMeaning<'a>
+    ensures { result ≡ LineMeaning.Says (Reply.Refused (Refusal.Line refusal)) Next.Same }
 {
     LineMeaning::Says {
         reply: Reply::Refused(Refusal::Line(refusal)),
-        who,
+        next: Next::Same,
     }
 }
 
 // A later hello replaces the analyst, and one with an unknown name doesn't.
-fn greet<'a>(house: &House, who: Option<u16>, name: &'a [u8]) -> LineMeaning<'a>
-    requires { IsAnalyst (house_of house.now) who }
-    ensures meaning { meaning_of (house_of house.now) result
+fn greet<'a>(house: &House, name: &'a [u8]) -> LineMeaning<'a>
+    ensures meaning { (who : Seen) → meaning_of (house_of house.now) who result
         ≡ meant_by_hello (house_of house.now) who name.now (analyst_named (house_of house.now) name.now) }
     ensures proper { IsMeaningIn (house_of house.now) result }
 {
     match house.analyst(name) {
-        None => refuse(LineRefusal::Unknown { word: 1 }, who),
+        None => refuse(LineRefusal::Unknown { word: 1 }),
         Some(analyst) => LineMeaning::Says {
             reply: Reply::Hello {
                 analyst: Name { bytes: name },
             },
-            who: Some(analyst),
+            next: Next::Analyst(analyst),
         },
     }
 }
@@ -132,22 +133,22 @@ fn find_part(
 // The names come before the epsilon, and the epsilon before the analyst.
 fn read_ask<'a>(
     house: &House,
-    who: Option<u16>,
+    who: &Speaker,
     subject: Result<Subject, LineRefusal>,
     epsilon: Option<u32>,
     program: &'a [u8],
 ) -> LineMeaning<'a>
-    requires known { IsAnalyst (house_of house.now) who }
+    requires known { IsAnalyst (house_of house.now) who.now }
     requires range { IfSome epsilon (λ e. IsEpsilon e) }
     requires there { IfOk subject (IsSubjectIn (house_of house.now)) }
-    ensures meaning { meaning_of (house_of house.now) result
-        ≡ meant_by_ask who (found_in (house_of house.now) subject) epsilon program.now }
+    ensures meaning { meaning_of (house_of house.now) who.now result
+        ≡ meant_by_ask who.now (found_in (house_of house.now) subject) epsilon program.now }
     ensures proper { IsMeaningIn (house_of house.now) result }
 {
-    match (subject, epsilon, who) {
-        (Err(refusal), _, _) => refuse(refusal, who),
-        (Ok(_), None, _) => refuse(LineRefusal::NoEpsilon, who),
-        (Ok(_), Some(_), None) => refuse(LineRefusal::NoHello, who),
+    match (subject, epsilon, who.analyst()) {
+        (Err(refusal), _, _) => refuse(refusal),
+        (Ok(_), None, _) => refuse(LineRefusal::NoEpsilon),
+        (Ok(_), Some(_), None) => refuse(LineRefusal::NoHello),
         (Ok(subject), Some(epsilon), Some(analyst)) => LineMeaning::Wants {
             owner: subject.owner,
             demand: Demand::Asks(Query {
@@ -155,21 +156,22 @@ fn read_ask<'a>(
                 view: subject.view,
                 epsilon,
                 program,
+                made: None,
             }),
         },
     }
 }
 
 // The owner is looked for before the analyst, who recalls its own numbers.
-fn read_recall<'a>(house: &House, who: Option<u16>, owner: &[u8], number: u32) -> LineMeaning<'a>
-    requires known { IsAnalyst (house_of house.now) who }
-    ensures meaning { meaning_of (house_of house.now) result
-        ≡ meant_by_recall who (owner_named (house_of house.now) owner.now) number }
+fn read_recall<'a>(house: &House, who: &Speaker, owner: &[u8], number: u32) -> LineMeaning<'a>
+    requires known { IsAnalyst (house_of house.now) who.now }
+    ensures meaning { meaning_of (house_of house.now) who.now result
+        ≡ meant_by_recall who.now (owner_named (house_of house.now) owner.now) number }
     ensures proper { IsMeaningIn (house_of house.now) result }
 {
-    match (house.owner(owner), who) {
-        (None, _) => refuse(LineRefusal::Unknown { word: 1 }, who),
-        (Some(_), None) => refuse(LineRefusal::NoHello, who),
+    match (house.owner(owner), who.analyst()) {
+        (None, _) => refuse(LineRefusal::Unknown { word: 1 }),
+        (Some(_), None) => refuse(LineRefusal::NoHello),
         (Some(owner), Some(analyst)) => LineMeaning::Wants {
             owner,
             demand: Demand::Recalls { analyst, number },
@@ -178,14 +180,13 @@ fn read_recall<'a>(house: &House, who: Option<u16>, owner: &[u8], number: u32) -
 }
 
 // Anybody may see what is spent, before a hello too.
-fn read_left<'a>(house: &House, who: Option<u16>, owner: &[u8]) -> LineMeaning<'a>
-    requires known { IsAnalyst (house_of house.now) who }
-    ensures meaning { meaning_of (house_of house.now) result
+fn read_left<'a>(house: &House, owner: &[u8]) -> LineMeaning<'a>
+    ensures meaning { (who : Seen) → meaning_of (house_of house.now) who result
         ≡ meant_by_left who (owner_named (house_of house.now) owner.now) }
     ensures proper { IsMeaningIn (house_of house.now) result }
 {
     match house.owner(owner) {
-        None => refuse(LineRefusal::Unknown { word: 1 }, who),
+        None => refuse(LineRefusal::Unknown { word: 1 }),
         Some(owner) => LineMeaning::Wants {
             owner,
             demand: Demand::Balances,
@@ -194,15 +195,15 @@ fn read_left<'a>(house: &House, who: Option<u16>, owner: &[u8]) -> LineMeaning<'
 }
 
 // The owner is looked for before the analyst, who sees what it spent itself.
-fn read_mine<'a>(house: &House, who: Option<u16>, owner: &[u8]) -> LineMeaning<'a>
-    requires known { IsAnalyst (house_of house.now) who }
-    ensures meaning { meaning_of (house_of house.now) result
-        ≡ meant_by_mine who (owner_named (house_of house.now) owner.now) }
+fn read_mine<'a>(house: &House, who: &Speaker, owner: &[u8]) -> LineMeaning<'a>
+    requires known { IsAnalyst (house_of house.now) who.now }
+    ensures meaning { meaning_of (house_of house.now) who.now result
+        ≡ meant_by_mine who.now (owner_named (house_of house.now) owner.now) }
     ensures proper { IsMeaningIn (house_of house.now) result }
 {
-    match (who, house.owner(owner)) {
-        (_, None) => refuse(LineRefusal::Unknown { word: 1 }, who),
-        (None, Some(_)) => refuse(LineRefusal::NoHello, who),
+    match (who.analyst(), house.owner(owner)) {
+        (_, None) => refuse(LineRefusal::Unknown { word: 1 }),
+        (None, Some(_)) => refuse(LineRefusal::NoHello),
         (Some(analyst), Some(owner)) => LineMeaning::Wants {
             owner,
             demand: Demand::Spends { analyst },

@@ -1,7 +1,7 @@
 //! A script's lines, from their bytes to their replies.
 
 ghost use Rattle.std.specs.Prelude.{◌≡◌, ◌+◌, ◌++◌, ◌<◌, ◌≤◌, length};
-ghost use Rattle.std.specs.Prelude.{None, if◌then◌else◌, vec_capacity, List, ℕ};
+ghost use Rattle.std.specs.Prelude.{vec_capacity, List, ℕ};
 ghost use Rattle.wire_lines.specs.Lines.{lines_of};
 ghost use Rattle.wire_lines.specs.Refusal.{no_memory};
 ghost use Rattle.wire_lines.specs.Reply.{refused, replied, reply_text};
@@ -9,14 +9,15 @@ ghost use Rattle.owner_history.specs.OwnerDesk.Passes.{Told};
 ghost use Rattle.owner_history.specs.AnswerPath.Answered.{IsUnasked};
 ghost use Rattle.owner_history.specs.OwnerHouse.House.{house_of};
 ghost use Rattle.session_core.specs.Meant.{meant_by};
-ghost use Rattle.session_core.specs.Turns.{is_bye, session_turns};
+ghost use Rattle.session_core.specs.Turns.{is_bye, who_behind};
 ghost use Rattle.session_core.specs.Blocks.{behind_block, first_block};
-ghost use Rattle.session_core.specs.Code.{IsAnalyst, who_behind, is_ended, one_line, room_for_line, room_for_lines, short_reply_limit};
+ghost use Rattle.session_core.specs.Code.{IsAnalyst, is_ended, one_line, room_for_line, room_for_lines, short_reply_limit};
 ghost use Rattle.session_core.specs.Code.{ArePasses, AreServed, HasServed, WantsTooManyWalks};
 
 use crate::line::{LineMeaning, read_line};
 use crate::passes::Passes;
 use crate::server::Server;
+use crate::speaker::Speaker;
 use fz_outside::words::Streams;
 use outside_disks::disk::Disk;
 use outside_links::gate::Gate;
@@ -48,22 +49,11 @@ fn push_reply(out: &mut Vec<u8>, reply: &Reply<'_>, len: usize)
     push_all(out, &text[..n]);
 }
 
-/// A reply, who speaks after its line, and whether that line ends its session.
+/// A reply, and whether its line ends its session.
 #[derive(Clone, Copy)]
 pub struct Answer<'a> {
     pub reply: Reply<'a>,
-    pub who: Option<u16>,
     pub ends: bool,
-}
-
-// Who speaks after a reply: nobody after `bye`.
-fn who_after(reply: &Reply<'_>, who: Option<u16>) -> Option<u16>
-    ensures { result ≡ (if is_ended (replied reply.now) then None else who) }
-{
-    match reply {
-        Reply::Bye => None,
-        _ => who,
-    }
 }
 
 // Whether a reply is `bye`.
@@ -73,28 +63,29 @@ fn is_end(reply: &Reply<'_>) -> bool
     matches!(reply, Reply::Bye)
 }
 
-/// Answers one line, where this analyst speaks. Nobody speaks behind a `bye`. The session's last program isn't read again.
+/// Answers one line, where this one speaks, and goes on to who speaks behind it: behind a `bye` nobody. The session's last program
+/// isn't read again.
 pub fn answer_line<'a, R: Wait, D: Disk, S: Streams, G>(
     server: &Server<'a, R, D, S, G>,
     passes: &mut Passes<D>,
     last: &mut LastProgram,
-    who: Option<u16>,
+    who: &mut Speaker,
     line: &'a [u8],
 ) -> Answer<'a>
     requires here { passes.old.locks ≡ server.now.desks.now }
     requires passes { ArePasses (house_of server.now.house.now) passes.old.knows }
-    requires known { IsAnalyst (house_of server.now.house.now) who }
+    requires known { IsAnalyst (house_of server.now.house.now) who.old }
     ensures served { (told : List Told) ×
-        AreServed (house_of server.now.house.now) (S.given server.now.streams.now) (one_line who line.now (replied result.reply) told)
+        AreServed (house_of server.now.house.now) (S.given server.now.streams.now) (one_line who.old line.now (replied result.reply) told)
         passes.old.knows passes.new.knows }
     // A line that is refused before an owner's budget is asked leaves all passes as they were.
     ensures same { IsUnasked (replied result.reply) → passes.new ≡ passes.old }
     // A program that takes too many walks is told that memory ran out, whatever the rows are: so by `same` nothing is charged for it.
-    ensures walks { WantsTooManyWalks (meant_by (house_of server.now.house.now) who line.now) → replied result.reply ≡ refused no_memory }
+    ensures walks { WantsTooManyWalks (meant_by (house_of server.now.house.now) who.old line.now) → replied result.reply ≡ refused no_memory }
     ensures kept { passes.new ≡ record passes.old { knows = passes.new.knows } }
-    ensures who { result.who ≡ who_behind (house_of server.now.house.now) who line.now }
+    ensures who { who.new ≡ who_behind (house_of server.now.house.now) who.old line.now (replied result.reply) }
     ensures ends { result.ends ≡ is_bye line.now }
-    ensures known { IsAnalyst (house_of server.now.house.now) result.who }
+    ensures known { IsAnalyst (house_of server.now.house.now) who.new }
     ensures short { length line.now < 6 → length (reply_text (replied result.reply)) ≤ short_reply_limit }
 {
     match read_line(server.house, who, line) {
@@ -110,14 +101,15 @@ pub fn answer_line<'a, R: Wait, D: Disk, S: Streams, G>(
                 owner,
                 &demand,
             ),
-            who,
             ends: false,
         },
-        LineMeaning::Says { reply, who } => Answer {
-            reply,
-            who: who_after(&reply, who),
-            ends: is_end(&reply),
-        },
+        LineMeaning::Says { reply, next } => {
+            who.turn_to(next);
+            Answer {
+                reply,
+                ends: is_end(&reply),
+            }
+        }
     }
 }
 
@@ -137,7 +129,7 @@ pub fn answer_block<'a, R: Wait, D: Disk, S: Streams, G: Gate>(
     ensures served { (text : List ℕ) × (out.new.items ≡ out.old.items ++ text)
         × (length text ≤ room_for_lines (first_block (lines_of script.now)))
         × HasServed (house_of server.now.house.now) (S.given server.now.streams.now)
-        (session_turns (house_of server.now.house.now) None (first_block (lines_of script.now))) text passes.old.knows passes.new.knows }
+        (first_block (lines_of script.now)) text passes.old.knows passes.new.knows }
     ensures behind { lines_of result.now ≡ behind_block (lines_of script.now) }
     ensures nearer { 0 < length script.now → length result.now < length script.now }
     ensures passes { ArePasses (house_of server.now.house.now) passes.new.knows }
@@ -145,18 +137,17 @@ pub fn answer_block<'a, R: Wait, D: Disk, S: Streams, G: Gate>(
     ensures capacity { vec_capacity out.new ≡ vec_capacity out.old }
 {
     let mut rest = script;
-    let mut who = None;
+    let mut who = Speaker::nobody();
     let mut last = LastProgram::none();
     let mut number = 0u32;
     while let Some((line, after)) = next_line(rest) {
         server.gate.enter(block, number);
-        let answer = answer_line(server, passes, &mut last, who, line);
+        let answer = answer_line(server, passes, &mut last, &mut who, line);
         server.gate.leave(block, number);
         push_reply(out, &answer.reply, line.len());
         if answer.ends {
             return after;
         }
-        who = answer.who;
         number = number.saturating_add(1);
         rest = after;
     }

@@ -13,7 +13,7 @@ use Rattle.wire_lines.specs.Reply.{refused}
 use Rattle.wire_lines.specs.Refusal.{by_disk}
 use Rattle.wire_lines.specs.declared.refusal.DiskRefusal.{DiskRefusal}
 use Rattle.session_core.specs.OwnerHouse.Owner.{Owner, signature_of_view}
-use Rattle.session_core.specs.AnswerPath.Query.{Query}
+use Rattle.session_core.specs.AnswerPath.Query.{Query, Source}
 use Rattle.session_core.specs.AnswerPath.Verdict.{Verdict, program_refused, money_refused, granted, ask_for, IsVerdict}
 use Rattle.session_core.specs.OwnerHistory.Granted.{told_settlement}
 use Rattle.session_core.proofs.OwnerHistory.Grants.{verdict_grants}
@@ -59,11 +59,11 @@ module _ (draws : ℕ → ℕ → ℕ) (owner : Owner) (found records : List Rec
 
   -- a line that was told nothing, whose reply the records bear out, or a query that reserved
   abbrev pub IsKind : Demand → Exchange → Type 0
-  IsKind demand x = ((x.told ≡ []) × ((programs : List (List ℕ)) → IsBorneOutTo programs records demand x.reply)) ⊎ ((query : Query) × (demand ≡ asks query) × IsReservedBy query x)
+  IsKind demand x = ((x.told ≡ []) × ((sources : List Source) → IsBorneOutTo sources records demand x.reply)) ⊎ ((query : Query) × (demand ≡ asks query) × IsReservedBy query x)
 
   -- a reply that speaks of no reservation is borne out
-  says_none : (query : Query) (x : Exchange) → told_settlement x.reply ≡ None → (programs : List (List ℕ)) → IsBorneOutTo programs records (asks query) x.reply
-  says_none query x none programs = λ n outcome said. absurd (let both : None ≡ Some (n, outcome) = sym none ∙ said in cc (both))
+  says_none : (query : Query) (x : Exchange) → told_settlement x.reply ≡ None → (sources : List Source) → IsBorneOutTo sources records (asks query) x.reply
+  says_none query x none sources = λ n outcome said. absurd (let both : None ≡ Some (n, outcome) = sym none ∙ said in cc (both))
 
   reserved : (query : Query) (g : List Record) (x : Exchange) (asking : Ask) (grant : Grant)
       → IsVerdict owner.entry (signature_of_view owner query.view) start g query (granted asking grant) → IsPrefix found g
@@ -95,7 +95,7 @@ module _ (draws : ℕ → ℕ → ℕ) (owner : Owner) (found records : List Rec
 
   pub kind_met : (demand : Demand) (known : List Record) (x : Exchange) (after : List Record) → IsPrefix found known → IsPrefix after records → MeetsOnSome draws start owner demand known x after → IsKind demand x
   kind_met demand known x after pre ends met = elim (met_kind owner draws start demand known x.reply x.told after met) [
-    | inl none ↦ inl (none.none, λ programs. none.borne programs records ends)
+    | inl none ↦ inl (none.none, λ sources. none.borne sources records ends)
     | inr asked ↦ subst (λ (d : Demand). IsKind d x) (sym asked.1) (query_kind asked.0 known x after pre ends asked.2)
   ]
 

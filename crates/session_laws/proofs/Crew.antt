@@ -7,14 +7,17 @@ use Rattle.std.proofs.lemmas.Option.{slice_get_within}
 use Rattle.std.proofs.Math.Seq.{drop-append_seam}
 use mathlib.Core.Logic.{inl, inr}
 use Rattle.journal_records.specs.declared.records.Record.{Record}
+use Rattle.wire_lines.specs.Lines.{lines_of}
 use Rattle.wire_lines.specs.Reply.{Replied}
 use Rattle.session_core.specs.OwnerHouse.Owner.{Owner}
 use Rattle.session_core.specs.OwnerHouse.House.{House}
 use Rattle.session_core.specs.Turns.{meant_at, turns_of}
-use Rattle.session_core.specs.Exchanges.{Exchange, IsPlain, ArePlain, told_of}
+use Rattle.session_core.specs.Exchanges.{Exchange, AreOfScript, IsPlain, ArePlain, told_of}
+use Rattle.session_core.specs.Speakers.{no_speaker}
 use Rattle.session_core.specs.Transcript.{Journals}
 use Rattle.owner_lock.specs.Entries.{Ascends}
 use Rattle.session_laws.specs.Crew.{AreJoined, AreDone, AreTogether}
+use Rattle.session_core.proofs.Turning.{turns_length}
 use Rattle.session_laws.proofs.Counting.{at_place, counted_has, found_in}
 use Rattle.session_laws.proofs.Listed.{all_by_places, place_of_all}
 use Rattle.session_laws.proofs.Locals.{part_has}
@@ -22,7 +25,7 @@ use Rattle.session_laws.proofs.Standing.{told_here, stand_by, told_at}
 use Rattle.session_laws.proofs.Assembles.{InOrder, in_order, added_same, parts_weigh}
 use Rattle.session_core.specs.OwnerDesk.Passes.{Told, told_behind}
 use Rattle.session_core.specs.OwnerDesk.Answers.{Has}
-use Rattle.session_core.specs.Gathered.{part_of, IsAnsweredOn, AreAnsweredOn, AreGathered, AreOfScript}
+use Rattle.session_core.specs.Gathered.{part_of, IsAnsweredOn, AreAnsweredOn, AreGathered}
 
 -- each place is below c
 abbrev BelowAll : ℕ → List Told → Type 0
@@ -119,8 +122,8 @@ module _ {X : Type 0} (crew : ℕ → ℕ) where
 
 module _ (house : House) (draws : ℕ → ℕ → ℕ → ℕ) (count : ℕ) (crew : ℕ → ℕ) (found : Journals) (script : List ℕ) (parts : ℕ → List Exchange) (replies : List Replied) (records : Journals)
     (done : AreDone house draws count crew found script parts replies records) where
-  ordered : InOrder (λ (x : Exchange). x.turn) count crew 0 (turns_of house script) parts
-  ordered = in_order (λ (x : Exchange). x.turn) crew count done.crews 0 (turns_of house script) parts done.turns
+  ordered : InOrder (λ (x : Exchange). x.turn) count crew 0 (turns_of house script replies) parts
+  ordered = in_order (λ (x : Exchange). x.turn) crew count done.crews 0 (turns_of house script replies) parts done.turns
 
   xs : List Exchange
   xs = ordered.all
@@ -135,7 +138,7 @@ module _ (house : House) (draws : ℕ → ℕ → ℕ → ℕ) (count : ℕ) (cr
   replied : map (λ (x : Exchange). x.reply) xs ≡ replies
   unfolding xs
   replied =
-      let long : length xs ≡ length (turns_of house script) = sym (length-map xs (λ (x : Exchange). x.turn)) ∙ ap length ordered.are in
+      let long : length xs ≡ length (lines_of script) = sym (length-map xs (λ (x : Exchange). x.turn)) ∙ ap length ordered.are ∙ turns_length house no_speaker (lines_of script) replies in
       same_parts crew count done.crews 0 (map (λ (x : Exchange). x.reply) xs) replies (length-map xs (λ (x : Exchange). x.reply) ∙ long ∙ sym done.each_has)
       (λ i lt. part_map crew (λ (x : Exchange). x.reply) i 0 xs ∙ ap (λ (ys : List Exchange). map (λ (x : Exchange). x.reply) ys) (ordered.parts_are i lt) ∙ sym (done.replied i lt))
 
@@ -145,7 +148,7 @@ module _ (house : House) (draws : ℕ → ℕ → ℕ → ℕ) (count : ℕ) (cr
 
   turns : AreOfScript house script xs
   unfolding xs
-  turns = ordered.are
+  turns = ordered.are ∙ ap (turns_of house script) (sym replied)
 
   -- The workers' exchanges, put in the script's order.
   pub together : AreTogether house draws count crew found script replies records

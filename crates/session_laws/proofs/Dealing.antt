@@ -1,22 +1,17 @@
 -- blocks dealt to workers
-use Rattle.std.proofs.Common.{◌≡◌, ℕ, zero, suc, ◌+◌, ◌%◌, ◌<◌, ◌≤◌, ◌==◌, Bool, true, false, List, [], ◌∷◌, ◌++◌, None, refl, sym, ◌∙◌, ap, arith}
+use Rattle.std.proofs.Common.{◌≡◌, ℕ, zero, suc, ◌+◌, ◌%◌, ◌<◌, ◌≤◌, ◌==◌, Bool, true, false, List, [], ◌∷◌, ◌++◌, refl, sym, ◌∙◌, ap, arith}
 use Rattle.std.proofs.Common.{append-nil, eqb-true, mod-eq_of_lt, ne_eqb}
 use Rattle.std.proofs.lemmas.Bool.{eqb-false}
 use Rattle.std.specs.Prelude.{if◌then◌else◌}
 use Rattle.std.specs.List.{flat_map}
 use Rattle.session_core.specs.OwnerHouse.House.{House}
-use Rattle.session_core.specs.Turns.{session_turns}
 use Rattle.session_core.specs.Exchanges.{Exchange}
-use Rattle.session_core.specs.Blocks.{own_blocks, crew_of, script_blocks, AreDealt}
+use Rattle.session_core.specs.Blocks.{AreDealt, own_blocks, crew_of}
 use Rattle.session_core.specs.Gathered.{part_of}
-use Rattle.session_core.proofs.Dealing.{dealt, crew_below, session_length}
+use Rattle.session_core.proofs.Dealing.{dealt, crew_below, script_dealt}
 
 pub are_dealt : (house : House) (script : List ℕ) (count : ℕ) → 0 < count → AreDealt house script count
-are_dealt house script count some = record {
-  crews = λ at. crew_below count 0 (script_blocks script) at some;
-  parts = λ i. dealt count i 0 (session_turns house None) (session_length house None) (crew_of count 0 (script_blocks script)) 0 (script_blocks script)
-      (λ p. let same : 0 + p ≡ p = omega arith in ap (crew_of count 0 (script_blocks script)) same);
-}
+are_dealt house script count = script_dealt script count house
 
 -- ---- each worker's lines as one block: so what workers did can be put in an order
 

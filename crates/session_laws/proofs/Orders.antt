@@ -38,7 +38,8 @@ use Rattle.session_core.proofs.AnswerPath.Readings.{one_reading}
 use Rattle.session_core.proofs.OwnerHistory.Grants.{accepted_as}
 use Rattle.session_core.specs.AnswerPath.Program.{IsCharged}
 use Rattle.session_core.specs.AnswerPath.Demand.{asks}
-use Rattle.session_core.specs.Meant.{Meant, Subject, says, wants, whole_named, part_named, meant_by, meant_by_ask, meant_by_request}
+use Rattle.session_core.specs.Speakers.{Speaker}
+use Rattle.session_core.specs.Meant.{Meant, Subject, says, wants, whole_named, part_named, by_analyst, meant_by, meant_by_ask, meant_by_request}
 use Rattle.session_laws.specs.Order.{Question, IsQuestion, RefusesLine, RefusesBytes, RefusesTerm, RefusesProgram, IsAsking, RefusesAsk, CouldRefuse}
 use Rattle.session_laws.specs.Order.{IsJudgedAs}
 use Rattle.session_laws.specs.Order.{LeastCodeRefuses, GrantsAreUnopposed}
@@ -90,7 +91,7 @@ part_unknown house name partition key refusal is =
 -- A question's line comes to what the question does, and what its names don't find is refused with 12.
 abbrev IsOf : House → (line : List ℕ) → Question → Type 0
 IsOf house line question =
-    ((who : Option ℕ) → meant_by house who line ≡ meant_by_ask who question.subject question.epsilon question.program)
+    ((who : Speaker) → meant_by house who line ≡ meant_by_ask who question.subject question.epsilon question.program)
     × ((refusal : LineRefusal) → question.subject ≡ Err refusal → line_code refusal ≡ 12)
 
 question_of : (house : House) (line : List ℕ) (question : Question) → IsQuestion house line question → IsOf house line question
@@ -242,18 +243,23 @@ module _ (start : ℕ → ℕ) (records : ℕ → List Record) where
         (λ r of. omega (arith, first, (program_codes r).0)) (λ r of. omega (arith, first, money_high r)),
   )
 
-  line_least : (s : Result Subject LineRefusal) (e who : Option ℕ) (program : List ℕ) → AreUnknown s → (refusal : LineRefusal)
-      → meant_by_ask who s e program ≡ says (refused (by_line refusal)) who → IsLeast who (question_for s e program) (by_line refusal)
+  line_least : (s : Result Subject LineRefusal) (e : Option ℕ) (who : Speaker) (program : List ℕ) → AreUnknown s → (refusal : LineRefusal)
+      → meant_by_ask who s e program ≡ says (refused (by_line refusal)) who → IsLeast who.analyst (question_for s e program) (by_line refusal)
   line_least (Err fault) e who program names refusal is =
       let same : Err fault ≡ Err refusal = cc (is) in
-      line_first who (question_for (Err fault) e program) names refusal (inl same) (omega (arith, names refusal same))
+      line_first who.analyst (question_for (Err fault) e program) names refusal (inl same) (omega (arith, names refusal same))
   line_least (Ok s) None who program names refusal is =
       let same : refusal ≡ NoEpsilon = cc (is) in
-      line_first who (question_for (Ok s) None program) names refusal (inr (inl (refl, same))) (omega (arith, ap line_code same))
-  line_least (Ok s) (Some e) None program names refusal is =
-      let same : refusal ≡ NoHello = cc (is) in
-      line_first None (question_for (Ok s) (Some e) program) names refusal (inr (inr (refl, same))) (omega (arith, ap line_code same))
-  line_least (Ok s) (Some e) (Some analyst) program names refusal is = absurd (cc (is))
+      line_first who.analyst (question_for (Ok s) None program) names refusal (inr (inl (refl, same))) (omega (arith, ap line_code same))
+  line_least (Ok s) (Some e) who program names refusal is = by who.analyst refl is
+    where
+      by : (spoke : Option ℕ) → who.analyst ≡ spoke
+          → by_analyst who spoke (λ analyst. wants s.number s.owner (asks (record { analyst = analyst; view = s.view; e = e; program = program }))) ≡ says (refused (by_line refusal)) who
+          → IsLeast who.analyst (question_for (Ok s) (Some e) program) (by_line refusal)
+      by None none is =
+          let same : refusal ≡ NoHello = cc (is) in
+          line_first who.analyst (question_for (Ok s) (Some e) program) names refusal (inr (inr (none, same))) (omega (arith, ap line_code same))
+      by (Some analyst) spoke is = absurd (cc (is))
 
   -- ---- the program and the budget
 
@@ -268,7 +274,7 @@ module _ (start : ℕ → ℕ) (records : ℕ → List Record) where
     the_question = question_for (Ok subject) (Some e) program
 
     abbrev the_query : Query
-    the_query = record { analyst = analyst; view = subject.view; e = e; program = program }
+    the_query = record { analyst = analyst; view = subject.view; e = e; program = program; made = None }
 
     abbrev tables : Signature
     tables = signature_of_view subject.owner subject.view
@@ -404,16 +410,22 @@ module _ (start : ℕ → ℕ) (records : ℕ → List Record) where
   IsVerdictOf (wants n owner (asks query)) v = IsVerdict owner.entry (signature_of_view owner query.view) (start n) (records n) query v
   IsVerdictOf meant v = ⊥
 
-  meant_first : (s : Result Subject LineRefusal) (e who : Option ℕ) (program : List ℕ) (v : Verdict) → IsVerdictOf (meant_by_ask who s e program) v
-      → IsFirst who (question_for s e program) v
+  spoken_first : (s : Subject) (e : ℕ) (who : Speaker) (program : List ℕ) (v : Verdict) (spoke : Option ℕ) → who.analyst ≡ spoke
+      → IsVerdictOf (by_analyst who spoke (λ analyst. wants s.number s.owner (asks (record { analyst = analyst; view = s.view; e = e; program = program })))) v
+      → IsFirst who.analyst (question_for (Ok s) (Some e) program) v
   unfolding IsVerdict
+  spoken_first s e who program v None none is = absurd is
+  spoken_first s e who program v (Some analyst) spoke (reading, reads, is) =
+      subst (λ (w : Option ℕ). IsFirst w (question_for (Ok s) (Some e) program) v) (sym spoke) (verdict_first s analyst e program reading reads v is)
+
+  meant_first : (s : Result Subject LineRefusal) (e : Option ℕ) (who : Speaker) (program : List ℕ) (v : Verdict) → IsVerdictOf (meant_by_ask who s e program) v
+      → IsFirst who.analyst (question_for s e program) v
   meant_first (Err fault) e who program v is = absurd is
   meant_first (Ok s) None who program v is = absurd is
-  meant_first (Ok s) (Some e) None program v is = absurd is
-  meant_first (Ok s) (Some e) (Some analyst) program v (reading, reads, is) = verdict_first s analyst e program reading reads v is
+  meant_first (Ok s) (Some e) who program v is = spoken_first s e who program v who.analyst refl is
 
-  judged_first : (house : House) (who : Option ℕ) (line : List ℕ) (question : Question) (v : Verdict) → IsQuestion house line question
-      → IsJudgedAs house who line start records v → IsFirst who question v
+  judged_first : (house : House) (who : Speaker) (line : List ℕ) (question : Question) (v : Verdict) → IsQuestion house line question
+      → IsJudgedAs house who line start records v → IsFirst who.analyst question v
   judged_first house who line question v question_is of =
       meant_first question.subject question.epsilon who question.program v
       (subst (λ (m : Meant). IsVerdictOf m v) (sym of.meant ∙ (question_of house line question question_is).0 who) of.verdict_is)

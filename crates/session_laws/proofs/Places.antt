@@ -9,7 +9,7 @@ use Rattle.journal_records.specs.declared.records.Outcome.{Outcome}
 use Rattle.journal_records.specs.declared.records.Reservation.{Reservation}
 use Rattle.journal_records.specs.declared.records.Settlement.{Settlement}
 use Rattle.journal_records.specs.declared.records.Record.{Record}
-use Rattle.journal_records.specs.declared.records.Record.TheVariants.{Reserve, Settle, Grant}
+use Rattle.journal_records.specs.declared.records.Record.TheVariants.{Reserve, Settle, Grant, Define}
 use Rattle.journal_records.specs.Records.{reservation_in, settling_back}
 use Rattle.budget_core.specs.Counts.{reservations_of, outcome_of}
 use Rattle.budget_core.proofs.Histories.{slice_get-append-seam}
@@ -53,6 +53,9 @@ reservation_place (Settle o ∷ records) n lt =
 reservation_place (Grant g ∷ records) n lt =
     let rest = reservation_place records n lt in
     (suc rest.0, rest.1, rest.2, rest.3)
+reservation_place (Define d ∷ records) n lt =
+    let rest = reservation_place records n lt in
+    (suc rest.0, rest.1, rest.2, rest.3)
 
 -- a reservation stands at its count among the reservations
 pub listed_below : (records : List Record) (q : ℕ) (r : Reservation) → slice_get records q ≡ Some (Reserve r) → slice_get (reservations_of records) (below records q) ≡ Some r
@@ -60,15 +63,18 @@ listed_below [] q r at = absurd (cc (at))
 listed_below (Reserve s ∷ records) zero r at = let same : s ≡ r = cc (at) in ap (λ (t : Reservation). Some t) same
 listed_below (Settle o ∷ records) zero r at = absurd (cc (at))
 listed_below (Grant g ∷ records) zero r at = absurd (cc (at))
+listed_below (Define d ∷ records) zero r at = absurd (cc (at))
 listed_below (Reserve s ∷ records) (suc q) r at = listed_below records q r at
 listed_below (Settle o ∷ records) (suc q) r at = listed_below records q r at
 listed_below (Grant g ∷ records) (suc q) r at = listed_below records q r at
+listed_below (Define d ∷ records) (suc q) r at = listed_below records q r at
 
 -- how a number was settled stands in the records
 pub settled_at : (records : List Record) (n : ℕ) (o : Outcome) → outcome_of records n ≡ Some o → (k returned : ℕ) × (slice_get records k ≡ Some (settling_back n o returned))
 settled_at [] n o is = absurd (cc (is))
 settled_at (Reserve r ∷ records) n o is = let rest = settled_at records n o is in (suc rest.0, rest.1, rest.2)
 settled_at (Grant g ∷ records) n o is = let rest = settled_at records n o is in (suc rest.0, rest.1, rest.2)
+settled_at (Define d ∷ records) n o is = let rest = settled_at records n o is in (suc rest.0, rest.1, rest.2)
 settled_at (Settle s ∷ records) n o is = here (settled_at records n o) (n == s.number) refl is
   where
     here : (outcome_of records n ≡ Some o → (k returned : ℕ) × (slice_get records k ≡ Some (settling_back n o returned))) → (b : Bool) → (n == s.number) ≡ b → cond b (Some s.outcome) (outcome_of records n) ≡ Some o
@@ -84,7 +90,9 @@ unsettled_nowhere [] n k o returned none at = absurd (cc (at))
 unsettled_nowhere (Reserve r ∷ records) n zero o returned none at = absurd (cc (at))
 unsettled_nowhere (Reserve r ∷ records) n (suc k) o returned none at = unsettled_nowhere records n k o returned none at
 unsettled_nowhere (Grant g ∷ records) n zero o returned none at = absurd (cc (at))
+unsettled_nowhere (Define d ∷ records) n zero o returned none at = absurd (cc (at))
 unsettled_nowhere (Grant g ∷ records) n (suc k) o returned none at = unsettled_nowhere records n k o returned none at
+unsettled_nowhere (Define d ∷ records) n (suc k) o returned none at = unsettled_nowhere records n k o returned none at
 unsettled_nowhere (Settle s ∷ records) n k o returned none at = here (unsettled_nowhere records n) (n == s.number) refl none k returned at
   where
     here : ((k : ℕ) (o : Outcome) (returned : ℕ) → outcome_of records n ≡ None → slice_get records k ≡ Some (settling_back n o returned) → ⊥) → (b : Bool) → (n == s.number) ≡ b → cond b (Some s.outcome) (outcome_of records n) ≡ None → (k returned : ℕ)

@@ -10,6 +10,7 @@ use Rattle.wire_lines.specs.Reply.{Replied}
 use Rattle.session_core.specs.OwnerHouse.Owner.{Owner}
 use Rattle.session_core.specs.OwnerHouse.House.{House, IsOwnerIn, AreOwners}
 use Rattle.session_core.specs.OwnerDesk.Passes.{Pass, Told, records_told}
+use Rattle.session_core.specs.AnswerPath.Query.{Source}
 use Rattle.session_core.specs.AnswerPath.Shut.{Shut, unshut, shut_of}
 use Rattle.session_core.specs.OwnerHistory.Sound.{IsFound}
 use Rattle.session_core.proofs.OwnerHistory.Prefixes.{prefix_self}
@@ -20,7 +21,7 @@ use Rattle.session_core.specs.Exchanges.{Exchange, told_of}
 use Rattle.session_core.specs.Transcript.{Journals, first_new, LeadExactly, IsScriptRun}
 use Rattle.session_core.specs.Served.{Sources, AreAskedBy, AnswersOn, ShutsOn}
 use Rattle.session_core.specs.Gathered.{part_of, one_worker, AreAnsweredOn, AreGathered, AreShut, IsGatheredScript}
-use Rattle.session_core.specs.Headline.{Programs, IsAccountedFor, AreOwed, AreAccountedFor, Headline, AreFound, AreHistories}
+use Rattle.session_core.specs.Headline.{Explanations, IsAccountedFor, AreOwed, AreAccountedFor, Headline, AreFound, AreHistories}
 use Rattle.session_core.specs.Code.{pass_at, found_by, fresh_pass, GoesOn, AreServed, AreFresh, IsClosedWith, AreClosed}
 use Rattle.session_core.proofs.Demands.{prefix_whole}
 use Rattle.session_core.proofs.Turns.{turns_lines}
@@ -29,17 +30,17 @@ use Rattle.session_laws.proofs.Exact.{one_part, exact, tight, least}
 use Rattle.session_laws.proofs.Kept.{kept, owed}
 
 -- By any number of workers, a script's exchanges keep the headline ..
-pub headline_of : (house : House) (draws : ℕ → ℕ → ℕ → ℕ) (found : Journals) (earlier : Programs) (script : List ℕ) (count : ℕ) (crew : ℕ → ℕ) (xs : List Exchange) (records : Journals)
+pub headline_of : (house : House) (draws : ℕ → ℕ → ℕ → ℕ) (found : Journals) (earlier : Explanations) (script : List ℕ) (count : ℕ) (crew : ℕ → ℕ) (xs : List Exchange) (records : Journals)
     → AreOwners house → AreFound house draws earlier found → IsGatheredScript house draws count crew found script xs records → Headline house draws found earlier script count crew xs records
 headline_of house draws found earlier script count crew xs records owners founds all = record {
   crews = all.crews;
   turns = all.turns;
-  lines = turns_lines house script;
+  lines = turns_lines house script (map (λ (x : Exchange). x.reply) xs);
   plain = all.plain;
   owners = λ o owner here. kept house draws script count crew o owner (found o) (earlier o) xs (records o) here (owners o owner here) (founds o owner here) all.turns (all.owners o owner here);
 }
 
--- .. and what is owed at every status, whatever programs are behind the records found.
+-- .. and what is owed at every status, whatever sources are behind the records found.
 pub owed_of : (house : House) (draws : ℕ → ℕ → ℕ → ℕ) (found : Journals) (script : List ℕ) (count : ℕ) (crew : ℕ → ℕ) (xs : List Exchange) (records : Journals)
     → AreOwners house → AreHistories house found → IsGatheredScript house draws count crew found script xs records → AreOwed house found records
 owed_of house draws found script count crew xs records owners founds all =
@@ -138,25 +139,25 @@ lines_gathered house draws xs before after records closed fresh served shut o ow
 
 -- Where nothing was answered, the records found are accounted for ..
 nothing_asked : Sources
-nothing_asked = record { programs = []; places = [] }
+nothing_asked = record { behind = []; places = [] }
 
-asked_nothing : (house : House) (o : ℕ) (owner : Owner) (script : List ℕ) → AreAskedBy house o owner (turns_of house script) nothing_asked
+asked_nothing : (house : House) (o : ℕ) (owner : Owner) (script : List ℕ) (replies : List Replied) → AreAskedBy house o owner (turns_of house script replies) nothing_asked
 unfolding nothing_asked
-asked_nothing house o owner script = record { each_has = refl; once = λ m n below within same. absurd (omega arith); asked = λ n place program placed at. absurd (cc (placed)) }
+asked_nothing house o owner script replies = record { each_has = refl; once = λ m n below within same. absurd (omega arith); asked = λ n place source placed at. absurd (cc (placed)) }
 
-found_accounted : (house : House) (draws : ℕ → ℕ → ℕ → ℕ) (script : List ℕ) (o : ℕ) (owner : Owner) (found : List Record) (earlier : List (List ℕ)) → IsFound owner (draws o) earlier found → IsOwnerIn house owner
-    → IsAccountedFor house draws script o owner found earlier nothing_asked found
+found_accounted : (house : House) (draws : ℕ → ℕ → ℕ → ℕ) (script : List ℕ) (replies : List Replied) (o : ℕ) (owner : Owner) (found : List Record) (earlier : List Source) → IsFound owner (draws o) earlier found → IsOwnerIn house owner
+    → IsAccountedFor house draws script replies o owner found earlier nothing_asked found
 unfolding nothing_asked
-found_accounted house draws script o owner found earlier begun of = record {
-  backed = well_backed owner (draws o) found (earlier ++ nothing_asked.programs) found of.data_of begun.within
-      (subst (λ (ps : List (List ℕ)). IsWell owner (draws o) found ps found) (sym (append-nil earlier)) (well_found owner (draws o) found earlier begun));
-  asked = asked_nothing house o owner script;
+found_accounted house draws script replies o owner found earlier begun of = record {
+  backed = well_backed owner (draws o) found (earlier ++ nothing_asked.behind) found of.data_of begun.within
+      (subst (λ (ps : List Source). IsWell owner (draws o) found ps found) (sym (append-nil earlier)) (well_found owner (draws o) found earlier begun));
+  asked = asked_nothing house o owner script replies;
 }
 
-pub all_found_accounted : (house : House) (draws : ℕ → ℕ → ℕ → ℕ) (found : Journals) (earlier : Programs) (script : List ℕ) → AreOwners house → AreFound house draws earlier found → AreAccountedFor house draws found earlier script found
-all_found_accounted house draws found earlier script owners founds = λ o owner at. (nothing_asked, found_accounted house draws script o owner (found o) (earlier o) (founds o owner at) (owners o owner at))
+pub all_found_accounted : (house : House) (draws : ℕ → ℕ → ℕ → ℕ) (found : Journals) (earlier : Explanations) (script : List ℕ) (replies : List Replied) → AreOwners house → AreFound house draws earlier found → AreAccountedFor house draws found earlier script replies found
+all_found_accounted house draws found earlier script replies owners founds = λ o owner at. (nothing_asked, found_accounted house draws script replies o owner (found o) (earlier o) (founds o owner at) (owners o owner at))
 
--- .. and owed, whatever programs are behind them.
+-- .. and owed, whatever sources are behind them.
 pub all_found_owed : (house : House) (found : Journals) → AreHistories house found → AreOwed house found found
 all_found_owed house found founds = λ o owner at.
     let f = founds o owner at in

@@ -11,8 +11,9 @@ use Rattle.journal_records.specs.declared.records.Outcome.{Outcome}
 use Rattle.journal_records.specs.declared.records.Reservation.{Reservation}
 use Rattle.journal_records.specs.declared.records.Settlement.{Settlement}
 use Rattle.journal_records.specs.declared.records.BudgetGrant.{BudgetGrant}
+use Rattle.journal_records.specs.declared.records.MadePartition.{MadePartition}
 use Rattle.journal_records.specs.declared.records.Record.{Record}
-use Rattle.journal_records.specs.declared.records.Record.TheVariants.{Reserve, Settle, Grant as Granted}
+use Rattle.journal_records.specs.declared.records.Record.TheVariants.{Reserve, Settle, Grant as Granted, Define}
 use Rattle.journal_records.specs.Records.{settling_back}
 use Rattle.budget_core.specs.declared.entry.Ask.{Ask}
 use Rattle.budget_core.specs.declared.entry.Grant.{Grant}
@@ -22,7 +23,7 @@ use Rattle.budget_core.specs.Ledger.{reservation_numbered, settlement_of, settle
 use Rattle.budget_core.proofs.Histories.{slice_get-append-lt}
 use Rattle.budget_core.proofs.Numbers.{outcome_past}
 use Rattle.session_core.specs.OwnerHouse.Owner.{Owner}
-use Rattle.session_core.specs.AnswerPath.Query.{Query}
+use Rattle.session_core.specs.AnswerPath.Query.{Query, Source, source_of}
 use Rattle.session_core.proofs.OwnerHistory.Grants.{verdict_grants}
 use Rattle.session_core.proofs.OwnerHistory.Prefixes.{prefix_by, prefix_trans, slice_get_prefix}
 use Rattle.session_core.specs.OwnerHouse.House.{House, IsOwnerIn}
@@ -81,11 +82,13 @@ abbrev settled_in : Settlement → Record → Settlement
 settled_in other (Reserve r) = other
 settled_in other (Settle s) = s
 settled_in other (Granted g) = other
+settled_in other (Define d) = other
 
 abbrev number_of : Record → ℕ
 number_of (Reserve r) = r.number
 number_of (Settle s) = s.number
 number_of (Granted g) = g.number
+number_of (Define d) = d.partition
 
 module _ (house : House) (draws : ℕ → ℕ → ℕ → ℕ) (spoken : List Turn) (count : ℕ) (crew : ℕ → ℕ) (o : ℕ) (owner : Owner) (found : List Record) (xs : List Exchange) (records : List Record)
     (here : slice_get house.owners o ≡ Some owner) (inside : IsOwnerIn house owner) (begun : IsHistory owner.entry found) (turns : map (λ (x : Exchange). x.turn) xs ≡ spoken) (known : AreKnown house spoken)
@@ -102,14 +105,14 @@ module _ (house : House) (draws : ℕ → ℕ → ℕ → ℕ) (spoken : List Tu
   abbrev made_at : (j : ℕ) (z : Told) (t : IsToldAt house o xs j z) → Reserves house draws o owner found records t.x
   made_at = reserves_at house draws count crew o owner found xs records here all
 
-  -- a place of the script and a program, of the line whose grant has this number
-  pub record IsSource (n : ℕ) (z : ℕ × List ℕ) : Type 0 where
+  -- a place of the script and a source, of the line whose grant has this number
+  pub record IsSource (n : ℕ) (z : ℕ × Source) : Type 0 where
     pub x : Exchange
     pub stands : slice_get xs z.0 ≡ Some x
     pub query : Query
     pub meant : meant_at house x.turn ≡ wants o owner (asks query)
     pub by : By query x
-    pub program : query.program ≡ z.1
+    pub source : source_of query ≡ z.1
     pub number : by.grant.number ≡ n
 
   -- how many reservations stand in all
@@ -149,15 +152,15 @@ module _ (house : House) (draws : ℕ → ℕ → ℕ → ℕ) (spoken : List Tu
       (subst (λ (p : ℕ). IsToldAt house o xs k (p, granted_record and.asking and.grant)) (sym place) (told_of_by k y other there means and))
 
   -- each new number has its line
-  pub source_of : (n : ℕ) → start ≤ n → n < total → (z : ℕ × List ℕ) × IsSource n z
-  source_of n low lt =
+  pub line_of : (n : ℕ) → start ≤ n → n < total → (z : ℕ × Source) × IsSource n z
+  line_of n low lt =
       let r = reservation_place records n lt in
       let past : length found ≤ r.0 = later r.0 r.1 r.2 r.3 in
       let e = once.each r.0 (Reserve r.1) past r.2 in
       let made = made_at e.0 (r.0, Reserve r.1) e.1 in
       let there = reserve_told (draws o) owner found records made.query e.1.x made.by r.0 r.1 e.1.has in
       let number : made.by.grant.number ≡ n = sym (number_below (draws o) owner found records made.query e.1.x made.by) ∙ ap (λ (q : ℕ). below records q) (sym there.0) ∙ r.3 in
-      ((e.0, made.query.program), record { x = e.1.x; stands = e.1.stands; query = made.query; meant = made.meant; by = made.by; program = refl; number = number })
+      ((e.0, source_of made.query), record { x = e.1.x; stands = e.1.stands; query = made.query; meant = made.meant; by = made.by; source = refl; number = number })
     where
       later : (q : ℕ) (s : Reservation) → slice_get records q ≡ Some (Reserve s) → below records q ≡ n → length found ≤ q
       later q s at counted = elim (cases_lt q (length found)) [
@@ -169,26 +172,26 @@ module _ (house : House) (draws : ℕ → ℕ → ℕ → ℕ) (spoken : List Tu
       ]
 
   pub behind_start : IsListed IsSource start (total - start)
-  behind_start = listed IsSource start (total - start) (λ i lt. source_of (start + i) (omega arith) (omega (arith, lt)))
+  behind_start = listed IsSource start (total - start) (λ i lt. line_of (start + i) (omega arith) (omega (arith, lt)))
 
   abbrev pub sources : Sources
-  sources = record { programs = map (λ (z : ℕ × List ℕ). z.1) behind_start.items; places = map (λ (z : ℕ × List ℕ). z.0) behind_start.items }
+  sources = record { behind = map (λ (z : ℕ × Source). z.1) behind_start.items; places = map (λ (z : ℕ × Source). z.0) behind_start.items }
 
-  pub sources_count : start + length sources.programs ≡ total
+  pub sources_count : start + length sources.behind ≡ total
   sources_count =
       let grow = counts_grow records all.begins in
-      omega (arith, grow, behind_start.len, length-map behind_start.items (λ (z : ℕ × List ℕ). z.1))
+      omega (arith, grow, behind_start.len, length-map behind_start.items (λ (z : ℕ × Source). z.1))
 
   same_query : (x : Exchange) (query other : Query) → meant_at house x.turn ≡ wants o owner (asks query) → meant_at house x.turn ≡ wants o owner (asks other) → query ≡ other
   same_query x query other meant means = let both : wants o owner (asks query) ≡ wants o owner (asks other) = sym meant ∙ means in cc
 
-  module _ (earlier : List (List ℕ)) (each_has : length earlier ≡ start) where
-    abbrev programs : List (List ℕ)
-    programs = earlier ++ sources.programs
+  module _ (earlier : List Source) (each_has : length earlier ≡ start) where
+    abbrev explaining : List Source
+    explaining = earlier ++ sources.behind
 
-    -- the program at a grant's number is its line's
-    pub program_at : (j : ℕ) (x : Exchange) (query : Query) → slice_get xs j ≡ Some x → meant_at house x.turn ≡ wants o owner (asks query) → (by : By query x) → slice_get programs by.grant.number ≡ Some query.program
-    program_at j x query at meant by =
+    -- the source at a grant's number is its line's
+    pub source_at : (j : ℕ) (x : Exchange) (query : Query) → slice_get xs j ≡ Some x → meant_at house x.turn ≡ wants o owner (asks query) → (by : By query x) → slice_get explaining by.grant.number ≡ Some (source_of query)
+    source_at j x query at meant by =
         let low = number_new query x by in
         let high = number_within query x by in
         let m : ℕ = by.grant.number - start in
@@ -198,9 +201,9 @@ module _ (house : House) (draws : ℕ → ℕ → ℕ → ℕ) (spoken : List Tu
         let both : Some s.x ≡ Some x = sym s.stands ∙ ap (λ k. slice_get xs k) place ∙ at in
         let same : s.x ≡ x = cc in
         let asked : s.query ≡ query = same_query x s.query query (subst (λ (y : Exchange). meant_at house y.turn ≡ wants o owner (asks s.query)) same s.meant) meant in
-        let there : slice_get sources.programs m ≡ Some query.program = mapped_at (λ (z : ℕ × List ℕ). z.1) behind_start.items m z.0 z.1 ∙ ap (λ (p : List ℕ). Some p) (sym s.program) ∙ ap (λ (q : Query). Some q.program) asked in
+        let there : slice_get sources.behind m ≡ Some (source_of query) = mapped_at (λ (z : ℕ × Source). z.1) behind_start.items m z.0 z.1 ∙ ap (λ (p : Source). Some p) (sym s.source) ∙ ap (λ (q : Query). Some (source_of q)) asked in
         let number : by.grant.number ≡ length earlier + m = omega (arith, low, each_has) in
-        ap (λ k. slice_get programs k) number ∙ slice_behind earlier sources.programs m ∙ there
+        ap (λ k. slice_get explaining k) number ∙ slice_behind earlier sources.behind m ∙ there
 
     -- no settlement of a grant stands before its own
     pub none_before : (j : ℕ) (x : Exchange) (query : Query) → slice_get xs j ≡ Some x → meant_at house x.turn ≡ wants o owner (asks query) → (by : By query x) → (done : IsSettledLater (draws o) owner found records query by.asking by.grant by.g x)
@@ -243,7 +246,7 @@ module _ (house : House) (draws : ℕ → ℕ → ℕ → ℕ) (spoken : List Tu
         (subst (AsksOnly house x.turn.who x.turn.line) meant (asks_only house x.turn.who x.turn.line)).1 who query refl
 
     came_reserved : (j : ℕ) (x : Exchange) (query : Query) → slice_get xs j ≡ Some x → meant_at house x.turn ≡ wants o owner (asks query) → (by : By query x) (r : Reservation) → Reserve r ≡ granted_record by.asking by.grant
-        → WasReserved owner start programs by.g r
+        → WasReserved owner start explaining by.g r
     came_reserved j x query at meant by r is = (
       query,
       query_within house owner inside x.turn.line o query (asked_of j x query at meant),
@@ -251,11 +254,11 @@ module _ (house : House) (draws : ℕ → ℕ → ℕ → ℕ) (spoken : List Tu
       by.grant,
       by.verdict,
       is,
-      ap (λ k. slice_get programs k) (sym (number_is (draws o) owner found records query x by)) ∙ program_at j x query at meant by,
+      ap (λ k. slice_get explaining k) (sym (number_is (draws o) owner found records query x by)) ∙ source_at j x query at meant by,
     )
 
     came_settled : (j : ℕ) (x : Exchange) (query : Query) → slice_get xs j ≡ Some x → meant_at house x.turn ≡ wants o owner (asks query) → (by : By query x) → (done : IsSettledLater (draws o) owner found records query by.asking by.grant by.g x)
-        → WasSettled owner (draws o) start programs done.u (settlement_of owner.entry done.u by.grant.number done.outcome)
+        → WasSettled owner (draws o) start explaining done.u (settlement_of owner.entry done.u by.grant.number done.outcome)
     came_settled j x query at meant by done =
         let v = verdict_grants owner start by.g query by.asking by.grant by.verdict in
         let r : Reservation = reservation_numbered by.grant.number by.asking by.grant.taken in
@@ -267,30 +270,30 @@ module _ (house : House) (draws : ℕ → ℕ → ℕ → ℕ) (spoken : List Tu
           ap (λ k. slice_get (reservations_of done.u) k) (sym number) ∙ listed_below done.u (length by.g) r seam.1,
           ap (λ (a : Ask). a.view) v.asks,
           ap (λ (a : Ask). a.e) v.asks,
-          program_at j x query at meant by,
+          source_at j x query at meant by,
           none_before j x query at meant by done,
           number_new query x by,
           refl,
         )
 
     -- Each new record came about by its line.
-    reserved_at : (k : ℕ) (r : Reservation) → length found ≤ k → slice_get records k ≡ Some (Reserve r) → WasReserved owner start programs (take k records) r
+    reserved_at : (k : ℕ) (r : Reservation) → length found ≤ k → slice_get records k ≡ Some (Reserve r) → WasReserved owner start explaining (take k records) r
     reserved_at k r past at =
         let e = once.each k (Reserve r) past at in
         let made = made_at e.0 (k, Reserve r) e.1 in
         let there = reserve_told (draws o) owner found records made.query e.1.x made.by k r e.1.has in
         let before : take k records ≡ made.by.g = ap (λ (n : ℕ). take n records) there.0 ∙ (prefix_seam made.by.g (granted_record made.by.asking made.by.grant) records made.by.stands).0 in
-        subst (λ (w : List Record). WasReserved owner start programs w r) (sym before) (came_reserved e.0 e.1.x made.query e.1.stands made.meant made.by r there.1)
+        subst (λ (w : List Record). WasReserved owner start explaining w r) (sym before) (came_reserved e.0 e.1.x made.query e.1.stands made.meant made.by r there.1)
 
-    settled_so : (k : ℕ) (s : Settlement) → length found ≤ k → slice_get records k ≡ Some (Settle s) → WasSettled owner (draws o) start programs (take k records) s
+    settled_so : (k : ℕ) (s : Settlement) → length found ≤ k → slice_get records k ≡ Some (Settle s) → WasSettled owner (draws o) start explaining (take k records) s
     settled_so k s past at =
         let e = once.each k (Settle s) past at in
         let made = made_at e.0 (k, Settle s) e.1 in
         let t = settle_told (draws o) owner found records made.query e.1.x made.by k s.number s.outcome s.returned e.1.has in
         let before : take k records ≡ t.done.u = ap (λ (m : ℕ). take m records) t.place ∙ (prefix_seam t.done.u (settlement_for owner.entry t.done.u made.by.grant.number t.done.outcome) records t.done.stands).0 in
         let same : s ≡ settlement_of owner.entry t.done.u made.by.grant.number t.done.outcome = ap (settled_in s) t.is in
-        subst (λ (z : Settlement). WasSettled owner (draws o) start programs (take k records) z) (sym same)
-        (subst (λ (w : List Record). WasSettled owner (draws o) start programs w (settlement_of owner.entry t.done.u made.by.grant.number t.done.outcome)) (sym before) (came_settled e.0 e.1.x made.query e.1.stands made.meant made.by t.done))
+        subst (λ (z : Settlement). WasSettled owner (draws o) start explaining (take k records) z) (sym same)
+        (subst (λ (w : List Record). WasSettled owner (draws o) start explaining w (settlement_of owner.entry t.done.u made.by.grant.number t.done.outcome)) (sym before) (came_settled e.0 e.1.x made.query e.1.stands made.meant made.by t.done))
 
     -- no line makes a grant
     none_granted : (k : ℕ) (g : BudgetGrant) → length found ≤ k → slice_get records k ≡ Some (Granted g) → ⊥
@@ -302,15 +305,28 @@ module _ (house : House) (draws : ℕ → ℕ → ℕ → ℕ) (spoken : List Tu
           | inr settled ↦ let both = ap (λ (z : Told). z.1) settled.1 in cc both
         ]
 
-    pub came_at : (k : ℕ) (next : Record) → length found ≤ k → slice_get records k ≡ Some next → CameBy owner (draws o) start programs (take k records) next
+    -- nor a partition
+    none_made : (k : ℕ) (d : MadePartition) → length found ≤ k → slice_get records k ≡ Some (Define d) → ⊥
+    none_made k d past at =
+        let e = once.each k (Define d) past at in
+        let made = made_at e.0 (k, Define d) e.1 in
+        elim (told_by (draws o) owner found records made.query e.1.x made.by (k, Define d) e.1.has) [
+          | inl is ↦ let both : Define d ≡ granted_record made.by.asking made.by.grant = ap (λ (z : Told). z.1) is in cc both
+          | inr settled ↦ let both = ap (λ (z : Told). z.1) settled.1 in cc both
+        ]
+
+    pub came_at : (k : ℕ) (next : Record) → length found ≤ k → slice_get records k ≡ Some next → CameBy owner (draws o) start explaining (take k records) next
     came_at k (Reserve r) past at = (
-      λ q is. let same : r ≡ q = cc (is) in subst (λ (z : Reservation). WasReserved owner start programs (take k records) z) same (reserved_at k r past at),
+      λ q is. let same : r ≡ q = cc (is) in subst (λ (z : Reservation). WasReserved owner start explaining (take k records) z) same (reserved_at k r past at),
       λ s is. absurd (cc (is)),
+      refl,
       refl,
     )
     came_at k (Settle s) past at = (
       λ q is. absurd (cc (is)),
-      λ t is. let same : s ≡ t = cc (is) in subst (λ (z : Settlement). WasSettled owner (draws o) start programs (take k records) z) same (settled_so k s past at),
+      λ t is. let same : s ≡ t = cc (is) in subst (λ (z : Settlement). WasSettled owner (draws o) start explaining (take k records) z) same (settled_so k s past at),
+      refl,
       refl,
     )
     came_at k (Granted g) past at = absurd (none_granted k g past at)
+    came_at k (Define d) past at = absurd (none_made k d past at)

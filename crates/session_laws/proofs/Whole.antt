@@ -109,15 +109,15 @@ module _ (house : House) (draws : ℕ → ℕ → ℕ → ℕ) (count : ℕ) (cr
 pub whole_transcript : (house : House) (draws : ℕ → ℕ → ℕ → ℕ) (found : Journals) (script : List ℕ) (crew : ℕ → ℕ) (xs : List Exchange) (records : Journals) (closed : ℕ → Option Failure)
     → IsGatheredScript house draws 1 crew found script xs records → ((o : ℕ) (owner : Owner) → slice_get house.owners o ≡ Some owner → AreShut house draws 1 crew o xs (closed o))
     → ((o : ℕ) (owner : Owner) → slice_get house.owners o ≡ Some owner → closed o ≡ None) → ((k : ℕ) (x : Exchange) → slice_get xs k ≡ Some x → HadMemoryFor (WantsTooManyWalks (meant_at house x.turn)) x.reply)
-    → NothingFailedAt house (turns_of house script) (map (λ (x : Exchange). x.reply) xs)
-    × ((replies : List Replied) (last : Journals) → IsScriptRun house draws found script replies last → NothingFailedAt house (turns_of house script) replies
+    → NothingFailedAt house (turns_of house script (map (λ (x : Exchange). x.reply) xs)) (map (λ (x : Exchange). x.reply) xs)
+    × ((replies : List Replied) (last : Journals) → IsScriptRun house draws found script replies last → NothingFailedAt house (turns_of house script replies) replies
     → (map (λ (x : Exchange). x.reply) xs ≡ replies) × ((o : ℕ) (owner : Owner) → slice_get house.owners o ≡ Some owner → records o ≡ last o))
 whole_transcript house draws found script crew xs records closed all shut unshut had = (
   nothing,
   λ replies last run none. runs_once house draws found script (map (λ (x : Exchange). x.reply) xs) replies records last (transcript_of house draws found script crew xs records all) run nothing none,
 )
   where
-    nothing : NothingFailedAt house (turns_of house script) (map (λ (x : Exchange). x.reply) xs)
+    nothing : NothingFailedAt house (turns_of house script (map (λ (x : Exchange). x.reply) xs)) (map (λ (x : Exchange). x.reply) xs)
     nothing =
         subst (λ (ts : List Turn). NothingFailedAt house ts (map (λ (x : Exchange). x.reply) xs)) all.turns
         (all_of house xs (nothing_failed_at house draws 1 crew found xs records closed all.plain all.owners shut unshut had))

@@ -1,6 +1,7 @@
 -- What a crew of workers did with a script.
 use Rattle.std.specs.Prelude.{◌≡◌, ℕ, ◌<◌, List, ◌++◌, length, map, sum_by, slice_get, Some}
 use Rattle.journal_records.specs.declared.records.Record.{Record}
+use Rattle.wire_lines.specs.Lines.{lines_of}
 use Rattle.wire_lines.specs.Reply.{Replied}
 use Rattle.session_core.specs.OwnerHouse.Owner.{Owner}
 use Rattle.session_core.specs.OwnerHouse.House.{House}
@@ -26,9 +27,9 @@ pub record AreJoined (house : House) (draws : ℕ → ℕ → ℕ → ℕ) (coun
 pub record AreDone (house : House) (draws : ℕ → ℕ → ℕ → ℕ) (count : ℕ) (crew : ℕ → ℕ) (found : Journals) (script : List ℕ)
     (parts : ℕ → List Exchange) (replies : List Replied) (records : Journals) : Type 0 where
   pub crews : (at : ℕ) → crew at < count
-  pub turns : (i : ℕ) → i < count → map (λ x. x.turn) (parts i) ≡ part_of crew i 0 (turns_of house script)
+  pub turns : (i : ℕ) → i < count → map (λ x. x.turn) (parts i) ≡ part_of crew i 0 (turns_of house script replies)
   pub plain : (i : ℕ) → i < count → ArePlain house (parts i)
-  pub each_has : length replies ≡ length (turns_of house script)
+  pub each_has : length replies ≡ length (lines_of script)
   pub replied : (i : ℕ) → i < count → part_of crew i 0 replies ≡ map (λ x. x.reply) (parts i)
   pub owners : (o : ℕ) (owner : Owner) → slice_get house.owners o ≡ Some owner → AreJoined house draws count parts o (found o) (records o)
 

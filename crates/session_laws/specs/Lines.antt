@@ -2,6 +2,7 @@
 use Rattle.std.specs.Prelude.{◌≡◌, ℕ, List, ◌++◌, map}
 use Rattle.std.specs.List.{AllByRecursion}
 use Rattle.journal_records.specs.declared.records.Record.{Record}
+use Rattle.session_core.specs.AnswerPath.Query.{Source}
 use Rattle.session_core.specs.OwnerHouse.Owner.{Owner}
 use Rattle.session_core.specs.OwnerHouse.House.{House}
 use Rattle.session_core.specs.OwnerHistory.Sound.{IsBacked}
@@ -19,12 +20,12 @@ AreKnown house turns = AllByRecursion (λ turn. IsAnalyst house turn.who) turns
 abbrev pub AreOfTurns : List Turn → List Exchange → Type 0
 AreOfTurns turns xs = map (λ x. x.turn) xs ≡ turns
 
--- These exchanges, by so many workers of whom each has its places, keep the promises to the owner of this number: programs that turns
+-- These exchanges, by so many workers of whom each has its places, keep the promises to the owner of this number: sources that turns
 -- of theirs ask, each turn at most once, stand behind its new records as the earlier ones do behind those found, and the records bear
 -- out the replies. (`IsHonoured` is the same of a script's turns.)
 pub record AreHonoured (house : House) (draws : ℕ → ℕ → ℕ → ℕ) (turns : List Turn) (count : ℕ) (crew : ℕ → ℕ) (o : ℕ) (owner : Owner)
-    (found : List Record) (earlier : List (List ℕ)) (xs : List Exchange) (records : List Record) : Type 0 where
+    (found : List Record) (earlier : List Source) (xs : List Exchange) (records : List Record) : Type 0 where
   pub sources : Sources
-  pub backed : IsBacked owner (draws o) found (earlier ++ sources.programs) records
+  pub backed : IsBacked owner (draws o) found (earlier ++ sources.behind) records
   pub asked : AreAskedBy house o owner turns sources
   pub replied : IsReplied house draws count crew o found earlier sources xs records

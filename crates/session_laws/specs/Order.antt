@@ -29,6 +29,7 @@ use Rattle.session_core.specs.AnswerPath.Query.{Query}
 use Rattle.session_core.specs.AnswerPath.Reading.{unlexed, stuck, nested, read, IsReading}
 use Rattle.session_core.specs.AnswerPath.Verdict.{Verdict, program_refused, money_refused, granted, ask_for, IsVerdict}
 use Rattle.session_core.specs.AnswerPath.Demand.{asks}
+use Rattle.session_core.specs.Speakers.{Speaker}
 use Rattle.session_core.specs.Meant.{Subject, says, wants, whole_named, part_named, meant_by}
 
 -- what a line that asks says: what it looks at, as far as its names are known; at which epsilon; and its program
@@ -88,7 +89,7 @@ pub record IsAsking (who : Option ℕ) (question : Question) (subject : Subject)
   pub speaks : who ≡ Some analyst
   pub epsilon : question.epsilon ≡ Some e
   pub charged : IsCharged (signature_of_view subject.owner subject.view) question.program p q
-  pub is : asking ≡ ask_for (record { analyst = analyst; view = subject.view; e = e; program = question.program }) p q
+  pub is : asking ≡ ask_for (record { analyst = analyst; view = subject.view; e = e; program = question.program; made = None }) p q
 
 -- 40: the cost would be over the budget. 41: there is no room for what is open and for two records more. 43: what the analyst would have
 -- spent is over its limit.
@@ -118,7 +119,7 @@ CouldRefuse who question start records no_memory = ⊥
 -- ---- who does
 
 -- the line comes to a query, on which this is the verdict
-pub record IsJudgedAs (house : House) (who : Option ℕ) (line : List ℕ) (start : ℕ → ℕ) (records : ℕ → List Record) (verdict : Verdict) : Type 0 where
+pub record IsJudgedAs (house : House) (who : Speaker) (line : List ℕ) (start : ℕ → ℕ) (records : ℕ → List Record) (verdict : Verdict) : Type 0 where
   pub number : ℕ
   pub owner : Owner
   pub query : Query
@@ -126,7 +127,7 @@ pub record IsJudgedAs (house : House) (who : Option ℕ) (line : List ℕ) (star
   pub verdict_is : IsVerdict owner.entry (signature_of_view owner query.view) (start number) (records number) query verdict
 
 -- the line is refused so: by itself, for its program, or by the budget
-abbrev pub IsRefusedWith : House → (who : Option ℕ) → (line : List ℕ) → (start : ℕ → ℕ) → (records : ℕ → List Record) → Refusal → Type 0
+abbrev pub IsRefusedWith : House → (who : Speaker) → (line : List ℕ) → (start : ℕ → ℕ) → (records : ℕ → List Record) → Refusal → Type 0
 IsRefusedWith house who line start records (by_line refusal) = meant_by house who line ≡ says (refused (by_line refusal)) who
 IsRefusedWith house who line start records (by_program refusal) = IsJudgedAs house who line start records (program_refused refusal)
 IsRefusedWith house who line start records (by_money refusal) = IsJudgedAs house who line start records (money_refused refusal)
@@ -136,13 +137,13 @@ IsRefusedWith house who line start records no_memory = ⊥
 
 -- A refusal is one that could come, and of all that could come it has the least code.
 abbrev pub LeastCodeRefuses : Type 0
-LeastCodeRefuses = (house : House) (who : Option ℕ) (line : List ℕ) (question : Question) (start : ℕ → ℕ) (records : ℕ → List Record) (refusal : Refusal)
+LeastCodeRefuses = (house : House) (who : Speaker) (line : List ℕ) (question : Question) (start : ℕ → ℕ) (records : ℕ → List Record) (refusal : Refusal)
     → IsQuestion house line question → IsRefusedWith house who line start records refusal
-    → CouldRefuse who question start records refusal
-    × ((other : Refusal) → CouldRefuse who question start records other → code_of refusal ≤ code_of other)
+    → CouldRefuse who.analyst question start records refusal
+    × ((other : Refusal) → CouldRefuse who.analyst question start records other → code_of refusal ≤ code_of other)
 
 -- What is granted nobody could refuse.
 abbrev pub GrantsAreUnopposed : Type 0
-GrantsAreUnopposed = (house : House) (who : Option ℕ) (line : List ℕ) (question : Question) (start : ℕ → ℕ) (records : ℕ → List Record)
+GrantsAreUnopposed = (house : House) (who : Speaker) (line : List ℕ) (question : Question) (start : ℕ → ℕ) (records : ℕ → List Record)
     (asking : Ask) (grant : Grant) → IsQuestion house line question → IsJudgedAs house who line start records (granted asking grant)
-    → (other : Refusal) → CouldRefuse who question start records other → ⊥
+    → (other : Refusal) → CouldRefuse who.analyst question start records other → ⊥

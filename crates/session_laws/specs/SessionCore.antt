@@ -1,5 +1,6 @@
 -- What the crates above read of session_core, passed on to them.
 
+pub use Rattle.session_core.specs.Speakers
 pub use Rattle.session_core.specs.Meant
 pub use Rattle.session_core.specs.Turns
 pub use Rattle.session_core.specs.Exchanges

@@ -12,15 +12,15 @@ ghost use Rattle.wire_lines.specs.Reply.{Replied};
 ghost use Rattle.session_core.specs.OwnerHouse.Owner.{Owner};
 ghost use Rattle.session_core.specs.OwnerHouse.House.{House, IsOwnerIn, AreOwners};
 ghost use Rattle.session_core.specs.OwnerDesk.Passes.{Pass};
-ghost use Rattle.session_core.specs.AnswerPath.Query.{Query};
+ghost use Rattle.session_core.specs.AnswerPath.Query.{Query, Source};
 ghost use Rattle.session_core.specs.AnswerPath.Answered.{granted_record};
 ghost use Rattle.session_core.specs.OwnerHistory.Sound.{IsFound, MayBeFound, IsOwed};
 ghost use Rattle.session_core.specs.Turns.{Turn, meant_at, turns_of};
-ghost use Rattle.session_core.specs.Exchanges.{Exchange};
+ghost use Rattle.session_core.specs.Exchanges.{Exchange, AreOfScript};
 ghost use Rattle.session_core.specs.Transcript.{Journals, first_new, ClosesOn, LeadExactly, IsScriptRun};
 ghost use Rattle.session_core.specs.Served.{Sources, AnswersOn};
-ghost use Rattle.session_core.specs.Gathered.{AreGathered, AreOfScript, AreShut, IsAnsweredOn, IsGatheredScript, one_worker, part_of};
-ghost use Rattle.session_core.specs.Headline.{Programs, AreAccountedFor, AreFound, AreHistories, AreOwed, Headline, IsHonoured};
+ghost use Rattle.session_core.specs.Gathered.{AreGathered, AreShut, IsAnsweredOn, IsGatheredScript, one_worker, part_of};
+ghost use Rattle.session_core.specs.Headline.{Explanations, AreAccountedFor, AreFound, AreHistories, AreOwed, Headline, IsHonoured};
 ghost use Rattle.session_core.specs.Said.{NothingFailedAt};
 ghost use Rattle.session_core.specs.Blocks.{AreDealt, crew_of, script_blocks};
 ghost use Rattle.session_core.specs.Worked.{HasWorked, IsBroughtIn};
@@ -37,22 +37,22 @@ ghost use Rattle.session_laws.specs.Order.{LeastCodeRefuses, GrantsAreUnopposed}
 ghost use Rattle.session_laws.specs.Walks.{AreWalksTold};
 
 /// A script's exchanges, by any number of workers in any order, keep the promises to each owner: legal records within the budget,
-/// explained by the programs of the script's lines behind those of the records that were found, each line's reply the stated
+/// explained by the sources of the script's lines behind those of the records that were found, each line's reply the stated
 /// one, and against any second dataset a displacement of at most cost times distance. It is so of every house, and of whatever
 /// legal and explained records were found.
 pub fn every_script_keeps_the_headline()
-    ensures { (house : House) (draws : ℕ → ℕ → ℕ → ℕ) (found : Journals) (earlier : Programs) (script : List ℕ) (count : ℕ) (crew : ℕ → ℕ) →
+    ensures { (house : House) (draws : ℕ → ℕ → ℕ → ℕ) (found : Journals) (earlier : Explanations) (script : List ℕ) (count : ℕ) (crew : ℕ → ℕ) →
         (xs : List Exchange) (records : Journals) →
         AreOwners house → AreFound house draws earlier found → IsGatheredScript house draws count crew found script xs records →
         Headline house draws found earlier script count crew xs records }
 {}
 
 /// Lines of any turns whose speakers the house knows, of scripts or of sessions, by any number of workers in any order, keep the
-/// promises to an owner, and what is owed to it, whatever programs are behind the records found; and each new record came about by one of
+/// promises to an owner, and what is owed to it, whatever sources are behind the records found; and each new record came about by one of
 /// them. A script's turns are such.
 pub fn lines_keep_the_promises()
     ensures kept { (house : House) (draws : ℕ → ℕ → ℕ → ℕ) (turns : List Turn) (count : ℕ) (crew : ℕ → ℕ) (o : ℕ) (owner : Owner) →
-        (found : List Record) (earlier : List (List ℕ)) (xs : List Exchange) (records : List Record) →
+        (found : List Record) (earlier : List Source) (xs : List Exchange) (records : List Record) →
         slice_get house.owners o ≡ Some owner → IsOwnerIn house owner → IsFound owner (draws o) earlier found →
         AreKnown house turns → AreOfTurns turns xs → AreGathered house draws count crew o found xs records →
         AreHonoured house draws turns count crew o owner found earlier xs records }
@@ -61,14 +61,14 @@ pub fn lines_keep_the_promises()
         slice_get house.owners o ≡ Some owner → IsOwnerIn house owner → MayBeFound owner found →
         AreKnown house turns → AreOfTurns turns xs → AreGathered house draws count crew o found xs records → IsOwed owner found records }
     ensures came_about { (house : House) (draws : ℕ → ℕ → ℕ → ℕ) (turns : List Turn) (count : ℕ) (crew : ℕ → ℕ) (o : ℕ) (owner : Owner) →
-        (found : List Record) (earlier : List (List ℕ)) (xs : List Exchange) (records : List Record) →
+        (found : List Record) (earlier : List Source) (xs : List Exchange) (records : List Record) →
         slice_get house.owners o ≡ Some owner → IsOwnerIn house owner → IsHistory owner.entry found → length earlier ≡ first_new found →
         AreKnown house turns → AreOfTurns turns xs → AreGathered house draws count crew o found xs records →
-        (sources : Sources) × AllCameBy owner (draws o) found (earlier ++ sources.programs) records }
-    ensures scripts { (house : House) (script : List ℕ) → AreKnown house (turns_of house script) }
+        (sources : Sources) × AllCameBy owner (draws o) found (earlier ++ sources.behind) records }
+    ensures scripts { (house : House) (script : List ℕ) (replies : List Replied) → AreKnown house (turns_of house script replies) }
 {}
 
-/// Whatever records were found, by whatever programs, those after a script are legal and within the budget.
+/// Whatever records were found, by whatever sources, those after a script are legal and within the budget.
 pub fn every_script_is_owed()
     ensures { (house : House) (draws : ℕ → ℕ → ℕ → ℕ) (found : Journals) (script : List ℕ) (count : ℕ) (crew : ℕ → ℕ) →
         (xs : List Exchange) (records : Journals) →
@@ -77,11 +77,11 @@ pub fn every_script_is_owed()
 {}
 
 /// Where nothing was answered, the records that were found keep what is owed at every status: they are legal and within the
-/// budget, and where programs explain them, these are behind all of them.
+/// budget, and where sources explain them, these are behind all of them.
 pub fn found_records_are_owed()
     ensures owed { (house : House) (found : Journals) → AreHistories house found → AreOwed house found found }
-    ensures accounted { (house : House) (draws : ℕ → ℕ → ℕ → ℕ) (found : Journals) (earlier : Programs) (script : List ℕ) →
-        AreOwners house → AreFound house draws earlier found → AreAccountedFor house draws found earlier script found }
+    ensures accounted { (house : House) (draws : ℕ → ℕ → ℕ → ℕ) (found : Journals) (earlier : Explanations) (script : List ℕ) (replies : List Replied) →
+        AreOwners house → AreFound house draws earlier found → AreAccountedFor house draws found earlier script replies found }
 {}
 
 /// Lines that were served by passes on books just opened, and lines that so many workers answered by halves of such passes, each at its own
@@ -125,7 +125,7 @@ pub fn one_transcript()
     ensures { (house : House) (draws : ℕ → ℕ → ℕ → ℕ) (found : Journals) (script : List ℕ) (replies others : List Replied) →
         (last end : Journals) →
         IsScriptRun house draws found script replies last → IsScriptRun house draws found script others end →
-        NothingFailedAt house (turns_of house script) replies → NothingFailedAt house (turns_of house script) others →
+        NothingFailedAt house (turns_of house script replies) replies → NothingFailedAt house (turns_of house script others) others →
         (replies ≡ others) × ((o : ℕ) (owner : Owner) → slice_get house.owners o ≡ Some owner → last o ≡ end o) }
 {}
 
@@ -134,7 +134,7 @@ pub fn one_transcript()
 pub fn scripts_have_transcripts()
     ensures { (house : House) (draws : ℕ → ℕ → ℕ → ℕ) (found : Journals) (script : List ℕ) → AreOwners house →
         (replies : List Replied) × (last : Journals) × IsScriptRun house draws found script replies last ×
-        NothingFailedAt house (turns_of house script) replies }
+        NothingFailedAt house (turns_of house script replies) replies }
 {}
 
 /// Who is told 42 or 52 is told of the failure that shut the owner's book, and one line is told 52 where it is shut.
@@ -143,7 +143,7 @@ pub fn disk_refusals_have_causes()
         AreShut house draws count crew o xs closed → AreCaused house draws o xs closed }
 {}
 
-/// Records that came about line by line, in any order, are explained by the lines' programs.
+/// Records that came about line by line, in any order, are explained by the lines' sources.
 pub fn what_came_about_is_explained()
     ensures { CameAboutIsExplained }
 {}
@@ -155,21 +155,21 @@ pub fn each_record_is_told_once()
         AreGathered house draws count crew o found xs records → AreToldOnce house o xs found records }
 {}
 
-/// Each record behind those found came about on just those before it, by the programs of lines, whatever programs are behind
+/// Each record behind those found came about on just those before it, by the sources of lines, whatever sources are behind
 /// those found.
 pub fn each_record_came_about()
     ensures { (house : House) (draws : ℕ → ℕ → ℕ → ℕ) (script : List ℕ) (count : ℕ) (crew : ℕ → ℕ) (o : ℕ) (owner : Owner) →
-        (found : List Record) (earlier : List (List ℕ)) (xs : List Exchange) (records : List Record) →
+        (found : List Record) (earlier : List Source) (xs : List Exchange) (records : List Record) →
         slice_get house.owners o ≡ Some owner → IsOwnerIn house owner → IsHistory owner.entry found → length earlier ≡ first_new found →
         AreOfScript house script xs → AreGathered house draws count crew o found xs records →
-        (sources : Sources) × AllCameBy owner (draws o) found (earlier ++ sources.programs) records }
+        (sources : Sources) × AllCameBy owner (draws o) found (earlier ++ sources.behind) records }
 {}
 
-/// What several workers made of an owner's records keeps the promises to the owner, and is owed, whatever programs are behind
+/// What several workers made of an owner's records keeps the promises to the owner, and is owed, whatever sources are behind
 /// the records found.
 pub fn gathered_records_are_kept()
     ensures kept { (house : House) (draws : ℕ → ℕ → ℕ → ℕ) (script : List ℕ) (count : ℕ) (crew : ℕ → ℕ) (o : ℕ) (owner : Owner) →
-        (found : List Record) (earlier : List (List ℕ)) (xs : List Exchange) (records : List Record) →
+        (found : List Record) (earlier : List Source) (xs : List Exchange) (records : List Record) →
         slice_get house.owners o ≡ Some owner → IsOwnerIn house owner → IsFound owner (draws o) earlier found →
         AreOfScript house script xs → AreGathered house draws count crew o found xs records →
         IsHonoured house draws script count crew o owner found earlier xs records }
@@ -210,9 +210,9 @@ pub fn whole_scripts_are_transcribed()
         ((o : ℕ) (owner : Owner) → slice_get house.owners o ≡ Some owner → AreShut house draws 1 crew o xs (closed o)) →
         ((o : ℕ) (owner : Owner) → slice_get house.owners o ≡ Some owner → closed o ≡ None) →
         ((place : ℕ) (x : Exchange) → slice_get xs place ≡ Some x → HadMemoryFor (WantsTooManyWalks (meant_at house x.turn)) x.reply) →
-        NothingFailedAt house (turns_of house script) (map (λ x. x.reply) xs)
+        NothingFailedAt house (turns_of house script (map (λ x. x.reply) xs)) (map (λ x. x.reply) xs)
         × ((replies : List Replied) (last : Journals) → IsScriptRun house draws found script replies last →
-        NothingFailedAt house (turns_of house script) replies →
+        NothingFailedAt house (turns_of house script replies) replies →
         (map (λ x. x.reply) xs ≡ replies) × ((o : ℕ) (owner : Owner) → slice_get house.owners o ≡ Some owner → records o ≡ last o)) }
 {}
 

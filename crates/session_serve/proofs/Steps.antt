@@ -1,5 +1,5 @@
 -- the steps of a session
-use Rattle.std.proofs.Common.{◌≡◌, ◌≢◌, ℕ, zero, suc, ◌+◌, ◌-◌, ◌<◌, ◌≤◌, Bool, true, false, List, [], ◌∷◌, ◌++◌, length, get_or, take, Option, Some, None, refl, sym, ◌∙◌, ap, subst, arith, append-nil, append_assoc, length-append, inl, inr}
+use Rattle.std.proofs.Common.{◌≡◌, ◌≢◌, ℕ, zero, suc, ◌+◌, ◌-◌, ◌<◌, ◌≤◌, Bool, true, false, List, [], ◌∷◌, ◌++◌, length, get_or, take, Some, refl, sym, ◌∙◌, ap, subst, arith, append-nil, append_assoc, length-append, inl, inr}
 use Rattle.std.specs.Prelude.{Result, Ok, Err, IsErr}
 use Rattle.std.proofs.lemmas.List.{take_more}
 use Rattle.std.specs.Io.KnownBytes.{IsAtEnd}
@@ -12,17 +12,17 @@ use Rattle.wire_lines.specs.Lines.{lf, without_cr, lines_of}
 use Rattle.wire_lines.specs.Reply.{Replied, reply_text}
 use Rattle.session_core.specs.OwnerDesk.Passes.{Pass}
 use Rattle.session_core.specs.OwnerHouse.House.{House}
-use Rattle.session_core.specs.Turns.{is_bye}
+use Rattle.session_core.specs.Speakers.{Speaker, no_speaker}
+use Rattle.session_core.specs.Turns.{is_bye, who_after, who_behind}
 use Rattle.session_core.specs.Exchanges.{Exchange}
 use Rattle.session_core.proofs.Exchanges.{all_append}
 use Rattle.session_core.specs.Bundles.{Bundle}
-use Rattle.session_core.specs.Code.{who_behind}
 use Rattle.session_serve.specs.Session.{AreWhole, HasNoEnd, AreNoBye, EndsInLine, EndsWithBye, HasAnswered, IsCutShort, reply_texts, HasEnded, IsSession, session_limit}
-use Rattle.session_serve.specs.Code.{Keeps, speaker, IsTold, IsLineAnswered, GoesOnWith, HasParted, HasBroken, Leads}
+use Rattle.session_serve.specs.Code.{Keeps, IsTold, IsLineAnswered, GoesOnWith, HasParted, HasBroken, Leads}
 use Rattle.session_serve.specs.declared.serve.SessionEnd.TheVariants.{Bye, EndOfInput, ReadFault, WriteFault, TooLong, NoMemory}
 use Rattle.session_serve.specs.declared.serve.Session.{Session}
 use Rattle.session_serve.proofs.Whole.{lines_whole, line_ended, line_at_end, no_end_push, no_lines_yet}
-use Rattle.session_serve.proofs.Answered.{texts_push, speaker_push, answered_none, answered_next}
+use Rattle.session_serve.proofs.Answered.{texts_push, who_push, answered_none, answered_long, answered_next}
 
 -- a piece, cut at one of its bytes
 piece_cut : (piece : List ℕ) (i b : ℕ) → i < length piece → b ≡ get_or piece i 0 → (rest : List ℕ) × (piece ≡ take i piece ++ ((b ∷ []) ++ rest))
@@ -40,7 +40,7 @@ still_here desks now after here is = ap (λ (b : Bundle). b.locks) is ∙ here
 
 module _ (house : House) (draws : ℕ → ℕ → ℕ → ℕ) where
   -- nothing was given yet
-  pub goes_first : (start : List Pass) (begin : Connection) (session : Session) → session.who ≡ None → Keeps session.line [] → GoesOnWith house draws start begin [] session begin start
+  pub goes_first : (start : List Pass) (begin : Connection) (session : Session) → session.who ≡ no_speaker → Keeps session.line [] → GoesOnWith house draws start begin [] session begin start
   goes_first start begin session nobody empty = record {
     answered = [];
     raw = [];
@@ -50,7 +50,7 @@ module _ (house : House) (draws : ℕ → ℕ → ℕ → ℕ) where
     unended = tt;
     no_bye = subst (λ (ls : List (List ℕ)). AreNoBye ls) (sym no_lines_yet) tt;
     told = answered_none house draws start;
-    speaks = nobody ∙ sym (ap (λ (ls : List (List ℕ)). speaker house None ls) no_lines_yet);
+    speaks = nobody ∙ sym (ap (λ (ls : List (List ℕ)). who_after house no_speaker ls []) no_lines_yet);
     keeps = empty;
     took = taken_none begin.written begin.written refl;
     faults = refl;
@@ -76,20 +76,21 @@ module _ (house : House) (draws : ℕ → ℕ → ℕ → ℕ) where
     }
 
     -- a line that has ended is answered: what is said then
-    module _ (given more text : List ℕ) (session : Session) (next : Option ℕ) (now after : Connection) (passes later : List Pass) (result : Result Bool Failed)
+    module _ (given more text : List ℕ) (session : Session) (next : Speaker) (now after : Connection) (passes later : List Pass) (result : Result Bool Failed)
         (g : GoesOnWith house draws start begin given session now passes) (one : lines_of more ≡ text ∷ [])
         (r : IsLineAnswered house draws result text session.who next now after passes later) where
       pub answered_more : HasAnswered house draws (g.answered ++ more) (g.replies ++ r.x.reply ∷ []) start later
       answered_more = answered_next house draws g.answered more text g.replies start passes later r.x g.told g.whole one
-          (r.turn ∙ ap (λ (w : Option ℕ). record { who = w; line = text }) g.speaks) r.served
+          (r.turn ∙ ap (λ (w : Speaker). record { who = w; line = text }) g.speaks) r.served
 
       pub lines_more : lines_of (g.answered ++ more) ≡ lines_of g.answered ++ text ∷ []
       lines_more = lines_whole g.answered more g.whole ∙ ap (λ (ls : List (List ℕ)). lines_of g.answered ++ ls) one
 
-      pub speaks_more : next ≡ speaker house None (lines_of (g.answered ++ more))
+      pub speaks_more : next ≡ who_after house no_speaker (lines_of (g.answered ++ more)) (g.replies ++ r.x.reply ∷ [])
       speaks_more =
-          r.next ∙ ap (λ (w : Option ℕ). who_behind house w text) g.speaks ∙ sym (speaker_push house None (lines_of g.answered) text)
-          ∙ sym (ap (λ (ls : List (List ℕ)). speaker house None ls) lines_more)
+          r.next ∙ ap (λ (w : Speaker). who_behind house w text r.x.reply) g.speaks
+          ∙ sym (who_push house (lines_of g.answered) text g.replies r.x.reply (answered_long house draws g.answered g.replies start passes g.told))
+          ∙ sym (ap (λ (ls : List (List ℕ)). who_after house no_speaker ls (g.replies ++ r.x.reply ∷ [])) lines_more)
 
       pub no_bye_more : is_bye text ≡ false → AreNoBye (lines_of (g.answered ++ more))
       no_bye_more other = subst (λ (ls : List (List ℕ)). AreNoBye ls) (sym lines_more) (all_append (λ (l : List ℕ). is_bye l ≡ false) (lines_of g.answered) (text ∷ []) g.no_bye (other, tt))

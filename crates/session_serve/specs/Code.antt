@@ -1,5 +1,5 @@
 -- What the code of a session keeps.
-use Rattle.std.specs.Prelude.{◌≡◌, ℕ, ◌<◌, List, [], ◌∷◌, ◌++◌, length, take, Option, None, Result, Ok, Err, Bool, true, false, MatchBool}
+use Rattle.std.specs.Prelude.{◌≡◌, ℕ, ◌<◌, List, [], ◌∷◌, ◌++◌, length, take, Result, Ok, Err, Bool, true, false, MatchBool}
 use Rattle.fz_outside.specs.Faults.{HasRisen}
 use Rattle.fz_outside.specs.declared.Failed.{Failed}
 use Rattle.outside_links.specs.Links.{Connection, HasTaken}
@@ -7,9 +7,10 @@ use Rattle.wire_lines.specs.Lines.{lines_of}
 use Rattle.wire_lines.specs.Reply.{Replied, reply_text}
 use Rattle.session_core.specs.OwnerDesk.Passes.{Pass}
 use Rattle.session_core.specs.OwnerHouse.House.{House}
-use Rattle.session_core.specs.Turns.{is_bye}
+use Rattle.session_core.specs.Speakers.{Speaker, no_speaker}
+use Rattle.session_core.specs.Turns.{is_bye, who_after, who_behind}
 use Rattle.session_core.specs.Exchanges.{Exchange}
-use Rattle.session_core.specs.Code.{AreServed, who_behind}
+use Rattle.session_core.specs.Code.{AreServed}
 use Rattle.session_serve.specs.Session.{AreWhole, HasNoEnd, AreNoBye, EndsInLine, EndsWithBye, HasAnswered, IsCutShort, reply_texts}
 use Rattle.session_serve.specs.declared.line.Line.{Line}
 use Rattle.session_serve.specs.declared.serve.Session.{Session}
@@ -22,24 +23,19 @@ line_room = 16386
 abbrev pub Keeps : Line → List ℕ → Type 0
 Keeps line raw = MatchBool line.long (line_room < length raw) (line.kept.items ≡ raw)
 
--- who speaks behind some lines, of which none is `bye` but perhaps the last
-abbrev pub speaker : House → Option ℕ → List (List ℕ) → Option ℕ
-speaker house who [] = who
-speaker house who (line ∷ lines) = speaker house (who_behind house who line) lines
-
 -- What was written of a line's reply, and whether its session ends with it.
 abbrev pub IsTold : Result Bool Failed → (line : List ℕ) → Replied → (old new : Connection) → Type 0
 IsTold (Ok ended) line reply old new = (ended ≡ is_bye line) × HasTaken old.written (reply_text reply) new.written × (new.faults ≡ old.faults)
 IsTold (Err failed) line reply old new =
     ((part : ℕ) × (part < length (reply_text reply)) × HasTaken old.written (take part (reply_text reply)) new.written) × HasRisen old.faults new.faults
 
--- One line was answered, where this analyst spoke and that one speaks behind it.
-pub record IsLineAnswered (house : House) (draws : ℕ → ℕ → ℕ → ℕ) (result : Result Bool Failed) (line : List ℕ) (who behind : Option ℕ) (old new : Connection)
+-- One line was answered, where this one spoke and that one speaks behind it.
+pub record IsLineAnswered (house : House) (draws : ℕ → ℕ → ℕ → ℕ) (result : Result Bool Failed) (line : List ℕ) (who behind : Speaker) (old new : Connection)
     (before after : List Pass) : Type 0 where
   pub x : Exchange
   pub turn : x.turn ≡ record { who = who; line = line }
   pub served : AreServed house draws (x ∷ []) before after
-  pub next : behind ≡ who_behind house who line
+  pub next : behind ≡ who_behind house who line x.reply
   pub told : IsTold result line x.reply old new
 
 -- The session that began with these passes and this connection goes on: of the bytes that it was given the whole lines are
@@ -54,7 +50,7 @@ pub record GoesOnWith (house : House) (draws : ℕ → ℕ → ℕ → ℕ) (sta
   pub unended : HasNoEnd raw
   pub no_bye : AreNoBye (lines_of answered)
   pub told : HasAnswered house draws answered replies start passes
-  pub speaks : session.who ≡ speaker house None (lines_of answered)
+  pub speaks : session.who ≡ who_after house no_speaker (lines_of answered) replies
   pub keeps : Keeps session.line raw
   pub took : HasTaken begin.written (reply_texts replies) now.written
   pub faults : now.faults ≡ begin.faults

@@ -8,8 +8,8 @@ use Rattle.wire_lines.specs.Lines.{lf, lines_of}
 use Rattle.wire_lines.specs.Reply.{Replied, reply_text}
 use Rattle.session_core.specs.OwnerDesk.Passes.{Pass}
 use Rattle.session_core.specs.OwnerHouse.House.{House}
-use Rattle.session_core.specs.Turns.{is_bye, turns_of}
-use Rattle.session_core.specs.Exchanges.{Exchange}
+use Rattle.session_core.specs.Turns.{is_bye}
+use Rattle.session_core.specs.Exchanges.{Exchange, AreOfScript}
 use Rattle.session_core.specs.Code.{AreServed}
 use Rattle.session_serve.specs.declared.serve.SessionEnd.{SessionEnd}
 use Rattle.session_serve.specs.declared.serve.SessionEnd.TheVariants.{Bye, EndOfInput, ReadFault, WriteFault, TooLong, NoMemory}
@@ -49,7 +49,7 @@ pub record EndsWithBye (bytes : List ℕ) : Type 0 where
 -- and the passes went on.
 pub record HasAnswered (house : House) (draws : ℕ → ℕ → ℕ → ℕ) (bytes : List ℕ) (replies : List Replied) (before after : List Pass) : Type 0 where
   pub exchanges : List Exchange
-  pub turns : map (λ x. x.turn) exchanges ≡ turns_of house bytes
+  pub turns : AreOfScript house bytes exchanges
   pub replied : map (λ x. x.reply) exchanges ≡ replies
   pub served : AreServed house draws exchanges before after
 

@@ -7,8 +7,8 @@ ghost use Rattle.session_core.specs.OwnerDesk.Passes.{Pass as Seen};
 ghost use Rattle.session_core.specs.OwnerDesk.Passes.{Told};
 ghost use Rattle.wire_lines.specs.Reply.{replied};
 ghost use Rattle.session_core.specs.OwnerHouse.House.{house_of};
-ghost use Rattle.session_core.specs.Turns.{is_bye};
-ghost use Rattle.session_core.specs.Code.{IsAnalyst, ArePasses, AreServed, one_line, who_behind};
+ghost use Rattle.session_core.specs.Turns.{is_bye, who_behind};
+ghost use Rattle.session_core.specs.Code.{IsAnalyst, ArePasses, AreServed, one_line};
 ghost use Rattle.std.specs.Io.KnownBytes.{IsAtEnd};
 ghost use Rattle.session_serve.specs.Session.{IsSession, session_limit};
 ghost use Rattle.session_serve.specs.Code.{Keeps, IsLineAnswered, GoesOnWith, Leads};
@@ -24,6 +24,7 @@ use session_core::LastProgram;
 use session_core::passes::Passes;
 use session_core::script::{Answer, answer_line};
 use session_core::server::Server;
+use session_core::speaker::Speaker;
 use std::sync::Wait;
 use wire_lines::{LineRefusal, REPLY_LIMIT, Refusal, Reply, write_reply};
 
@@ -53,7 +54,7 @@ pub enum SessionEnd {
 // Who speaks, the last program, the line that isn't ended yet, and where it stands, which the gate is told.
 #[derive(Drop)]
 struct Session {
-    who: Option<u16>,
+    who: Speaker,
     last: LastProgram,
     line: Line,
     block: u32,
@@ -65,18 +66,19 @@ fn answer<'a, R: Wait, D: Disk, S: Streams, G>(
     server: &'a Server<'_, R, D, S, G>,
     passes: &mut Passes<D>,
     last: &mut LastProgram,
-    who: Option<u16>,
+    who: &mut Speaker,
     line: &'a Line,
 ) -> Answer<'a>
     requires here { passes.old.locks ≡ server.now.desks.now }
     requires passes { ArePasses (house_of server.now.house.now) passes.old.knows }
-    requires known { IsAnalyst (house_of server.now.house.now) who }
+    requires known { IsAnalyst (house_of server.now.house.now) who.old }
     ensures served { (raw text : List ℕ) → Keeps line.now raw → lines_of raw ≡ text ∷ [] → (told : List Told) ×
         AreServed (house_of server.now.house.now) (S.given server.now.streams.now)
-        (one_line who text (replied result.reply) told) passes.old.knows passes.new.knows }
-    ensures who { (raw text : List ℕ) → Keeps line.now raw → lines_of raw ≡ text ∷ [] → result.who ≡ who_behind (house_of server.now.house.now) who text }
+        (one_line who.old text (replied result.reply) told) passes.old.knows passes.new.knows }
+    ensures who { (raw text : List ℕ) → Keeps line.now raw → lines_of raw ≡ text ∷ [] →
+        who.new ≡ who_behind (house_of server.now.house.now) who.old text (replied result.reply) }
     ensures ends { (raw text : List ℕ) → Keeps line.now raw → lines_of raw ≡ text ∷ [] → result.ends ≡ is_bye text }
-    ensures known { IsAnalyst (house_of server.now.house.now) result.who }
+    ensures known { IsAnalyst (house_of server.now.house.now) who.new }
     ensures passes { ArePasses (house_of server.now.house.now) passes.new.knows }
     ensures kept { passes.new ≡ record passes.old { knows = passes.new.knows } }
 {
@@ -84,7 +86,6 @@ fn answer<'a, R: Wait, D: Disk, S: Streams, G>(
         Some(text) => answer_line(server, passes, last, who, text),
         None => Answer {
             reply: Reply::Refused(Refusal::Line(LineRefusal::TooLong)),
-            who,
             ends: false,
         },
     }
@@ -115,14 +116,13 @@ fn reply<L: Link, R: Wait, D: Disk, S: Streams, G: Gate>(
         server,
         passes,
         &mut session.last,
-        session.who,
+        &mut session.who,
         &session.line,
     );
     server.gate.leave(session.block, session.number);
     let mut text = [0u8; REPLY_LIMIT];
     let n = write_reply(&answer.reply, &mut text);
     let ends = answer.ends;
-    session.who = answer.who;
     session.line.clear();
     session.number = session.number.saturating_add(1);
     send(link, &text[..n])?;
@@ -241,7 +241,7 @@ pub fn serve<L: Link, R: Wait, D: Disk, S: Streams, G: Gate>(
         return SessionEnd::NoMemory;
     };
     let mut session = Session {
-        who: None,
+        who: Speaker::nobody(),
         last: LastProgram::none(),
         line,
         block,

@@ -25,7 +25,7 @@ use Rattle.query_server.specs.OwnerHistory.Granted.{told_settlement, IsGranted}
 use Rattle.query_server.specs.AnswerPath.Demand.{asks}
 use Rattle.query_server.specs.AnswerPath.Met.{IsMetExactly}
 use Rattle.query_server.specs.AnswerPath.Noise.{noise_at}
-use Rattle.query_server.specs.AnswerPath.Query.{Query}
+use Rattle.query_server.specs.AnswerPath.Query.{Query, source_of}
 use Rattle.query_server.specs.AnswerPath.Shut.{Shut, unshut, StaysShut, ShutsBy}
 use Rattle.query_server.specs.AnswerPath.Verdict.{granted}
 use Rattle.query_server.specs.AnswerPath.Answered.{HasWorthIn, outcome_reply, granted_record, IsAnswered}
@@ -134,7 +134,7 @@ meant_first outcome = refl
 speaks : (x : Exchange) → x.turn ≡ turn (Some 0) ask_line → (place : ℕ) (y : Exchange) → slice_get (x ∷ []) place ≡ Some y → IsAnalyst house y.turn.who
 speaks x is zero y at =
     let same : x ≡ y = cc (at) in
-    let known : IsAnalyst house (Some 0) = omega arith in
+    let known : IsAnalyst house (turn (Some 0) ask_line).who = omega arith in
     subst (λ (z : Exchange). IsAnalyst house z.turn.who) same (subst (λ (t : Turn). IsAnalyst house t.who) (sym is) known)
 speaks x is (suc place) y at = absurd (cc (at))
 
@@ -304,7 +304,7 @@ not_an_earlier_number draws outcome told records left r =
     of (kind_at house draws 1 one_worker 0 clinic opened (answering a_grant outcome told ∷ []) records refl r.gathered 0 (answering a_grant outcome told) (asks a_query) refl (meant_first outcome))
   where
     of : IsKind (draws 0) clinic opened records (asks a_query) (answering a_grant outcome told) → ⊥
-    of (inl none) = let g : IsGranted [] records a_query 0 outcome = none.1 [] 0 outcome (outcome_said a_grant outcome) in absurd (cc (g.program))
+    of (inl none) = let g : IsGranted [] records a_query 0 outcome = none.1 [] 0 outcome (outcome_said a_grant outcome) in absurd (cc (g.source))
     of (inr (query, is, by)) =
         let s = speaks_of (draws 0) clinic opened records query (answering a_grant outcome told) by 0 outcome (outcome_said a_grant outcome) in
         let more : 1 ≤ length (reservations_of by.g) = counts_on opened by.g by.later in
@@ -388,18 +388,18 @@ not_another_outcome draws r = not_another_record r.leaves
 
 -- two lines that ask the same, each behind a number
 abbrev of_two : Sources
-of_two = record { programs = a_query.program ∷ a_query.program ∷ []; places = 0 ∷ 1 ∷ [] }
+of_two = record { behind = source_of a_query ∷ source_of a_query ∷ []; places = 0 ∷ 1 ∷ [] }
 
 its_own : (grant : Grant) (outcome : Outcome) (told : List Told) (x : Exchange) (asker : Owner) (query : Query) (n : ℕ) (another : Outcome)
     → answering grant outcome told ≡ x → meant_at house x.turn ≡ wants 0 asker (asks query) → told_settlement x.reply ≡ Some (n, another)
-    → (n ≡ grant.number) × (a_query.program ≡ query.program)
+    → (n ≡ grant.number) × (source_of a_query ≡ source_of query)
 its_own grant outcome told x asker query n another same meant said =
     let mine : meant_at house x.turn ≡ wants 0 clinic (asks a_query) = subst (λ (y : Exchange). meant_at house y.turn ≡ wants 0 clinic (asks a_query)) same (meant_first outcome) in
     let alike : wants 0 clinic (asks a_query) ≡ wants 0 asker (asks query) = sym mine ∙ meant in
     let one : a_query ≡ query = cc (alike) in
     let both : Some (grant.number, outcome) ≡ Some (n, another) = sym (outcome_said grant outcome) ∙ ap (λ (y : Exchange). told_settlement y.reply) same ∙ said in
     let pair : (grant.number, outcome) ≡ (n, another) = cc (both) in
-    (sym (ap (λ (z : ℕ × Outcome). z.0) pair), ap (λ (q : Query). q.program) one)
+    (sym (ap (λ (z : ℕ × Outcome). z.0) pair), ap (λ (q : Query). source_of q) one)
 
 -- The first is told 0 and the second 1 ..
 told_their_own : (outcome : Outcome) → AreToldTheirOwn house 0 0 of_two (first_line outcome ∷ again outcome ∷ [])

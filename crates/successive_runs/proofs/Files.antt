@@ -1,5 +1,5 @@
 -- what files a stop leaves, and an answered script as a run
-use Rattle.std.proofs.Common.{◌≡◌, ℕ, ◌+◌, Bool, true, List, [], ◌∷◌, ◌++◌, slice_get, Option, Some, None, refl, sym, ◌∙◌, ap, subst, arith}
+use Rattle.std.proofs.Common.{◌≡◌, ℕ, ◌+◌, Bool, true, List, [], ◌∷◌, ◌++◌, map, slice_get, Option, Some, None, refl, sym, ◌∙◌, ap, subst, arith}
 use Rattle.std.specs.Prelude.{IfSome}
 use Rattle.std.proofs.lemmas.Option.{slice_get_within}
 use mathlib.Core.Logic.{◌⊎◌, inl, inr}
@@ -19,6 +19,7 @@ use Rattle.budget_ledger.specs.declared.failure.Failure.{Failure}
 use Rattle.owner_house.specs.Owner.{Owner}
 use Rattle.owner_house.specs.House.{House, IsOwnerIn, house_of}
 use Rattle.owner_house.proofs.Owners.{entry_said, in_catalog, register_owners}
+use Rattle.query_server.specs.AnswerPath.Query.{Source}
 use Rattle.query_server.specs.OwnerHistory.Sound.{IsFound}
 use Rattle.query_server.proofs.OwnerHistory.Sound.{history_limited}
 use Rattle.query_server.proofs.OwnerHistory.Prefixes.{prefix_self, prefix_by, prefix_trans}
@@ -119,11 +120,11 @@ module _ (house : House) (draws : ℕ → ℕ → ℕ → ℕ) (count : ℕ) (cr
     leaves_weaker (HasAll header found records closed) (λ bytes. (sent : ℕ → Bool) → Left sent bytes) end_left after.trace (kept_has_all header found records closed went.begins after.trace went.kept),
   )
 
-  module _ (at : slice_get house.owners o ≡ Some owner) (inside : IsOwnerIn house owner) (earlier : List (List ℕ)) (f : IsFound owner (draws o) earlier found) where
+  module _ (at : slice_get house.owners o ≡ Some owner) (inside : IsOwnerIn house owner) (earlier : List Source) (f : IsFound owner (draws o) earlier found) where
     left_may : (bytes : List ℕ) → Left none_sent bytes → MayBeGoneOnFrom owner (draws o) header earlier bytes
     left_may bytes (left, stands, r) =
         let g = gone_on house draws o owner found earlier (the_run none_sent left) at inside f r left r.leaves in
-        (left, g.programs, stands, g.goes_on, g.explained, history_limited owner.entry left g.explained.history)
+        (left, g.sources, stands, g.goes_on, g.explained, history_limited owner.entry left g.explained.history)
 
     pub lines_may_be_gone_on : WhereTold (Passes (MayBeGoneOnFrom owner (draws o) header earlier)) (noted Synced before.trace) after.trace × IfSome after.trace (Leaves (MayBeGoneOnFrom owner (draws o) header earlier))
     lines_may_be_gone_on = (
@@ -156,7 +157,7 @@ module _ (loading : Loading) (key : List ℕ) (workers : ℕ) (old new : Shelf) 
   ScriptLeft sent bytes = IsLeftOf loading key workers old new found script text done o owner sent bytes
 
   pub speaker : (place : ℕ) (x : Exchange) → slice_get done.exchanges place ≡ Some x → IsAnalyst script_house x.turn.who
-  speaker place x there = place_of_all (λ (t : Turn). IsAnalyst script_house t.who) (turns_of script_house script) (turns_known script_house script) place x.turn
+  speaker place x there = place_of_all (λ (t : Turn). IsAnalyst script_house t.who) (turns_of script_house script (map (λ (y : Exchange). y.reply) done.exchanges)) (turns_known script_house script (map (λ (y : Exchange). y.reply) done.exchanges)) place x.turn
       (ap (λ (w : List Turn). slice_get w place) (sym done.gathered.turns) ∙ mapped_at (λ (y : Exchange). y.turn) done.exchanges place x there)
 
   pub disk : WentOn owner.entry (header_of loading key o) (found o) (done.records o) (done.closed o) before after
@@ -166,7 +167,7 @@ module _ (loading : Loading) (key : List ℕ) (workers : ℕ) (old new : Shelf) 
   runs_of =
       lines_are_runs script_house (draws_of key) workers done.crew o owner (found o) done.exchanges (done.records o) (done.closed o) (header_of loading key o) before after speaker (done.gathered.owners o owner at) (done.shut o owner at) disk
 
-  pub may_be_gone_on : (earlier : List (List ℕ)) → IsFound owner (draws_of key o) earlier (found o)
+  pub may_be_gone_on : (earlier : List Source) → IsFound owner (draws_of key o) earlier (found o)
       → WhereTold (Passes (MayBeGoneOnFrom owner (draws_of key o) (header_of loading key o) earlier)) (noted Synced before.trace) after.trace
       × IfSome after.trace (Leaves (MayBeGoneOnFrom owner (draws_of key o) (header_of loading key o) earlier))
   may_be_gone_on earlier f =

@@ -12,6 +12,7 @@ use Rattle.budget_core.specs.Entries.{Entry}
 use Rattle.budget_core.specs.Legal.{IsHistory, IsSettlementAfter}
 use Rattle.budget_core.proofs.Histories.{history-front, history-seam, prefix_split}
 use Rattle.owner_house.specs.Owner.{Owner}
+use Rattle.query_server.specs.AnswerPath.Query.{Source}
 use Rattle.query_server.specs.OwnerHistory.Explains.{IsExplained, Explains}
 use Rattle.query_server.proofs.OwnerHistory.Prefixes.{prefix_length, slice_get_prefix, outcome_prefix}
 use Rattle.query_server.proofs.SessionLaws.Places.{prefix_take, reservations_on}
@@ -48,21 +49,21 @@ outcome_front g all n f = here (outcome_of g n) refl
     here (Some v) is = inr (is ∙ sym (outcome_prefix g all n v f is))
 
 module _ (owner : Owner) (draws : ℕ → ℕ → ℕ) where
-  explained_front : (g all : List Record) (n : ℕ) (program : List ℕ) (reserved : Reservation) → IsPrefix g all → IsExplained owner (draws n) reserved program (outcome_of all n)
-      → IsExplained owner (draws n) reserved program (outcome_of g n)
-  explained_front g all n program reserved f ex = elim (outcome_front g all n f) [
+  explained_front : (g all : List Record) (n : ℕ) (source : Source) (reserved : Reservation) → IsPrefix g all → IsExplained owner (draws n) reserved source (outcome_of all n)
+      → IsExplained owner (draws n) reserved source (outcome_of g n)
+  explained_front g all n source reserved f ex = elim (outcome_front g all n f) [
     | inl none ↦
-        let open_still : IsExplained owner (draws n) reserved program None = record { digest = ex.digest; charged = ex.charged; settled = tt } in
-        subst (λ (o : Option Outcome). IsExplained owner (draws n) reserved program o) (sym none) open_still
-    | inr same ↦ subst (λ (o : Option Outcome). IsExplained owner (draws n) reserved program o) (sym same) ex
+        let open_still : IsExplained owner (draws n) reserved source None = record { digest = ex.digest; charged = ex.charged; settled = tt } in
+        subst (λ (o : Option Outcome). IsExplained owner (draws n) reserved source o) (sym none) open_still
+    | inr same ↦ subst (λ (o : Option Outcome). IsExplained owner (draws n) reserved source o) (sym same) ex
   ]
 
-  -- The first programs explain the first records.
-  pub explains_front : (programs : List (List ℕ)) (g all : List Record) → IsPrefix g all → Explains owner draws programs all → Explains owner draws (take (length (reservations_of g)) programs) g
-  explains_front programs g all f ex = record {
-    each_has = length-take-le (length (reservations_of g)) programs (subst (λ (k : ℕ). length (reservations_of g) ≤ k) (sym ex.each_has) (counts_on g all f));
-    explained = λ n program reserved at made.
-        explained_front g all n program reserved f
-        (ex.explained n program reserved (slice_get_prefix (take (length (reservations_of g)) programs) programs n program (taken_prefix programs (length (reservations_of g))) at)
+  -- The first sources explain the first records.
+  pub explains_front : (sources : List Source) (g all : List Record) → IsPrefix g all → Explains owner draws sources all → Explains owner draws (take (length (reservations_of g)) sources) g
+  explains_front sources g all f ex = record {
+    each_has = length-take-le (length (reservations_of g)) sources (subst (λ (k : ℕ). length (reservations_of g) ≤ k) (sym ex.each_has) (counts_on g all f));
+    explained = λ n source reserved at made.
+        explained_front g all n source reserved f
+        (ex.explained n source reserved (slice_get_prefix (take (length (reservations_of g)) sources) sources n source (taken_prefix sources (length (reservations_of g))) at)
         (slice_get_prefix (reservations_of g) (reservations_of all) n reserved (reservations_front g all f) made));
   }

@@ -16,7 +16,7 @@ use Rattle.query_server.proofs.OwnerHistory.Bounded.{explained_bounded, explaine
 use Rattle.query_server.proofs.OwnerHistory.Explaining.{explains_none}
 use Rattle.query_server.proofs.OwnerHistory.Prefixes.{prefix_self, prefix_trans}
 use Rattle.query_server.proofs.OwnerHistory.Sound.{history_limited}
-use Rattle.query_server.specs.AnswerPath.Query.{Query}
+use Rattle.query_server.specs.AnswerPath.Query.{Query, Source, source_of}
 use Rattle.query_server.specs.AnswerPath.Demand.{Demand, asks, recalls}
 use Rattle.query_server.specs.SessionCore.Meant.{wants}
 use Rattle.query_server.specs.SessionCore.Turns.{meant_at}
@@ -60,22 +60,22 @@ module _ (draws : ℕ → ℕ → ℕ → ℕ) (o : ℕ) (owner : Owner) where
   none_sent_yet found i place demand reply w = absurd (cc (w.is_run))
 
   -- What the runs keep, and no number of theirs was found.
-  pub record AreKept (found : List Record) (earlier : List (List ℕ)) (runs : List Housed) (last : List Record) : Type 0 where
+  pub record AreKept (found : List Record) (earlier : List Source) (runs : List Housed) (last : List Record) : Type 0 where
     pub begins : IsPrefix found last
-    pub programs : List (List ℕ)
-    pub goes_on : IsPrefix earlier programs
-    pub explained : IsFound owner (draws o) programs last
-    pub borne : (i place : ℕ) (demand : Demand) (reply : Replied) → WasSentIn o owner runs i place demand reply → IsBorneOutTo programs last demand reply
+    pub sources : List Source
+    pub goes_on : IsPrefix earlier sources
+    pub explained : IsFound owner (draws o) sources last
+    pub borne : (i place : ℕ) (demand : Demand) (reply : Replied) → WasSentIn o owner runs i place demand reply → IsBorneOutTo sources last demand reply
     pub new : (i place : ℕ) (query : Query) (reply : Replied) (n : ℕ) (outcome : Outcome) → WasSentIn o owner runs i place (asks query) reply → told_settlement reply ≡ Some (n, outcome)
         → length (reservations_of found) ≤ n
     pub once : (i j place other : ℕ) (query and : Query) (reply also : Replied) (n : ℕ) (outcome other_outcome : Outcome)
         → WasSentIn o owner runs i place (asks query) reply → WasSentIn o owner runs j other (asks and) also
         → told_settlement reply ≡ Some (n, outcome) → told_settlement also ≡ Some (n, other_outcome) → (i ≡ j) × (place ≡ other)
 
-  kept_by_none : (found : List Record) (earlier : List (List ℕ)) → IsFound owner (draws o) earlier found → AreKept found earlier [] found
+  kept_by_none : (found : List Record) (earlier : List Source) → IsFound owner (draws o) earlier found → AreKept found earlier [] found
   kept_by_none found earlier f = record {
     begins = prefix_self found;
-    programs = earlier;
+    sources = earlier;
     goes_on = prefix_self earlier;
     explained = f;
     borne = λ i place demand reply w. none_sent_yet found i place demand reply w;
@@ -84,10 +84,10 @@ module _ (draws : ℕ → ℕ → ℕ → ℕ) (o : ℕ) (owner : Owner) where
   }
 
   -- what is kept since some records is kept since those that they begin with
-  kept_since : (found start : List Record) (earlier : List (List ℕ)) (runs : List Housed) (last : List Record) → IsPrefix found start → AreKept start earlier runs last → AreKept found earlier runs last
+  kept_since : (found start : List Record) (earlier : List Source) (runs : List Housed) (last : List Record) → IsPrefix found start → AreKept start earlier runs last → AreKept found earlier runs last
   kept_since found start earlier runs last begins k = record {
     begins = prefix_trans found start last begins k.begins;
-    programs = k.programs;
+    sources = k.sources;
     goes_on = k.goes_on;
     explained = k.explained;
     borne = k.borne;
@@ -95,13 +95,13 @@ module _ (draws : ℕ → ℕ → ℕ → ℕ) (o : ℕ) (owner : Owner) where
     once = k.once;
   }
 
-  module _ (found : List Record) (earlier : List (List ℕ)) (h : Housed) (runs : List Housed) (last : List Record) (f : IsFound owner (draws o) earlier found) (r : IsHousedRun draws o owner found h)
-      (g : IsGoneOn h.house draws o owner found earlier h.run r.listed r.lawful f r.is_run h.run.left) (k : AreKept h.run.left g.programs runs last) where
-    borne_first : (place : ℕ) (demand : Demand) (reply : Replied) → IsSent h place demand reply → IsBorneOutTo g.programs h.run.left demand reply
-    borne_first place demand reply s = subst (λ (w : Replied). IsBorneOutTo g.programs h.run.left demand w) s.is_reply (borne_left h.house draws o owner found earlier h.run r.listed r.lawful f r.is_run g place s.x demand s.sent s.there s.meant)
+  module _ (found : List Record) (earlier : List Source) (h : Housed) (runs : List Housed) (last : List Record) (f : IsFound owner (draws o) earlier found) (r : IsHousedRun draws o owner found h)
+      (g : IsGoneOn h.house draws o owner found earlier h.run r.listed r.lawful f r.is_run h.run.left) (k : AreKept h.run.left g.sources runs last) where
+    borne_first : (place : ℕ) (demand : Demand) (reply : Replied) → IsSent h place demand reply → IsBorneOutTo g.sources h.run.left demand reply
+    borne_first place demand reply s = subst (λ (w : Replied). IsBorneOutTo g.sources h.run.left demand w) s.is_reply (borne_left h.house draws o owner found earlier h.run r.listed r.lawful f r.is_run g place s.x demand s.sent s.there s.meant)
 
-    borne_all : (i place : ℕ) (demand : Demand) (reply : Replied) → WasSentIn o owner (h ∷ runs) i place demand reply → IsBorneOutTo k.programs last demand reply
-    borne_all zero place demand reply w = borne_on g.programs k.programs h.run.left last k.goes_on k.begins demand reply (borne_first place demand reply (sent_first h runs place demand reply w))
+    borne_all : (i place : ℕ) (demand : Demand) (reply : Replied) → WasSentIn o owner (h ∷ runs) i place demand reply → IsBorneOutTo k.sources last demand reply
+    borne_all zero place demand reply w = borne_on g.sources k.sources h.run.left last k.goes_on k.begins demand reply (borne_first place demand reply (sent_first h runs place demand reply w))
     borne_all (suc i) place demand reply w = k.borne i place demand reply (sent_later h runs i place demand reply w)
 
     said_first : (place : ℕ) (query : Query) (reply : Replied) (n : ℕ) (outcome : Outcome) (s : IsSent h place (asks query) reply) → told_settlement reply ≡ Some (n, outcome) → told_settlement s.x.reply ≡ Some (n, outcome)
@@ -119,8 +119,8 @@ module _ (draws : ℕ → ℕ → ℕ → ℕ) (o : ℕ) (owner : Owner) where
     -- a number of the first run is below those of the later ones
     below_later : (place : ℕ) (query : Query) (reply : Replied) (n : ℕ) (outcome : Outcome) → IsSent h place (asks query) reply → told_settlement reply ≡ Some (n, outcome) → n < length (reservations_of h.run.left)
     below_later place query reply n outcome s said =
-        let granted : IsGranted g.programs h.run.left query n outcome = borne_first place (asks query) reply s n outcome said in
-        subst (λ (m : ℕ). n < m) g.explained.explained.each_has (slice_get_within g.programs n query.program granted.program)
+        let granted : IsGranted g.sources h.run.left query n outcome = borne_first place (asks query) reply s n outcome said in
+        subst (λ (m : ℕ). n < m) g.explained.explained.each_has (slice_get_within g.sources n (source_of query) granted.source)
 
     apart : (j place other : ℕ) (query and : Query) (reply also : Replied) (n : ℕ) (outcome other_outcome : Outcome) → IsSent h place (asks query) reply → WasSentIn o owner runs j other (asks and) also
         → told_settlement reply ≡ Some (n, outcome) → told_settlement also ≡ Some (n, other_outcome) → ⊥
@@ -150,15 +150,15 @@ module _ (draws : ℕ → ℕ → ℕ → ℕ) (o : ℕ) (owner : Owner) where
     kept_by_more : AreKept found earlier (h ∷ runs) last
     kept_by_more = record {
       begins = prefix_trans found h.run.left last g.begins k.begins;
-      programs = k.programs;
-      goes_on = prefix_trans earlier g.programs k.programs g.goes_on k.goes_on;
+      sources = k.sources;
+      goes_on = prefix_trans earlier g.sources k.sources g.goes_on k.goes_on;
       explained = k.explained;
       borne = borne_all;
       new = new_all;
       once = once_all;
     }
 
-  kept_by : (runs : List Housed) (found : List Record) (earlier : List (List ℕ)) (last : List Record) → IsFound owner (draws o) earlier found → AreHousedRuns draws o owner found runs last → AreKept found earlier runs last
+  kept_by : (runs : List Housed) (found : List Record) (earlier : List Source) (last : List Record) → IsFound owner (draws o) earlier found → AreHousedRuns draws o owner found runs last → AreKept found earlier runs last
   kept_by [] found earlier last f (amounts, granted) =
       kept_since found last earlier [] last (granted_prefix owner.entry found amounts last granted)
       (kept_by_none last earlier (found_granted owner (draws o) earlier found amounts last f granted))
@@ -166,37 +166,37 @@ module _ (draws : ℕ → ℕ → ℕ → ℕ) (o : ℕ) (owner : Owner) where
       let from_here = found_granted owner (draws o) earlier found amounts start f granted in
       let g = gone_on h.house draws o owner start earlier h.run r.listed r.lawful from_here r.is_run h.run.left r.is_run.leaves in
       kept_since found start earlier (h ∷ runs) last (granted_prefix owner.entry found amounts start granted)
-      (kept_by_more start earlier h runs last from_here r g (kept_by runs h.run.left g.programs last g.explained rest))
+      (kept_by_more start earlier h runs last from_here r g (kept_by runs h.run.left g.sources last g.explained rest))
 
-  promise : HasData owner → (runs : List Housed) (found : List Record) (earlier : List (List ℕ)) (last : List Record) → AreKept found earlier runs last → KeepThePromiseInHouses draws o owner found earlier runs last
+  promise : HasData owner → (runs : List Housed) (found : List Record) (earlier : List Source) (last : List Record) → AreKept found earlier runs last → KeepThePromiseInHouses draws o owner found earlier runs last
   promise has runs found earlier last k = record {
     begins = k.begins;
-    programs = k.programs;
+    sources = k.sources;
     goes_on = k.goes_on;
     explained = k.explained;
     limited = history_limited owner.entry last k.explained.history;
-    bounded = explained_bounded owner (draws o) k.programs last has k.explained.explained;
-    shares = explained_shares owner (draws o) k.programs last has k.explained.explained;
+    bounded = explained_bounded owner (draws o) k.sources last has k.explained.explained;
+    shares = explained_shares owner (draws o) k.sources last has k.explained.explained;
     borne_out = k.borne;
     answers = λ i place query n taken value w.
-        answer_stands owner (draws o) k.programs last k.explained query n value (k.borne i place (asks query) (answered n value taken) w n (Answered value) refl);
+        answer_stands owner (draws o) k.sources last k.explained query n value (k.borne i place (asks query) (answered n value taken) w n (Answered value) refl);
     recalls = λ i place analyst asked n seen value w.
-        recall_stands owner (draws o) k.programs last k.explained analyst n value (k.borne i place (recalls analyst asked) (recalled n (Some (Answered value)) seen) w n (Answered value) refl);
+        recall_stands owner (draws o) k.sources last k.explained analyst n value (k.borne i place (recalls analyst asked) (recalled n (Some (Answered value)) seen) w n (Answered value) refl);
     once = k.once;
   }
 
-  pub keep_in_houses : HasData owner → (runs : List Housed) (found : List Record) (earlier : List (List ℕ)) (last : List Record) → IsFound owner (draws o) earlier found → AreHousedRuns draws o owner found runs last
+  pub keep_in_houses : HasData owner → (runs : List Housed) (found : List Record) (earlier : List Source) (last : List Record) → IsFound owner (draws o) earlier found → AreHousedRuns draws o owner found runs last
       → KeepThePromiseInHouses draws o owner found earlier runs last
   keep_in_houses has runs found earlier last f rs = promise has runs found earlier last (kept_by runs found earlier last f rs)
 
 -- ---- in one house
 
 -- what is kept of all that was told is kept of some
-some_told : (owner : Owner) (draws : ℕ → ℕ → ℕ) (found : List Record) (earlier : List (List ℕ)) (P Q : (i place : ℕ) → Demand → Replied → Type 0) (last : List Record)
+some_told : (owner : Owner) (draws : ℕ → ℕ → ℕ) (found : List Record) (earlier : List Source) (P Q : (i place : ℕ) → Demand → Replied → Type 0) (last : List Record)
     → ((i place : ℕ) (demand : Demand) (reply : Replied) → Q i place demand reply → P i place demand reply) → KeepAll owner draws found earlier P last → KeepAll owner draws found earlier Q last
 some_told owner draws found earlier P Q last some k = record {
   begins = k.begins;
-  programs = k.programs;
+  sources = k.sources;
   goes_on = k.goes_on;
   explained = k.explained;
   limited = k.limited;
@@ -226,7 +226,7 @@ module _ (house : House) (draws : ℕ → ℕ → ℕ → ℕ) (o : ℕ) (owner 
   housed_runs [] found last granted = granted
   housed_runs (run ∷ runs) found last (start, granted, r, rest) = (start, granted, record { listed = here; lawful = inside; is_run = r }, housed_runs runs run.left last rest)
 
-  pub keep : (runs : List Run) (found : List Record) (earlier : List (List ℕ)) (last : List Record) → IsFound owner (draws o) earlier found → AreRuns house draws o owner found runs last
+  pub keep : (runs : List Run) (found : List Record) (earlier : List Source) (last : List Record) → IsFound owner (draws o) earlier found → AreRuns house draws o owner found runs last
       → KeepThePromise house draws o owner found earlier runs last
   keep runs found earlier last f rs =
       some_told owner (draws o) found earlier (WasSentIn o owner (map in_it runs)) (WasSent house o owner runs) last (sent_in runs)

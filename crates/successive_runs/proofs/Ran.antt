@@ -1,4 +1,4 @@
--- what one run leaves, and what programs explain it
+-- what one run leaves, and what sources explain it
 use Rattle.std.proofs.Common.{◌≡◌, ℕ, ◌≤◌, ◌<◌, List, [], ◌∷◌, ◌++◌, length, take, map, slice_get, Some, refl, sym, ◌∙◌, ap, subst}
 use mathlib.Core.Logic.{◌⊎◌, inl, inr}
 use mathlib.Core.List.{IsPrefix}
@@ -20,7 +20,7 @@ use Rattle.query_server.proofs.OwnerHistory.Explaining.{explains_reservation, ex
 use Rattle.query_server.proofs.OwnerHistory.Grants.{verdict_grants}
 use Rattle.query_server.proofs.OwnerHistory.Prefixes.{prefix_self, prefix_by, prefix_trans, slice_get_prefix}
 use Rattle.query_server.proofs.OwnerHistory.Steps.{IsWell}
-use Rattle.query_server.specs.AnswerPath.Query.{Query}
+use Rattle.query_server.specs.AnswerPath.Query.{Query, Source, source_of}
 use Rattle.query_server.specs.AnswerPath.Demand.{Demand, asks}
 use Rattle.query_server.specs.AnswerPath.Answered.{granted_record}
 use Rattle.query_server.specs.AnswerPath.Shut.{IsPendingOf}
@@ -38,14 +38,14 @@ use Rattle.query_server.proofs.SessionLaws.Kept.{well}
 use Rattle.query_server.proofs.SessionLaws.Listed.{all_by_places, of_mapped}
 use Rattle.query_server.proofs.SessionLaws.Once.{kind_at}
 use Rattle.query_server.proofs.SessionLaws.Places.{listed_below, prefix_seam}
-use Rattle.query_server.proofs.SessionLaws.Sources.{sources, program_at}
+use Rattle.query_server.proofs.SessionLaws.Sources.{sources as sources_here, source_at}
 use Rattle.query_server.proofs.SessionLaws.Standing.{the_owner}
 use Rattle.query_server.proofs.Owed.{history_within}
 use Rattle.successive_runs.specs.Left.{IsLeft}
 use Rattle.successive_runs.specs.Life.{Run, IsRun}
 use Rattle.successive_runs.proofs.Fronts.{prefix_front, counts_on, history_on, explains_front}
 
-module _ (house : House) (draws : ℕ → ℕ → ℕ → ℕ) (o : ℕ) (owner : Owner) (found : List Record) (earlier : List (List ℕ)) (run : Run)
+module _ (house : House) (draws : ℕ → ℕ → ℕ → ℕ) (o : ℕ) (owner : Owner) (found : List Record) (earlier : List Source) (run : Run)
     (here : slice_get house.owners o ≡ Some owner) (inside : IsOwnerIn house owner) (begun : IsFound owner (draws o) earlier found) (r : IsRun house draws o owner found run) where
   abbrev pub spoken : List Turn
   spoken = map (λ (x : Exchange). x.turn) run.exchanges
@@ -59,12 +59,12 @@ module _ (house : House) (draws : ℕ → ℕ → ℕ → ℕ) (o : ℕ) (owner 
   abbrev pub By : Query → Exchange → Type 0
   By query x = IsReservedBy (draws o) owner found run.records query x
 
-  -- the programs behind the run's records
+  -- the sources behind the run's records
   abbrev pub behind : Sources
-  behind = sources house draws spoken run.count run.crew o owner found run.exchanges run.records here inside begun.history refl known r.gathered
+  behind = sources_here house draws spoken run.count run.crew o owner found run.exchanges run.records here inside begun.history refl known r.gathered
 
-  abbrev pub whole : List (List ℕ)
-  whole = earlier ++ behind.programs
+  abbrev pub whole : List Source
+  whole = earlier ++ behind.behind
 
   well_here : IsWell owner (draws o) found whole run.records
   well_here = well house draws spoken run.count run.crew o owner found run.exchanges run.records here inside begun.history refl known r.gathered earlier begun.explained.each_has begun.explained
@@ -72,21 +72,21 @@ module _ (house : House) (draws : ℕ → ℕ → ℕ → ℕ) (o : ℕ) (owner 
   pub kind_here : (j : ℕ) (x : Exchange) (demand : Demand) → slice_get run.exchanges j ≡ Some x → meant_at house x.turn ≡ wants o owner demand → IsKind (draws o) owner found run.records demand x
   kind_here j x demand at meant = kind_at house draws run.count run.crew o owner found run.exchanges run.records here r.gathered j x demand at meant
 
-  pub program_here : (j : ℕ) (x : Exchange) (query : Query) → slice_get run.exchanges j ≡ Some x → meant_at house x.turn ≡ wants o owner (asks query) → (by : By query x) → slice_get whole by.grant.number ≡ Some query.program
-  program_here j x query at meant by =
-      program_at house draws spoken run.count run.crew o owner found run.exchanges run.records here inside begun.history refl known r.gathered earlier begun.explained.each_has j x query at meant by
+  pub source_here : (j : ℕ) (x : Exchange) (query : Query) → slice_get run.exchanges j ≡ Some x → meant_at house x.turn ≡ wants o owner (asks query) → (by : By query x) → slice_get whole by.grant.number ≡ Some (source_of query)
+  source_here j x query at meant by =
+      source_at house draws spoken run.count run.crew o owner found run.exchanges run.records here inside begun.history refl known r.gathered earlier begun.explained.each_has j x query at meant by
 
   -- ---- a record whose append failed, and that stands after all
 
   abbrev IsStillExplained : Record → Type 0
-  IsStillExplained next = (programs : List (List ℕ)) × IsPrefix whole programs × Explains owner (draws o) programs (run.records ++ next ∷ [])
+  IsStillExplained next = (sources : List Source) × IsPrefix whole sources × Explains owner (draws o) sources (run.records ++ next ∷ [])
 
   reservation_pends : (query : Query) (next : Record) → IsPendingOf owner (draws o) query [] next → IsStillExplained next
   reservation_pends query next (p, q, charged, grant, is) = (
-    whole ++ query.program ∷ [],
-    prefix_by whole (query.program ∷ []),
-    subst (λ (w : Record). Explains owner (draws o) (whole ++ query.program ∷ []) (run.records ++ w ∷ [])) (sym is)
-        (explains_reservation owner (draws o) whole run.records well_here.explained query.program (reservation_numbered grant.number (ask_for query p q) grant.taken) well_here.lawful.history refl charged),
+    whole ++ source_of query ∷ [],
+    prefix_by whole (source_of query ∷ []),
+    subst (λ (w : Record). Explains owner (draws o) (whole ++ source_of query ∷ []) (run.records ++ w ∷ [])) (sym is)
+        (explains_reservation owner (draws o) whole run.records well_here.explained (source_of query) (reservation_numbered grant.number (ask_for query p q) grant.taken) well_here.lawful.history refl charged),
   )
 
   -- the reservation of a line stands at its number
@@ -105,7 +105,7 @@ module _ (house : House) (draws : ℕ → ℕ → ℕ → ℕ) (o : ℕ) (owner 
         whole,
         prefix_self whole,
         subst (λ (w : Record). Explains owner (draws o) whole (run.records ++ w ∷ [])) (sym is)
-            (explains_settlement owner (draws o) whole run.records well_here.explained n query.program (reservation_numbered n by.asking by.grant.taken) outcome (returned_by owner.entry u n outcome) (program_here j x query at meant by)
+            (explains_settlement owner (draws o) whole run.records well_here.explained n (source_of query) (reservation_numbered n by.asking by.grant.taken) outcome (returned_by owner.entry u n outcome) (source_here j x query at meant by)
             (listed_here query x by) follows.unsettled
             (outcome_explains owner (draws o) query n outcome (reservation_numbered n by.asking by.grant.taken) (ap (λ (a : Ask). a.view) v.asks) (ap (λ (a : Ask). a.e) v.asks) settles)),
       )
@@ -140,37 +140,37 @@ module _ (house : House) (draws : ℕ → ℕ → ℕ → ℕ) (o : ℕ) (owner 
 
   -- ---- what is left
 
-  -- Programs that begin with the earlier ones explain what is left, and are those behind the run's own records.
+  -- Sources that begin with the earlier ones explain what is left, and are those behind the run's own records.
   pub record IsGoneOn (left : List Record) : Type 0 where
-    pub programs : List (List ℕ)
-    pub goes_on : IsPrefix earlier programs
-    pub explained : IsFound owner (draws o) programs left
+    pub sources : List Source
+    pub goes_on : IsPrefix earlier sources
+    pub explained : IsFound owner (draws o) sources left
     pub begins : IsPrefix found left
-    pub agrees : (n : ℕ) (program : List ℕ) → slice_get whole n ≡ Some program → n < length (reservations_of left) → slice_get programs n ≡ Some program
+    pub agrees : (n : ℕ) (source : Source) → slice_get whole n ≡ Some source → n < length (reservations_of left) → slice_get sources n ≡ Some source
 
-  found_by : (programs : List (List ℕ)) (left : List Record) → IsHistory owner.entry left → Explains owner (draws o) programs left → IsFound owner (draws o) programs left
-  found_by programs left h ex = record { history = h; within = history_within owner.entry left h; explained = ex }
+  found_by : (sources : List Source) (left : List Record) → IsHistory owner.entry left → Explains owner (draws o) sources left → IsFound owner (draws o) sources left
+  found_by sources left h ex = record { history = h; within = history_within owner.entry left h; explained = ex }
 
   pub gone_on : (left : List Record) → IsLeft found run.records run.closed left → IsGoneOn left
   gone_on left (inl (begins, ends)) =
       let enough : length earlier ≤ length (reservations_of left) = subst (λ (k : ℕ). k ≤ length (reservations_of left)) (sym begun.explained.each_has) (counts_on found left begins) in
       record {
-        programs = take (length (reservations_of left)) whole;
-        goes_on = prefix_front earlier whole (length (reservations_of left)) (prefix_by earlier behind.programs) enough;
+        sources = take (length (reservations_of left)) whole;
+        goes_on = prefix_front earlier whole (length (reservations_of left)) (prefix_by earlier behind.behind) enough;
         explained = found_by _ left (history_on owner.entry left run.records ends well_here.lawful.history) (explains_front owner (draws o) whole left run.records ends well_here.explained);
         begins = begins;
-        agrees = λ n program at within. slice_take whole (length (reservations_of left)) n program within at;
+        agrees = λ n source at within. slice_take whole (length (reservations_of left)) n source within at;
       }
   gone_on left (inr (failure, is, left_is)) = here_by (pending_explained failure is)
     where
       here_by : IsStillExplained failure.pending → IsGoneOn left
-      here_by (programs, more, ex) =
+      here_by (sources, more, ex) =
           let all : List Record = run.records ++ failure.pending ∷ [] in
           let history : IsHistory owner.entry all = history-append owner.entry run.records failure.pending well_here.lawful.history (r.follows failure is) in
           record {
-            programs = programs;
-            goes_on = prefix_trans earlier whole programs (prefix_by earlier behind.programs) more;
-            explained = subst (λ (w : List Record). IsFound owner (draws o) programs w) (sym left_is) (found_by programs all history ex);
+            sources = sources;
+            goes_on = prefix_trans earlier whole sources (prefix_by earlier behind.behind) more;
+            explained = subst (λ (w : List Record). IsFound owner (draws o) sources w) (sym left_is) (found_by sources all history ex);
             begins = subst (λ (w : List Record). IsPrefix found w) (sym left_is) (prefix_trans found run.records all r.gathered.begins (prefix_by run.records (failure.pending ∷ [])));
-            agrees = λ n program at within. slice_get_prefix whole programs n program more at;
+            agrees = λ n source at within. slice_get_prefix whole sources n source more at;
           }

@@ -18,7 +18,7 @@ use Rattle.query_server.specs.OwnerHistory.Granted.{told_settlement, IsGranted, 
 use Rattle.query_server.specs.OwnerHistory.Sound.{IsFound}
 use Rattle.query_server.proofs.OwnerHistory.Grants.{verdict_grants}
 use Rattle.query_server.proofs.OwnerHistory.Prefixes.{prefix_by, prefix_trans, reservation_prefix, outcome_prefix}
-use Rattle.query_server.specs.AnswerPath.Query.{Query}
+use Rattle.query_server.specs.AnswerPath.Query.{Query, Source, source_of}
 use Rattle.query_server.specs.AnswerPath.Demand.{Demand, asks}
 use Rattle.query_server.specs.AnswerPath.Answered.{granted_record}
 use Rattle.query_server.specs.SessionCore.Meant.{wants}
@@ -32,14 +32,14 @@ use Rattle.query_server.proofs.SessionLaws.Sources.{reserve_told, number_new, sa
 use Rattle.successive_runs.specs.Life.{Run, IsRun}
 use Rattle.successive_runs.proofs.Fronts.{history_on, unsettled_before}
 use Rattle.successive_runs.proofs.Speaking.{same_number, speaks_of, number_spoken, number_held}
-use Rattle.successive_runs.proofs.Ran.{spoken, known, By, whole, kind_here, program_here, IsGoneOn}
+use Rattle.successive_runs.proofs.Ran.{spoken, known, By, whole, kind_here, source_here, IsGoneOn}
 
-module _ (house : House) (draws : ℕ → ℕ → ℕ → ℕ) (o : ℕ) (owner : Owner) (found : List Record) (earlier : List (List ℕ)) (run : Run)
+module _ (house : House) (draws : ℕ → ℕ → ℕ → ℕ) (o : ℕ) (owner : Owner) (found : List Record) (earlier : List Source) (run : Run)
     (here : slice_get house.owners o ≡ Some owner) (inside : IsOwnerIn house owner) (begun : IsFound owner (draws o) earlier found) (r : IsRun house draws o owner found run) where
   abbrev MyBy : Query → Exchange → Type 0
   MyBy query x = By house draws o owner found earlier run here inside begun r query x
 
-  abbrev mine : List (List ℕ)
+  abbrev mine : List Source
   mine = whole house draws o owner found earlier run here inside begun r
 
   -- a line whose reply speaks of a number reserved it
@@ -71,27 +71,27 @@ module _ (house : House) (draws : ℕ → ℕ → ℕ → ℕ) (o : ℕ) (owner 
     LeftBy query x = IsReservedBy (draws o) owner found run.left query x
 
     -- the reservation that stands in what is left is the one that the line made
-    program_left : (j : ℕ) (x : Exchange) (query : Query) → slice_get run.exchanges j ≡ Some x → meant_at house x.turn ≡ wants o owner (asks query) → (by : LeftBy query x) → slice_get mine by.grant.number ≡ Some query.program
-    program_left j x query at meant by = of (kind_here house draws o owner found earlier run here inside begun r j x (asks query) at meant)
+    source_left : (j : ℕ) (x : Exchange) (query : Query) → slice_get run.exchanges j ≡ Some x → meant_at house x.turn ≡ wants o owner (asks query) → (by : LeftBy query x) → slice_get mine by.grant.number ≡ Some (source_of query)
+    source_left j x query at meant by = of (kind_here house draws o owner found earlier run here inside begun r j x (asks query) at meant)
       where
         has : Has {A = Told} (length by.g, granted_record by.asking by.grant) x.told
         has = reserved_told (draws o) owner found run.left query x by
 
-        its_program : MyBy query x → slice_get mine by.grant.number ≡ Some query.program
-        its_program its =
+        its_source : MyBy query x → slice_get mine by.grant.number ≡ Some (source_of query)
+        its_source its =
             let told = reserve_told (draws o) owner found run.records query x its (length by.g) (reservation_numbered by.grant.number by.asking by.grant.taken) has in
             let one : by.grant.number ≡ its.grant.number
             = same_number (reservation_numbered by.grant.number by.asking by.grant.taken) (reservation_numbered its.grant.number its.asking its.grant.taken) told.1 in
-            ap (λ (k : ℕ). slice_get mine k) one ∙ program_here house draws o owner found earlier run here inside begun r j x query at meant its
+            ap (λ (k : ℕ). slice_get mine k) one ∙ source_here house draws o owner found earlier run here inside begun r j x query at meant its
 
-        of : IsKind (draws o) owner found run.records (asks query) x → slice_get mine by.grant.number ≡ Some query.program
+        of : IsKind (draws o) owner found run.records (asks query) x → slice_get mine by.grant.number ≡ Some (source_of query)
         of (inl none) = absurd (subst (λ (told : List Told). Has {A = Told} (length by.g, granted_record by.asking by.grant) told) none.0 has)
         of (inr (other, is, made)) =
             let same : other ≡ query = cc (is) in
-            its_program (subst (λ (q : Query). MyBy q x) same made)
+            its_source (subst (λ (q : Query). MyBy q x) same made)
 
     granted_left : (j : ℕ) (x : Exchange) (query : Query) → slice_get run.exchanges j ≡ Some x → meant_at house x.turn ≡ wants o owner (asks query) → (by : LeftBy query x)
-        → (done : IsSettledLater (draws o) owner found run.left query by.asking by.grant by.g x) → IsGranted g.programs run.left query by.grant.number done.outcome
+        → (done : IsSettledLater (draws o) owner found run.left query by.asking by.grant by.g x) → IsGranted g.sources run.left query by.grant.number done.outcome
     granted_left j x query at meant by done =
         let v = verdict_grants owner (first_new found) by.g query by.asking by.grant by.verdict in
         let n : ℕ = by.grant.number in
@@ -106,22 +106,22 @@ module _ (house : House) (draws : ℕ → ℕ → ℕ → ℕ) (o : ℕ) (owner 
           epsilon = ap (λ (a : Ask). a.e) v.asks;
           settled = outcome_prefix (done.u ++ settlement_for owner.entry done.u n done.outcome ∷ []) run.left n done.outcome done.stands
               (outcome_of-append-new done.u n done.outcome (returned_by owner.entry done.u n done.outcome) (unsettled_before owner.entry done.u run.left n done.outcome (returned_by owner.entry done.u n done.outcome) done.stands g.explained.history));
-          program = g.agrees n query.program (program_left j x query at meant by) (number_held (draws o) owner found run.left query x by);
+          source = g.agrees n (source_of query) (source_left j x query at meant by) (number_held (draws o) owner found run.left query x by);
         }
 
-    borne_asked : (j : ℕ) (x : Exchange) (query : Query) → slice_get run.exchanges j ≡ Some x → meant_at house x.turn ≡ wants o owner (asks query) → LeftBy query x → IsBorneOut g.programs run.left query x.reply
+    borne_asked : (j : ℕ) (x : Exchange) (query : Query) → slice_get run.exchanges j ≡ Some x → meant_at house x.turn ≡ wants o owner (asks query) → LeftBy query x → IsBorneOut g.sources run.left query x.reply
     borne_asked j x query at meant by = λ n outcome said.
         let s = speaks_of (draws o) owner found run.left query x by n outcome said in
-        let so : IsGranted g.programs run.left query by.grant.number s.0.outcome = granted_left j x query at meant by s.0 in
-        subst (λ (k : ℕ). IsGranted g.programs run.left query k outcome) s.1 (subst (λ (w : Outcome). IsGranted g.programs run.left query by.grant.number w) s.2 so)
+        let so : IsGranted g.sources run.left query by.grant.number s.0.outcome = granted_left j x query at meant by s.0 in
+        subst (λ (k : ℕ). IsGranted g.sources run.left query k outcome) s.1 (subst (λ (w : Outcome). IsGranted g.sources run.left query by.grant.number w) s.2 so)
 
     -- What is left bears out each reply that was sent.
-    pub borne_left : (j : ℕ) (x : Exchange) (demand : Demand) → run.sent j ≡ true → slice_get run.exchanges j ≡ Some x → meant_at house x.turn ≡ wants o owner demand → IsBorneOutTo g.programs run.left demand x.reply
+    pub borne_left : (j : ℕ) (x : Exchange) (demand : Demand) → run.sent j ≡ true → slice_get run.exchanges j ≡ Some x → meant_at house x.turn ≡ wants o owner demand → IsBorneOutTo g.sources run.left demand x.reply
     borne_left j x demand sent at meant = of (kind_met (draws o) owner found run.left demand met.seen x met.after met.begins met.stands met.meets)
       where
         met : IsMetOn (draws o) (first_new found) owner demand found x run.left
         met = r.kept j x owner demand sent at meant
 
-        of : IsKind (draws o) owner found run.left demand x → IsBorneOutTo g.programs run.left demand x.reply
-        of (inl none) = none.1 g.programs
-        of (inr (query, is, by)) = subst (λ (d : Demand). IsBorneOutTo g.programs run.left d x.reply) (sym is) (borne_asked j x query at (meant ∙ ap (λ (d : Demand). wants o owner d) is) by)
+        of : IsKind (draws o) owner found run.left demand x → IsBorneOutTo g.sources run.left demand x.reply
+        of (inl none) = none.1 g.sources
+        of (inr (query, is, by)) = subst (λ (d : Demand). IsBorneOutTo g.sources run.left d x.reply) (sym is) (borne_asked j x query at (meant ∙ ap (λ (d : Demand). wants o owner d) is) by)

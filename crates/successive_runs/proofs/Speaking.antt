@@ -48,7 +48,7 @@ module _ (draws : ℕ → ℕ → ℕ) (owner : Owner) (found records : List Rec
       its_number its = (its, (speaks_of draws owner found records query x its n outcome said).1)
 
       of : IsKind draws owner found records (asks query) x → HasReserved n
-      of (inl none) = let g : IsGranted [] records query n outcome = none.1 [] n outcome said in absurd (cc (g.program))
+      of (inl none) = let g : IsGranted [] records query n outcome = none.1 [] n outcome said in absurd (cc (g.source))
       of (inr (other, is, by)) =
           let same : other ≡ query = cc (is) in
           its_number (subst (λ (q : Query). IsReservedBy draws owner found records q x) same by)

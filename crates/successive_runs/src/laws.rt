@@ -14,12 +14,13 @@ ghost use Rattle.budget_ledger.specs.declared.failure.Failure.{Failure};
 ghost use Rattle.word_streams.specs.Draws.{draws_of};
 ghost use Rattle.owner_house.specs.Owner.{HasData, Owner};
 ghost use Rattle.owner_house.specs.House.{House, AreOwners, IsOwnerIn, house_of};
+ghost use Rattle.query_server.specs.AnswerPath.Query.{Source};
 ghost use Rattle.query_server.specs.OwnerHistory.Sound.{IsFound};
 ghost use Rattle.query_server.specs.SessionCore.Turns.{Turn};
 ghost use Rattle.query_server.specs.SessionCore.Exchanges.{Exchange};
 ghost use Rattle.query_server.specs.SessionCore.Gathered.{AreGathered, IsGatheredScript};
 ghost use Rattle.query_server.specs.SessionCore.Transcript.{Journals, first_new};
-ghost use Rattle.query_server.specs.SessionCore.Headline.{Programs, AreFound, Headline};
+ghost use Rattle.query_server.specs.SessionCore.Headline.{Explanations, AreFound, Headline};
 ghost use Rattle.query_server.specs.SessionLaws.Lines.{AreKnown, AreOfTurns, AreHonoured};
 ghost use Rattle.command_words.specs.Command.{command_of, grant, run};
 ghost use Rattle.catalog_loading.specs.Files.{Contents, always};
@@ -39,12 +40,12 @@ ghost use Rattle.successive_runs.specs.Raised.{LeavesRaised};
 ghost use Rattle.successive_runs.specs.Script.{IsLeftOf};
 ghost use Rattle.successive_runs.specs.Agreed.{IsOwnerOfHouse};
 
-/// A run over records that programs explain leaves records that programs explain, which begin with the earlier ones: so the next run
+/// A run over records that sources explain leaves records that sources explain, which begin with the earlier ones: so the next run
 /// may begin with them.
 pub fn what_is_left_may_be_found()
-    ensures { (house : House) (draws : ℕ → ℕ → ℕ → ℕ) (o : ℕ) (owner : Owner) (found : List Record) (earlier : List (List ℕ)) (run : Run) →
+    ensures { (house : House) (draws : ℕ → ℕ → ℕ → ℕ) (o : ℕ) (owner : Owner) (found : List Record) (earlier : List Source) (run : Run) →
         AreOwners house → slice_get house.owners o ≡ Some owner → IsFound owner (draws o) earlier found → IsRun house draws o owner found run →
-        (programs : List (List ℕ)) × IsPrefix earlier programs × IsFound owner (draws o) programs run.left }
+        (sources : List Source) × IsPrefix earlier sources × IsFound owner (draws o) sources run.left }
 {}
 
 /// A file that a stop in a run leaves stands for records that the run leaves, and for no others.
@@ -56,30 +57,30 @@ pub fn files_stand_for_what_is_left()
 {}
 
 /// Any number of runs, one after another, of scripts or sessions, that ended or were stopped, with grants between them, keep the promise, from
-/// the first on, which found no records; and so do those that go on from whatever records programs explain. Each run may have a house of its own:
+/// the first on, which found no records; and so do those that go on from whatever records sources explain. Each run may have a house of its own:
 /// where another owner comes or goes, or its tables change, this owner's promise stays whole.
 pub fn runs_keep_the_promise()
     ensures first { (house : House) (draws : ℕ → ℕ → ℕ → ℕ) (o : ℕ) (owner : Owner) (runs : List Run) (last : List Record) →
         AreOwners house → slice_get house.owners o ≡ Some owner → AreRuns house draws o owner [] runs last →
         KeepThePromise house draws o owner [] [] runs last }
-    ensures later { (house : House) (draws : ℕ → ℕ → ℕ → ℕ) (o : ℕ) (owner : Owner) (found : List Record) (earlier : List (List ℕ)) (runs : List Run) →
+    ensures later { (house : House) (draws : ℕ → ℕ → ℕ → ℕ) (o : ℕ) (owner : Owner) (found : List Record) (earlier : List Source) (runs : List Run) →
         (last : List Record) → AreOwners house → slice_get house.owners o ≡ Some owner → IsFound owner (draws o) earlier found →
         AreRuns house draws o owner found runs last → KeepThePromise house draws o owner found earlier runs last }
-    ensures houses { (draws : ℕ → ℕ → ℕ → ℕ) (o : ℕ) (owner : Owner) (found : List Record) (earlier : List (List ℕ)) (runs : List Housed) →
+    ensures houses { (draws : ℕ → ℕ → ℕ → ℕ) (o : ℕ) (owner : Owner) (found : List Record) (earlier : List Source) (runs : List Housed) →
         (last : List Record) → HasData owner → IsFound owner (draws o) earlier found → AreHousedRuns draws o owner found runs last →
         KeepThePromiseInHouses draws o owner found earlier runs last }
 {}
 
-/// A line that is told a number, as answered, exhausted or lost, is told its own: of the programs behind the records, that of the number is the one
+/// A line that is told a number, as answered, exhausted or lost, is told its own: of the sources behind the records, that of the number is the one
 /// that this very line asks. It is so of any lines that keep the promises to an owner, and of a script's by the headline.
 pub fn lines_are_told_their_own_numbers()
     ensures lines { (house : House) (draws : ℕ → ℕ → ℕ → ℕ) (turns : List Turn) (count : ℕ) (crew : ℕ → ℕ) (o : ℕ) (owner : Owner) →
-        (found : List Record) (earlier : List (List ℕ)) (xs : List Exchange) (records : List Record) →
+        (found : List Record) (earlier : List Source) (xs : List Exchange) (records : List Record) →
         slice_get house.owners o ≡ Some owner → IsOwnerIn house owner → IsFound owner (draws o) earlier found →
         AreKnown house turns → AreOfTurns turns xs → AreGathered house draws count crew o found xs records →
         (h : AreHonoured house draws turns count crew o owner found earlier xs records) →
         AreToldTheirOwn house o (first_new found) h.sources xs }
-    ensures scripts { (house : House) (draws : ℕ → ℕ → ℕ → ℕ) (found : Journals) (earlier : Programs) (script : List ℕ) (count : ℕ) (crew : ℕ → ℕ) →
+    ensures scripts { (house : House) (draws : ℕ → ℕ → ℕ → ℕ) (found : Journals) (earlier : Explanations) (script : List ℕ) (count : ℕ) (crew : ℕ → ℕ) →
         (xs : List Exchange) (records : Journals) → AreOwners house → AreFound house draws earlier found →
         IsGatheredScript house draws count crew found script xs records →
         (h : Headline house draws found earlier script count crew xs records) →
@@ -98,10 +99,10 @@ pub fn answered_scripts_are_runs()
         × IfSome after.trace (Leaves (λ bytes. (sent : ℕ → Bool) → IsLeftOf loading key workers old new found script text done o owner sent bytes)) }
 {}
 
-/// Where a script was answered over found records that programs explain, each file that a stop may have left since an owner's journal
-/// was opened, and each that a stop leaves now, stands for records that are explained by programs which begin with the earlier ones.
+/// Where a script was answered over found records that sources explain, each file that a stop may have left since an owner's journal
+/// was opened, and each that a stop leaves now, stands for records that are explained by sources which begin with the earlier ones.
 pub fn answered_scripts_leave_what_may_be_found()
-    ensures { (loading : Loading) (key : List ℕ) (workers : ℕ) (old new : Shelf) (found : Journals) (script text : List ℕ) (earlier : Programs) →
+    ensures { (loading : Loading) (key : List ℕ) (workers : ℕ) (old new : Shelf) (found : Journals) (script text : List ℕ) (earlier : Explanations) →
         IsLoading loading → AreFound (house_of loading.register) (draws_of key) earlier found →
         IsScriptAnswered loading key workers old new found script text → (o : ℕ) (owner : Owner) (before after : Stored) →
         slice_get (house_of loading.register).owners o ≡ Some owner → old o ≡ Some before → new o ≡ Some after →

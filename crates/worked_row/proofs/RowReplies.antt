@@ -1,5 +1,5 @@
 -- The replies to `hello ann`, `ask census 1 size people`, `bye`, where the table has the rows 20, 30 and 40.
-use Rattle.std.proofs.Common.{◌≡◌, ℕ, List, [], ◌∷◌, length, map, Option, Some, None, refl, sym, ◌∙◌, ap, subst, codes, arith}
+use Rattle.std.proofs.Common.{◌≡◌, ℕ, List, [], ◌∷◌, length, map, Option, Some, refl, sym, ◌∙◌, ap, subst, codes, arith}
 use Rattle.std.specs.Prelude.{ℤ, pos, ◌+ℤ◌}
 use Rattle.std.specs.Fmt.{digits}
 use Rattle.std.specs.List.{flat_map}
@@ -37,6 +37,7 @@ use Rattle.owner_desk.specs.Passes.{closing}
 use Rattle.query_server.specs.AnswerPath.Demand.{Demand, asks}
 use Rattle.query_server.specs.AnswerPath.Met.{IsMetExactly}
 use Rattle.query_server.specs.AnswerPath.Shut.{FailsBy, Shut, ShutsBy, disk_word, unshut}
+use Rattle.query_server.specs.SessionCore.Speakers.{Speaker, no_speaker, plain_speaker}
 use Rattle.query_server.specs.SessionCore.Meant.{Meant, says, wants, meant_by}
 use Rattle.query_server.specs.SessionCore.Served.{ShutsFor, ShutsOn}
 use Rattle.query_server.specs.SessionCore.Gathered.{StillShut}
@@ -60,7 +61,7 @@ abbrev pub owner : Owner
 owner = owner_of catalog ((census, loaded_owner.holding), 3)
 
 abbrev query : Query
-query = record { analyst = 0; view = Whole; e = 1000000; program = size_people }
+query = record { analyst = 0; view = Whole; e = 1000000; program = size_people; made = None }
 
 abbrev asking : Ask
 asking = record { analyst = 0; view = Whole; e = 1000000; p = 1; q = 1; digest = sha256 size_people }
@@ -69,19 +70,22 @@ abbrev grant : Grant
 grant = record { number = 0; taken = 1000000; seen = 1 }
 
 abbrev pub first_turn : Turn
-first_turn = record { who = None; line = codes "hello ann" }
+first_turn = record { who = no_speaker; line = codes "hello ann" }
 
 abbrev pub second_turn : Turn
-second_turn = record { who = Some 0; line = codes "ask census 1 size people" }
+second_turn = record { who = plain_speaker (Some 0); line = codes "ask census 1 size people" }
 
 abbrev pub third_turn : Turn
-third_turn = record { who = Some 0; line = codes "bye" }
+third_turn = record { who = plain_speaker (Some 0); line = codes "bye" }
 
-pub turns : turns_of house script ≡ first_turn ∷ second_turn ∷ third_turn ∷ []
+pub turns : (replies : List Replied) → turns_of house script replies ≡ first_turn ∷ second_turn ∷ third_turn ∷ []
 unfolding lines_of request_of meant_by
-turns = refl
+turns [] = refl
+turns (a ∷ []) = refl
+turns (a ∷ b ∷ []) = refl
+turns (a ∷ b ∷ c ∷ replies) = refl
 
-first_meant : meant_at house first_turn ≡ says (greeted (codes "ann")) (Some 0)
+first_meant : meant_at house first_turn ≡ says (greeted (codes "ann")) (plain_speaker (Some 0))
 unfolding request_of meant_by
 first_meant = refl
 
@@ -89,7 +93,7 @@ second_meant : meant_at house second_turn ≡ wants 0 owner (asks query)
 unfolding request_of meant_by
 second_meant = refl
 
-third_meant : meant_at house third_turn ≡ says ended (Some 0)
+third_meant : meant_at house third_turn ≡ says ended no_speaker
 unfolding request_of meant_by
 third_meant = refl
 
@@ -174,12 +178,12 @@ pub record IsRow (replies : List Replied) : Type 0 where
 three : (a b c : Replied) → a ≡ greeted (codes "ann") → IsSaid b → c ≡ ended → IsRow (a ∷ b ∷ c ∷ [])
 three a b c is_a said is_c = record { reply = b; said = said; are = ap (λ x. x ∷ b ∷ c ∷ []) is_a ∙ ap (λ x. greeted (codes "ann") ∷ b ∷ x ∷ []) is_c }
 
-plain_by : (x : Exchange) (turn : Turn) (said : Replied) (next : Option ℕ) → x.turn ≡ turn → meant_at house turn ≡ says said next → IsPlain (meant_at house x.turn) x → x.reply ≡ said
+plain_by : (x : Exchange) (turn : Turn) (said : Replied) (next : Speaker) → x.turn ≡ turn → meant_at house turn ≡ says said next → IsPlain (meant_at house x.turn) x → x.reply ≡ said
 plain_by x turn said next at is plain = (subst (λ (m : Meant). IsPlain m x) (ap (meant_at house) at ∙ is) plain).0
 
 -- what the three lines mean being known
 second_meets : {S : Type 0} (Meets : Owner → Demand → S → Exchange → S → Type 0) (before last : S) (x y z : Exchange)
-    → meant_at house x.turn ≡ says (greeted (codes "ann")) (Some 0) → meant_at house y.turn ≡ wants 0 owner (asks query) → meant_at house z.turn ≡ says ended (Some 0)
+    → meant_at house x.turn ≡ says (greeted (codes "ann")) (plain_speaker (Some 0)) → meant_at house y.turn ≡ wants 0 owner (asks query) → meant_at house z.turn ≡ says ended no_speaker
     → Lead house 0 Meets before (x ∷ y ∷ z ∷ []) last → (after : S) × Meets owner (asks query) before y after × (last ≡ after)
 second_meets {S = S} Meets before last x y z is_first is_second is_third lead =
     let behind : Lead house 0 Meets before (y ∷ z ∷ []) last =
@@ -204,9 +208,9 @@ replies_from draws noise (x ∷ y ∷ z ∷ []) last ends closed turns (px, (py,
     let ends_it = ap (meant_at house) third ∙ third_meant in
     let told = second_meets (MeetsExactly (draws 0) 0) [] last x y z greets asks_it ends_it lead in
     let shut = second_meets (ShutsFor (draws 0)) unshut ends x y z greets asks_it ends_it shuts in
-    three x.reply y.reply z.reply (plain_by x first_turn (greeted (codes "ann")) (Some 0) first first_meant px)
+    three x.reply y.reply z.reply (plain_by x first_turn (greeted (codes "ann")) (plain_speaker (Some 0)) first first_meant px)
     (said_open draws y ends shut.0 closed shut.1 shut.2 still counted (second_told draws y told.0 noise told.1))
-    (plain_by z third_turn ended (Some 0) third third_meant pz)
+    (plain_by z third_turn ended no_speaker third third_meant pz)
 
 answered_text : flat_map reply_text (replies_with (answered 0 (pos 5) 1000000)) ≡ row
 unfolding reply_text digits
@@ -245,5 +249,5 @@ answered_is rest old new found text none a =
     let w = shut.workers 0 (omega arith) in
     let shuts = subst (λ (ys : List Exchange). ShutsOn house draws 0 unshut ys (shut.ends 0)) (one_part a.crew shut.crews 0 a.exchanges) w.0 in
     text_is (map (λ (x : Exchange). x.reply) a.exchanges) text
-    (replies_from draws noise_is_two a.exchanges (a.records 0) (shut.ends 0) (a.closed 0) (a.gathered.turns ∙ turns) a.gathered.plain lead shuts w.1 (omega (arith, shut.counted)))
+    (replies_from draws noise_is_two a.exchanges (a.records 0) (shut.ends 0) (a.closed 0) (a.gathered.turns ∙ turns (map (λ (x : Exchange). x.reply) a.exchanges)) a.gathered.plain lead shuts w.1 (omega (arith, shut.counted)))
     a.written

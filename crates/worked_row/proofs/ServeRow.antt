@@ -30,10 +30,11 @@ use Rattle.query_server.specs.Serve.{IsHeldOver}
 use Rattle.query_server.specs.Service.{IsServiceLeft, IsServiceOver, service_status}
 use Rattle.query_server.specs.ServiceOver.{ComesTo, Door, IsAttended, IsService, door_at}
 use Rattle.query_server.specs.SessionCore.Exchanges.{Exchange}
+use Rattle.query_server.specs.SessionCore.Speakers.{no_speaker}
 use Rattle.query_server.specs.SessionCore.Gathered.{StillShut}
 use Rattle.query_server.specs.SessionCore.Served.{ShutsOn}
 use Rattle.query_server.specs.SessionCore.Transcript.{Journals, LeadExactly, first_new}
-use Rattle.query_server.specs.SessionCore.Turns.{blocks_of, is_bye, session_turns, turns_of}
+use Rattle.query_server.specs.SessionCore.Turns.{is_bye, turns_from, turns_of}
 use Rattle.query_server.specs.Shelves.{Shelf}
 use Rattle.query_server.specs.declared.end.Status.{Status}
 use Rattle.query_server.specs.declared.end.Status.TheVariants.{Done, Fault}
@@ -141,8 +142,8 @@ module _ (draws : ℕ → ℕ → ℕ → ℕ) (sitting : Sitting house draws) (
   is_whole : (lines_of s.answered ≡ lines_of script) × (s.text ≡ flat_map reply_text s.replies)
   is_whole = by_end sitting.end s.ends memory
 
-  its_turns : map (λ x. x.turn) s.told.exchanges ≡ turns_of house script
-  its_turns = s.told.turns ∙ ap (λ (ls : List (List ℕ)). flat_map (session_turns house None) (blocks_of ls)) is_whole.0
+  its_turns : map (λ x. x.turn) s.told.exchanges ≡ turns_of house script (map (λ (x : Exchange). x.reply) s.told.exchanges)
+  its_turns = s.told.turns ∙ ap (λ (ls : List (List ℕ)). turns_from house no_speaker ls (map (λ (x : Exchange). x.reply) s.told.exchanges)) is_whole.0
 
   written_is : sitting.new.written ≡ Some s.text
   written_is = s.took ∙ ap (λ (c : Connection). append_known c.written s.text) at
@@ -158,7 +159,7 @@ module _ (draws : ℕ → ℕ → ℕ → ℕ) (sitting : Sitting house draws) (
     s.text,
     written_is,
     text_is (map (λ x. x.reply) s.told.exchanges) s.text
-        (replies_from draws noise s.told.exchanges last ends closed (its_turns ∙ turns) s.told.served.plain lead shuts still counted)
+        (replies_from draws noise s.told.exchanges last ends closed (its_turns ∙ turns (map (λ (x : Exchange). x.reply) s.told.exchanges)) s.told.served.plain lead shuts still counted)
         (is_whole.1 ∙ ap (flat_map reply_text) (sym replies_are)),
   )
 

@@ -8,5 +8,5 @@ abbrev pub invariant-loop-turn : goal.invariant-loop-turn
 invariant-loop-turn l =
     record {
       totals : (charges : List Charge) × AreTotalsOf l.costs charges × (cost_of_charges charges ≤ l.turn * 4294967296);
-      places : HasPlaces l.costs (1000 - l.turn);
+      places : HasPlaces l.costs 1000 (1000 - l.turn);
     }

@@ -11,7 +11,7 @@ pub returns-in-Ok-Hello : goal.returns-in-Ok-Hello
 returns-in-Ok-Hello c =
     let reads : request_of c.args.line.now ≡ Ok (hello c.in-Ok-Hello.analyst.now) = sym c.read_request.ensures.exact ∙ ap reading c.in-Ok-Hello.is ∙ ap (λ r. reading (Ok r)) c.in-Ok-Hello.field-0-is in
     record {
-      meaning = c.greet.ensures.meaning ∙ meant_of (house_of c.args.house.now) c.args.who c.args.line.now (Ok (hello c.in-Ok-Hello.analyst.now)) reads;
+      meaning = c.greet.ensures.meaning c.args.who.now ∙ meant_of (house_of c.args.house.now) c.args.who.now c.args.line.now (Ok (hello c.in-Ok-Hello.analyst.now)) reads;
       proper = c.greet.ensures.proper;
       short = λ few. absurd (hello_long c.args.line.now c.in-Ok-Hello.analyst.now reads few);
     }
@@ -21,8 +21,8 @@ returns-in-Ok-Ask c =
     let request = ask c.in-Ok-Ask.owner.now c.in-Ok-Ask.epsilon c.in-Ok-Ask.program.now in
     let reads : request_of c.args.line.now ≡ Ok request = sym c.read_request.ensures.exact ∙ ap reading c.in-Ok-Ask.is ∙ ap (λ r. reading (Ok r)) c.in-Ok-Ask.field-0-is in
     record {
-      meaning = c.read_ask.ensures.meaning ∙ ap (λ subject. meant_by_ask c.args.who subject c.in-Ok-Ask.epsilon c.in-Ok-Ask.program.now) c.find_whole.ensures.named
-          ∙ meant_of (house_of c.args.house.now) c.args.who c.args.line.now (Ok request) reads;
+      meaning = c.read_ask.ensures.meaning ∙ ap (λ subject. meant_by_ask c.args.who.now subject c.in-Ok-Ask.epsilon c.in-Ok-Ask.program.now) c.find_whole.ensures.named
+          ∙ meant_of (house_of c.args.house.now) c.args.who.now c.args.line.now (Ok request) reads;
       proper = c.read_ask.ensures.proper;
       short = λ few. absurd (ask_long c.args.line.now c.in-Ok-Ask.owner.now c.in-Ok-Ask.program.now c.in-Ok-Ask.epsilon reads few);
     }
@@ -33,8 +33,8 @@ returns-in-Ok-AskPart c =
     let request = askpart line.owner.now line.partition.now line.key.now line.epsilon line.program.now in
     let reads : request_of c.args.line.now ≡ Ok request = sym c.read_request.ensures.exact ∙ ap reading line.is ∙ ap (λ r. reading (Ok r)) line.field-0-is in
     record {
-      meaning = c.read_ask-in-Ok-AskPart.ensures.meaning ∙ ap (λ subject. meant_by_ask c.args.who subject line.epsilon line.program.now) c.find_part-part.ensures.named
-          ∙ meant_of (house_of c.args.house.now) c.args.who c.args.line.now (Ok request) reads;
+      meaning = c.read_ask-in-Ok-AskPart.ensures.meaning ∙ ap (λ subject. meant_by_ask c.args.who.now subject line.epsilon line.program.now) c.find_part-part.ensures.named
+          ∙ meant_of (house_of c.args.house.now) c.args.who.now c.args.line.now (Ok request) reads;
       proper = c.read_ask-in-Ok-AskPart.ensures.proper;
       short = λ few. absurd (askpart_long c.args.line.now line.owner.now line.partition.now line.key.now line.program.now line.epsilon reads few);
     }
@@ -44,7 +44,7 @@ returns-in-Ok-Recall c =
     let request = recall c.in-Ok-Recall.owner.now c.in-Ok-Recall.number in
     let reads : request_of c.args.line.now ≡ Ok request = sym c.read_request.ensures.exact ∙ ap reading c.in-Ok-Recall.is ∙ ap (λ r. reading (Ok r)) c.in-Ok-Recall.field-0-is in
     record {
-      meaning = c.read_recall.ensures.meaning ∙ meant_of (house_of c.args.house.now) c.args.who c.args.line.now (Ok request) reads;
+      meaning = c.read_recall.ensures.meaning ∙ meant_of (house_of c.args.house.now) c.args.who.now c.args.line.now (Ok request) reads;
       proper = c.read_recall.ensures.proper;
       short = λ few. absurd (recall_long c.args.line.now c.in-Ok-Recall.owner.now c.in-Ok-Recall.number reads few);
     }
@@ -53,7 +53,7 @@ pub returns-in-Ok-Left : goal.returns-in-Ok-Left
 returns-in-Ok-Left c =
     let reads : request_of c.args.line.now ≡ Ok (left c.in-Ok-Left.owner.now) = sym c.read_request.ensures.exact ∙ ap reading c.in-Ok-Left.is ∙ ap (λ r. reading (Ok r)) c.in-Ok-Left.field-0-is in
     record {
-      meaning = c.read_left.ensures.meaning ∙ meant_of (house_of c.args.house.now) c.args.who c.args.line.now (Ok (left c.in-Ok-Left.owner.now)) reads;
+      meaning = c.read_left.ensures.meaning c.args.who.now ∙ meant_of (house_of c.args.house.now) c.args.who.now c.args.line.now (Ok (left c.in-Ok-Left.owner.now)) reads;
       proper = c.read_left.ensures.proper;
       short = λ few. absurd (left_long c.args.line.now c.in-Ok-Left.owner.now reads few);
     }
@@ -62,7 +62,7 @@ pub returns-in-Ok-Mine : goal.returns-in-Ok-Mine
 returns-in-Ok-Mine c =
     let reads : request_of c.args.line.now ≡ Ok (mine c.in-Ok-Mine.owner.now) = sym c.read_request.ensures.exact ∙ ap reading c.in-Ok-Mine.is ∙ ap (λ r. reading (Ok r)) c.in-Ok-Mine.field-0-is in
     record {
-      meaning = c.read_mine.ensures.meaning ∙ meant_of (house_of c.args.house.now) c.args.who c.args.line.now (Ok (mine c.in-Ok-Mine.owner.now)) reads;
+      meaning = c.read_mine.ensures.meaning ∙ meant_of (house_of c.args.house.now) c.args.who.now c.args.line.now (Ok (mine c.in-Ok-Mine.owner.now)) reads;
       proper = c.read_mine.ensures.proper;
       short = λ few. absurd (mine_long c.args.line.now c.in-Ok-Mine.owner.now reads few);
     }
@@ -70,7 +70,7 @@ returns-in-Ok-Mine c =
 pub returns-in-Ok-Bye-clause-meaning : goal.returns-in-Ok-Bye-clause-meaning
 returns-in-Ok-Bye-clause-meaning c =
     let reads : request_of c.args.line.now ≡ Ok bye = sym c.read_request.ensures.exact ∙ ap reading c.in-Ok-Bye.is ∙ ap (λ r. reading (Ok r)) c.in-Ok-Bye.field-0-is in
-    meant_of (house_of c.args.house.now) c.args.who c.args.line.now (Ok bye) reads
+    meant_of (house_of c.args.house.now) c.args.who.now c.args.line.now (Ok bye) reads
 
 pub returns-in-Ok-Bye-clause-short : goal.returns-in-Ok-Bye-clause-short
 returns-in-Ok-Bye-clause-short c = λ few. ended_short
@@ -78,7 +78,7 @@ returns-in-Ok-Bye-clause-short c = λ few. ended_short
 pub returns-in-Err-clause-meaning : goal.returns-in-Err-clause-meaning
 returns-in-Err-clause-meaning c =
     let reads : request_of c.args.line.now ≡ Err c.in-Err.refusal = sym c.read_request.ensures.exact ∙ ap reading c.in-Err.is in
-    ap (meaning_of (house_of c.args.house.now)) c.refuse.ensures ∙ meant_of (house_of c.args.house.now) c.args.who c.args.line.now (Err c.in-Err.refusal) reads
+    ap (meaning_of (house_of c.args.house.now) c.args.who.now) c.refuse.ensures ∙ meant_of (house_of c.args.house.now) c.args.who.now c.args.line.now (Err c.in-Err.refusal) reads
 
 pub returns-in-Err-clause-short : goal.returns-in-Err-clause-short
 returns-in-Err-clause-short c = λ few. subst (λ (m : LineMeaning). IsShort m) (sym c.refuse.ensures) (refusal_short c.in-Err.refusal c.in-Err.ensures.form)

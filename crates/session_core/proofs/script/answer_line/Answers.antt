@@ -6,15 +6,16 @@ use Rattle.owner_history.specs.OwnerCatalog.Entries.{PartitionEntry}
 use Rattle.owner_history.specs.OwnerHouse.House.{house_of, owner_at}
 use Rattle.owner_history.specs.OwnerDesk.Shared.{Shared}
 use Rattle.owner_history.specs.AnswerPath.Code.{demand_of, HasPartFor, IsDemandOf}
+use Rattle.session_core.specs.Speakers.{Speaker}
 use Rattle.session_core.specs.Exchanges.{Exchange}
 use Rattle.session_core.specs.Bundles.{Bundle, bundle_of}
-use Rattle.session_core.specs.Code.{meaning_of, ArePasses, AreServed, WantsTooManyWalks}
+use Rattle.session_core.specs.Code.{meaning_of, speaker_next, ArePasses, IsAnalyst, AreServed, WantsTooManyWalks}
 use Rattle.session_core.specs.declared.line.LineMeaning.TheVariants.{Says, Wants}
 use Rattle.owner_history.proofs.OwnerHouse.Owners.{owner_holds, tables_named}
 use Rattle.session_core.proofs.Bundles.{bundle_set, entry_at, knows_at, pass_within}
 use Rattle.session_core.proofs.Demands.{walks_held}
 use Rattle.session_core.proofs.Serving.{served_plain, served_wants}
-use Rattle.session_core.proofs.Turning.{bye_means, who_asks}
+use Rattle.session_core.proofs.Turning.{bye_means, speaker_known, who_next}
 use Rattle.session_core.proofs.script.answer_line.Goals as goal
 
 pub meet-requires-clause-demand : goal.meet-requires-clause-demand
@@ -49,8 +50,8 @@ returns-in-Wants-clause-served g c =
     let is : p ≡ get_or items n p = c.index_mut.ensures.value in
     let of = owner_holds c.args.server.now.house.now n c.dataset.result.now p.knows.opened.ledger.entry there c.dataset.ensures.holding (entry_at house items passes n there p is) in
     let met = c.meet.ensures.met (owner_at house n) of in
-    let x : Exchange = record { turn = record { who = c.args.who; line = c.args.line.now }; reply = replied c.meet.result; told = met.0 } in
-    let asks = sym c.read_line.ensures.meaning ∙ ap (meaning_of house) c.in-Wants.is in
+    let x : Exchange = record { turn = record { who = c.args.who.now; line = c.args.line.now }; reply = replied c.meet.result; told = met.0 } in
+    let asks = sym c.read_line.ensures.meaning ∙ ap (meaning_of house c.args.who.now) c.in-Wants.is in
     let known = (bundle_of items).knows in
     let served : AreServed house draws (x ∷ []) known (set known n c.meet.new.pass.knows) =
     served_wants house draws x demand n (owner_at house n) known p.knows c.meet.new.pass.knows asks (simp length-map within) (knows_at items n p is within)
@@ -65,7 +66,7 @@ returns-in-Wants-clause-walks g c = λ walks.
     let house = house_of c.args.server.now.house.now in
     let owner = owner_at house c.in-Wants.owner in
     let of = owner_holds c.args.server.now.house.now c.in-Wants.owner c.dataset.result.now owner.entry c.in-Wants.ensures.proper.0 c.dataset.ensures.holding refl in
-    let asks = sym c.read_line.ensures.meaning ∙ ap (meaning_of house) c.in-Wants.is in
+    let asks = sym c.read_line.ensures.meaning ∙ ap (meaning_of house c.args.who.now) c.in-Wants.is in
     c.meet.ensures.walks (walks_held owner.entry owner c.dataset.result.now c.in-Wants.owner (demand_of c.in-Wants.demand) of (subst WantsTooManyWalks asks walks))
 
 pub returns-in-Wants-clause-kept : goal.returns-in-Wants-clause-kept
@@ -79,32 +80,37 @@ returns-in-Wants-clause-kept g c =
 
 pub returns-in-Wants-clause-who : goal.returns-in-Wants-clause-who
 returns-in-Wants-clause-who g c =
-    let wanted = sym c.read_line.ensures.meaning ∙ ap (meaning_of (house_of c.args.server.now.house.now)) c.in-Wants.is in
-    who_asks (house_of c.args.server.now.house.now) c.args.who c.args.line.now (meaning_of (house_of c.args.server.now.house.now) (Wants c.in-Wants.owner c.in-Wants.demand)) wanted
+    let wanted = sym c.read_line.ensures.meaning ∙ ap (meaning_of (house_of c.args.server.now.house.now) c.args.who.now) c.in-Wants.is in
+    who_next (house_of c.args.server.now.house.now) c.args.who.now c.args.line.now (replied c.meet.result) (meaning_of (house_of c.args.server.now.house.now) c.args.who.now (Wants c.in-Wants.owner c.in-Wants.demand)) wanted
 
 pub returns-in-Wants-clause-ends : goal.returns-in-Wants-clause-ends
 returns-in-Wants-clause-ends g c =
-    let wanted = sym c.read_line.ensures.meaning ∙ ap (meaning_of (house_of c.args.server.now.house.now)) c.in-Wants.is in
-    bye_means (house_of c.args.server.now.house.now) c.args.who c.args.line.now (meaning_of (house_of c.args.server.now.house.now) (Wants c.in-Wants.owner c.in-Wants.demand)) wanted
+    let wanted = sym c.read_line.ensures.meaning ∙ ap (meaning_of (house_of c.args.server.now.house.now) c.args.who.now) c.in-Wants.is in
+    bye_means (house_of c.args.server.now.house.now) c.args.who.now c.args.line.now (meaning_of (house_of c.args.server.now.house.now) c.args.who.now (Wants c.in-Wants.owner c.in-Wants.demand)) wanted
 
 pub returns-in-Says-clause-served : goal.returns-in-Says-clause-served
 returns-in-Says-clause-served g c =
-    let x : Exchange = record { turn = record { who = c.args.who; line = c.args.line.now }; reply = replied c.in-Says.reply; told = [] } in
-    let says = sym c.read_line.ensures.meaning ∙ ap (meaning_of (house_of c.args.server.now.house.now)) c.in-Says.is in
-    ([], served_plain (house_of c.args.server.now.house.now) (g.S.Streams.given c.args.server.now.streams.now) x (replied c.in-Says.reply) c.in-Says.who c.args.passes.now.knows says refl refl)
+    let x : Exchange = record { turn = record { who = c.args.who.now; line = c.args.line.now }; reply = replied c.in-Says.reply; told = [] } in
+    let says = sym c.read_line.ensures.meaning ∙ ap (meaning_of (house_of c.args.server.now.house.now) c.args.who.now) c.in-Says.is in
+    ([], served_plain (house_of c.args.server.now.house.now) (g.S.Streams.given c.args.server.now.streams.now) x (replied c.in-Says.reply) (speaker_next c.args.who.now c.in-Says.next) c.args.passes.now.knows says refl refl)
 
 pub returns-in-Says-clause-walks : goal.returns-in-Says-clause-walks
 returns-in-Says-clause-walks g c = λ walks.
-    let says = sym c.read_line.ensures.meaning ∙ ap (meaning_of (house_of c.args.server.now.house.now)) c.in-Says.is in
+    let says = sym c.read_line.ensures.meaning ∙ ap (meaning_of (house_of c.args.server.now.house.now) c.args.who.now) c.in-Says.is in
     absurd (subst WantsTooManyWalks says walks)
 
 pub returns-in-Says-clause-who : goal.returns-in-Says-clause-who
 returns-in-Says-clause-who g c =
-    let says = sym c.read_line.ensures.meaning ∙ ap (meaning_of (house_of c.args.server.now.house.now)) c.in-Says.is in
-    c.who_after.ensures
-    ∙ who_asks (house_of c.args.server.now.house.now) c.args.who c.args.line.now (meaning_of (house_of c.args.server.now.house.now) (Says c.in-Says.reply c.in-Says.who)) says
+    let says = sym c.read_line.ensures.meaning ∙ ap (meaning_of (house_of c.args.server.now.house.now) c.args.who.now) c.in-Says.is in
+    c.turn_to.ensures
+    ∙ who_next (house_of c.args.server.now.house.now) c.args.who.now c.args.line.now (replied c.in-Says.reply) (meaning_of (house_of c.args.server.now.house.now) c.args.who.now (Says c.in-Says.reply c.in-Says.next)) says
 
 pub returns-in-Says-clause-ends : goal.returns-in-Says-clause-ends
 returns-in-Says-clause-ends g c =
-    let comes_to = sym c.read_line.ensures.meaning ∙ ap (meaning_of (house_of c.args.server.now.house.now)) c.in-Says.is in
-    c.is_end.ensures ∙ bye_means (house_of c.args.server.now.house.now) c.args.who c.args.line.now (meaning_of (house_of c.args.server.now.house.now) (Says c.in-Says.reply c.in-Says.who)) comes_to
+    let comes_to = sym c.read_line.ensures.meaning ∙ ap (meaning_of (house_of c.args.server.now.house.now) c.args.who.now) c.in-Says.is in
+    c.is_end.ensures ∙ bye_means (house_of c.args.server.now.house.now) c.args.who.now c.args.line.now (meaning_of (house_of c.args.server.now.house.now) c.args.who.now (Says c.in-Says.reply c.in-Says.next)) comes_to
+
+pub returns-in-Says-clause-known : goal.returns-in-Says-clause-known
+returns-in-Says-clause-known g c =
+    let house = house_of c.args.server.now.house.now in
+    subst (λ (w : Speaker). IsAnalyst house w) (sym c.turn_to.ensures) (speaker_known house c.args.who.now c.in-Says.next c.requires.known c.in-Says.ensures.proper)

@@ -5,6 +5,8 @@ use Rattle.fz_outside.specs.declared.Failed.{Failed}
 use Rattle.outside_links.specs.Links.{Connection, HasGiven, shown}
 use Rattle.outside_links.proofs.Said.{given_none, given_further}
 use Rattle.session_core.specs.OwnerHouse.House.{house_of}
+use Rattle.session_core.specs.Speakers.{Speaker}
+use Rattle.session_core.specs.Code.{IsAnalyst}
 use Rattle.session_serve.specs.Session.{session_limit}
 use Rattle.session_serve.specs.Code.{Leads}
 use Rattle.session_serve.proofs.Steps.{bundle_goes, still_here, goes_first, goes_link}
@@ -21,12 +23,12 @@ loop-n-init g c = record {
   here = c.requires.here;
   kept = refl;
   passes = c.requires.passes;
-  known = tt;
+  known = subst (λ (w : Speaker). IsAnalyst (house_of c.args.server.now.house.now) w) (sym c.nobody-session.ensures) tt;
   count = refl;
   within = omega arith;
   gave = given_none (g.L.Link.left c.args.link.now) (g.L.Link.left c.args.link.now) refl;
   goes = goes_first (house_of c.args.server.now.house.now) (g.S.Streams.given c.args.server.now.streams.now) c.args.passes.now.knows
-      (shown (g.L.Link.left c.args.link.now) (g.L.Link.written c.args.link.now) (g.L.Link.faults c.args.link.now)) _ refl c.in-Ok.ensures;
+      (shown (g.L.Link.left c.args.link.now) (g.L.Link.written c.args.link.now) (g.L.Link.faults c.args.link.now)) _ c.nobody-session.ensures c.in-Ok.ensures;
 }
 
 pub returns-then-n-eq0-clause-session : goal.returns-then-n-eq0-clause-session

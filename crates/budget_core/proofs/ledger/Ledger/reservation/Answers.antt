@@ -4,6 +4,7 @@ use Rattle.budget_core.specs.Ledger.{Ledger, next_number, reservation_numbered, 
 use Rattle.budget_core.specs.Sound.{IsSound}
 use Rattle.budget_core.proofs.Charging.{view-valid}
 use Rattle.budget_core.proofs.LegalLemmas.{granted, may-grant}
+use Rattle.budget_core.proofs.SoundLemmas.{sound-history}
 use Rattle.budget_core.proofs.ledger.Ledger.reservation.Goals as goal
 
 pub returns-clause-may : goal.returns-clause-may
@@ -18,7 +19,7 @@ returns-clause-valid c =
     let g = granted c.args.self.now c.args.ask.now c.args.grant.now c.requires.granted in
     record {
       numbered = c.reservations.type_inv;
-      viewed = view-valid c.args.self.now.entry c.args.ask.now.view s.entry c.requires.asked.view;
+      viewed = view-valid c.args.self.now.entry c.args.self.now.records c.args.ask.now.view s.entry (sound-history c.args.self.now s) c.requires.asked.view;
       terms = c.requires.asked.terms;
       narrow = (omega arith, omega arith);
       charged = omega (arith, g.within, ap (λ (x : Grant). x.taken) g.is, s.limited);

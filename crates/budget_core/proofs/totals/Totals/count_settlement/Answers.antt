@@ -13,7 +13,7 @@ use Rattle.budget_core.specs.Kept.{HasRows}
 use Rattle.budget_core.specs.Legal.{IsOpen, IsSettlementAfter}
 use Rattle.budget_core.proofs.Backs.{back-charged, charge-view}
 use Rattle.budget_core.proofs.KeptLemmas.{open-row, row-of, settled-costs, kept-Settle}
-use Rattle.budget_core.proofs.MineKept.{share-at, share-charged, row-known, share-settled, shares-Settle}
+use Rattle.budget_core.proofs.MineKept.{room-settled, share-at, share-charged, row-known, share-settled, shares-Settle}
 use Rattle.budget_core.proofs.Numbers.{one_if}
 use Rattle.budget_core.proofs.Standings.{rows-Settle}
 use Rattle.budget_core.proofs.totals.Totals.count_settlement.Goals as goal
@@ -87,9 +87,9 @@ returns c records told may short =
     let share = share-at c.args.entry.now records c.args.self.now.shares.items row.analyst c.index_mut.result.now told.shares
     (row-known c.args.entry.now records settlement.number row told.history is) c.index_mut.ensures.value in
     let own = share-settled c.args.entry.now records settlement.number settlement.returned settlement.outcome row c.index_mut.result.now c.take_back-2.new.costs told.history before is share
-    c.take_back-2.ensures.given c.take_back-2.ensures.kept c.take_back-2.ensures.places c.take_back-2.ensures.room in
+    c.take_back-2.ensures.given c.take_back-2.ensures.kept c.take_back-2.ensures.places in
     kept-Settle c.args.entry.now records c.args.self.now settlement c.take_back.new.costs _ _ c.from.result c.from-2.result told may short costs
     (shares-Settle c.args.entry.now records c.args.self.now.shares.items settlement.number settlement.returned settlement.outcome row c.take_back-2.new.costs told.history is told.shares own)
     (subst (λ (xs : List Row). HasRows xs (records ++ Settle settlement ∷ [])) (sym (with_items_is c.args.self.now.rows c.settle_row.new.rows (omega (arith, c.settle_row.auto.rows, c.deref_mut.ensures.len)))) rows)
     refl (c.from.ensures ∙ ap bool_byte c.is_answer.ensures ∙ byte-one _) (c.from-2.ensures ∙ ap bool_byte c.is_exhaustion.ensures ∙ byte-one _)
-    (told.part_room.0, c.take_back.ensures.room told.part_room.0 told.part_room.1, told.part_room.2)
+    (room-settled c.args.entry.now records (Settle settlement) c.args.self.now.costs c.take_back.new.costs c.take_back.ensures.places told.part_room)

@@ -12,3 +12,8 @@ pub returns-in-Grant : goal.returns-in-Grant
 returns-in-Grant c records told =
     subst (λ (r : Record). (IsTrue c.may_grant.result → MayFollow c.args.entry.now records r) × (MayFollow c.args.entry.now records r → IsTrue c.may_grant.result))
     (sym c.in-Grant.is) (c.may_grant.ensures c.args.entry.now records told)
+
+pub returns-in-Define : goal.returns-in-Define
+returns-in-Define c records told =
+    subst (λ (r : Record). (IsTrue c.may_define.result → MayFollow c.args.entry.now records r) × (MayFollow c.args.entry.now records r → IsTrue c.may_define.result))
+    (sym c.in-Define.is) (c.may_define.ensures c.args.entry.now records told)

@@ -1,5 +1,7 @@
-use Rattle.std.proofs.Common.{ℕ, ◌≤◌, List, All, [], ◌∙◌, sym, subst, arith, refl}
-use Rattle.partition_charge.specs.Totals.{HasRoomBelow}
+use Rattle.std.proofs.Common.{ℕ, ◌≤◌, min, List, All, [], ◌∙◌, sym, subst, arith, refl}
+use Rattle.partition_charge.specs.Totals.{HasPlaces}
+use Rattle.partition_charge.specs.Views.{part_limit}
+use Rattle.budget_core.proofs.MineKept.{room-new}
 use Rattle.budget_core.specs.declared.totals.Row.{Row}
 use Rattle.budget_core.specs.Kept.{HasRows}
 use Rattle.budget_core.proofs.Costs.{cost_of-nil, budget_of-nil}
@@ -25,9 +27,9 @@ returns c =
       budget = c.budget.ensures ∙ sym (budget_of-nil c.args.entry.now);
       fits = omega arith;
       row_room = omega (arith, c.capacity.ensures.capacity, c.in_ok-rows.ensures.capacity);
-      part_room = (
-        c.from.result,
-        subst (HasRoomBelow c.in_ok-costs.costs) (omega (arith, c.from.ensures, c.most_keys.ensures.limited)) c.in_ok-costs.ensures.below,
-        subst (λ (n : ℕ). All (λ (count : ℕ). count ≤ n) c.args.entry.now.keys) (sym c.from.ensures) c.most_keys.ensures.most,
-      );
+      part_room = room-new c.args.entry.now c.in_ok-costs.costs c.from.result (omega (arith, c.from.ensures, c.most_keys.ensures.limited))
+          (subst (λ (n : ℕ). All (λ (count : ℕ). count ≤ n) c.args.entry.now.keys) (sym c.from.ensures) c.most_keys.ensures.most)
+          (subst (HasPlaces c.in_ok-costs.costs (min c.from.result part_limit)) c.capacity-2.ensures.capacity c.in_ok-costs.ensures.places);
+      made = c.in_ok-made.ensures.items;
+      made_room = omega (arith, c.in_ok-made.ensures.capacity);
     }

@@ -1,5 +1,6 @@
 use Rattle.std.proofs.Common.{IfOk, ◌≡◌, ◌∙◌, ap, subst, sym}
 use Rattle.owner_lock.specs.Passes.{known}
+use Rattle.budget_core.specs.Ledger.{IsAskOf}
 use Rattle.budget_core.specs.Sound.{IsSound}
 use Rattle.budget_ledger.specs.Booked.{IsReserved}
 use Rattle.owner_desk.specs.Passes.{ledger_on}
@@ -7,7 +8,17 @@ use Rattle.owner_desk.specs.Answers.{HasReserved}
 use Rattle.owner_desk.specs.Watched.{Watched, account_at}
 use Rattle.owner_desk.specs.Shared.{Shared, opened_in, pass_with}
 use Rattle.owner_desk.proofs.Calls.{has_granted, has_limits, has_reserved}
+use Rattle.owner_desk.specs.Noted.{records_in}
+use Rattle.owner_desk.proofs.Meeting.{meets_ask}
 use Rattle.owner_desk.proofs.desk.Desk+D.reserve.Goals as goal
+
+pub with-requires-clause-can : goal.with-requires-clause-can
+with-requires-clause-can g c = λ x m p is.
+    let v = known c.pass.inside.ticket in
+    let asked : IsAskOf (opened_in v.fixed).ledger.entry (records_in v.seen) c.args.asking.now =
+    subst (λ (p : Shared). IsAskOf p.knows.opened.ledger.entry p.knows.seen c.args.asking.now) (sym c.pass.view_is) c.requires.of_entry in
+    subst (λ (z : Watched). IsAskOf z.opened.ledger.entry z.records c.args.asking.now) (sym is)
+    (meets_ask (opened_in v.fixed) v x c.pass.invariant m c.args.asking.now asked)
 
 pub returns-clause-reserved : goal.returns-clause-reserved
 returns-clause-reserved g c =

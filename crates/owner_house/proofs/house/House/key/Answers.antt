@@ -1,4 +1,4 @@
-use Rattle.std.proofs.Common.{◌≡◌, ◌<◌, length, sym, subst}
+use Rattle.std.proofs.Common.{◌≡◌, ◌<◌, [], length, sym, subst}
 use Rattle.std.specs.Prelude.{IfSome}
 use Rattle.partition_charge.specs.declared.view.View.TheVariants.{Part}
 use Rattle.budget_core.specs.Entries.{HasView}
@@ -39,7 +39,7 @@ returns-clause-part c =
 pub returns-clause-view : goal.returns-clause-view
 returns-clause-view c =
     let inside = register_by c.self.inside.catalog c.self.inside.datasets.items c.self.inside.versions in
-    subst (λ (r : Register). IfSome c.key.result (λ j. HasView (owner_at (house_of r) c.args.owner).entry (Part c.args.partition j))) c.self.view_is
+    subst (λ (r : Register). IfSome c.key.result (λ j. HasView (owner_at (house_of r) c.args.owner).entry [] (Part c.args.partition j))) c.self.view_is
     (key_by inside c.self.invariant c.args.owner
     (subst (λ (r : Register). c.args.owner < length (house_of r).owners) (sym c.self.view_is) c.requires.owner) c.args.partition c.args.key.now c.key.result
     (subst (λ (r : Register). c.args.partition < length (owner_at (house_of r) c.args.owner).partitions) (sym c.self.view_is) c.requires.partition)

@@ -1,8 +1,8 @@
-use Rattle.std.proofs.Common.{◌≡◌, ℕ, ◌+◌, ◌≤◌, length, vec_capacity, arith, refl}
-use Rattle.partition_charge.specs.declared.parts.Parts.{Parts}
+use Rattle.std.proofs.Common.{◌≡◌, ℕ, arith, refl, ⊎_elim, inl, inr}
 use Rattle.partition_charge.specs.declared.view.View.{View}
 use Rattle.partition_charge.specs.declared.view.View.TheVariants.{Whole, Part}
-use Rattle.partition_charge.specs.Parts.{AreBelow}
+use Rattle.partition_charge.specs.Views.{parts_within}
+use Rattle.partition_charge.specs.Totals.{HasFree}
 use Rattle.partition_charge.proofs.Charges.{view-within}
 use Rattle.partition_charge.proofs.Standing.{sums-found, sums-at, each-changed}
 use Rattle.partition_charge.proofs.Rests.{back-whole, back-part, greatest-back-part, sums-back-part}
@@ -24,22 +24,16 @@ returns-in-Part-clause-totals c charges rest stands is =
     c.in-Part.partition c.in-Part.part c.take.new.self _ c.in-Part.is refl has
 
 pub returns-in-Part-clause-places : goal.returns-in-Part-clause-places
-returns-in-Part-clause-places c n has =
+returns-in-Part-clause-places c most more has =
     let enough = c.requires.enough in
     let within = view-within enough.0 c.args.view c.args.amount c.in-Part.partition c.in-Part.part c.requires.view c.in-Part.is in
     let found = sums-found c.args.self.now enough.0 c.in-Part.partition c.index_mut.result.now enough.1 within.0 c.index_mut.ensures.value in
-    each-changed (λ (parts : Parts). length parts.sums.items + n ≤ vec_capacity parts.sums) (λ (parts : Parts). length parts.sums.items + n ≤ vec_capacity parts.sums)
+    each-changed (λ (p : ℕ). HasFree (parts_within most p) more) (λ (p : ℕ). HasFree (parts_within most p) more)
     c.args.self.now.partitions.items c.in-Part.partition c.index_mut.result.now c.take.new.self found
-    (λ broad. omega (arith, broad, c.take.ensures.count, c.take.ensures.taken.room)) (λ parts same. same) has
-
-pub returns-in-Part-clause-below : goal.returns-in-Part-clause-below
-returns-in-Part-clause-below c n has =
-    let enough = c.requires.enough in
-    let within = view-within enough.0 c.args.view c.args.amount c.in-Part.partition c.in-Part.part c.requires.view c.in-Part.is in
-    let found = sums-found c.args.self.now enough.0 c.in-Part.partition c.index_mut.result.now enough.1 within.0 c.index_mut.ensures.value in
-    each-changed (λ (parts : Parts). AreBelow n parts.sums.items × (n ≤ vec_capacity parts.sums)) (λ (parts : Parts). AreBelow n parts.sums.items × (n ≤ vec_capacity parts.sums))
-    c.args.self.now.partitions.items c.in-Part.partition c.index_mut.result.now c.take.new.self found
-    (λ old. (c.take.ensures.below n old.0, omega (arith, old.1, c.take.ensures.taken.room))) (λ parts same. same) has
+    (λ old. ⊎_elim
+    (λ all. inl (c.take.ensures.below (parts_within most c.in-Part.partition) all.0, omega (arith, all.1, c.take.ensures.taken.room)))
+    (λ free. inr (omega (arith, free, c.take.ensures.count, c.take.ensures.taken.room))) old)
+    (λ p parts same. same) has
 
 pub returns-in_default-clause-totals : goal.returns-in_default-clause-totals
 returns-in_default-clause-totals c charges rest stands is =

@@ -1,19 +1,14 @@
-use Rattle.std.proofs.Common.{length, arith, ap}
-use Rattle.partition_charge.specs.declared.parts.PartSum.{PartSum}
-use Rattle.partition_charge.proofs.Standing.{new-stands, empty-at}
+use Rattle.std.proofs.Common.{ℕ, subst, arith}
+use Rattle.partition_charge.specs.Totals.{HasPlaces}
+use Rattle.partition_charge.proofs.Standing.{new-stands, empty-places}
 use Rattle.partition_charge.proofs.costs.Costs.new.Goals as goal
 
 pub returns-clause-totals : goal.returns-clause-totals
 returns-clause-totals c =
     let done = c.loop-partition.invariant in
-    new-stands c.min-room.result c.loop-partition.partitions (omega (arith, done.count, c.loop-partition-test.false, c.loop-partition.auto)) done.empty
+    new-stands c.min-most.result c.args.charges c.loop-partition.partitions (omega (arith, done.count, c.loop-partition-test.false, c.loop-partition.auto)) done.empty
 
 pub returns-clause-places : goal.returns-clause-places
-returns-clause-places c p parts found =
-    let empty = empty-at c.min-room.result c.loop-partition.partitions.items p parts c.loop-partition.invariant.empty found in
-    omega (arith, empty.2, ap (length {A = PartSum}) empty.0, c.min-room.ensures)
-
-pub returns-clause-below : goal.returns-clause-below
-returns-clause-below c p parts found =
-    let empty = empty-at c.min-room.result c.loop-partition.partitions.items p parts c.loop-partition.invariant.empty found in
-    (λ i within. absurd (omega (arith, within, ap (length {A = PartSum}) empty.0)), omega (arith, empty.2, c.min-room.ensures))
+returns-clause-places c =
+    subst (λ (most : ℕ). HasPlaces (record { spent = 0; partitions = c.loop-partition.partitions }) most c.args.charges) (omega (arith, c.min-most.ensures))
+    (empty-places c.min-most.result c.args.charges c.loop-partition.partitions 0 c.loop-partition.invariant.empty)
