@@ -23,7 +23,7 @@ DEFINITIONS = {
     "NAME_BYTES": [("fz_ast", "IsName x = length x ≤ #"), ("owner_catalog", "name_limit"), ("wire_lines", "NAME_LIMIT")],
     "TEXT_LIMIT": [("fz_ast", "IsText s = length s ≤ #"), ("fz_lexer", "length inner ≤ #")],
     "PROGRAM_LIMIT": [("fz_lexer", "most_bytes")], "TOKEN_LIMIT": [("fz_lexer", "most_tokens")],
-    "NEST_LIMIT": [("fz_parser", "deepest")], "DEPTH_LIMIT": [("shape_law", "depth_limit")], "TURN_LIMIT": [("shape_law", "turn_limit")],
+    "NEST_LIMIT": [("fz_parser", "deepest")], "DEPTH_LIMIT": [("row_functions", "depth_limit")], "TURN_LIMIT": [("shape_law", "turn_limit")],
     "WIDTH_LIMIT": [("shape_law", "width_limit")], "WALK_LIMIT": [("shape_law", "walk_limit")], "REACH_LIMIT": [("shape_law", "reach_limit")],
     "ANALYSTS": [("budget_core", "analyst_limit")], "OWNERS": [("owner_catalog", "owner_limit")], "TABLES": [("owner_catalog", "table_limit")],
     "COLUMN_LIMIT": [("table_store", "most_columns")], "PARTITION_LIMIT": [("partition_charge", "partition_limit")],

@@ -17,7 +17,7 @@ pub(crate) fn column(alloc: Global, name: &str, kind: Kind) -> Result<NamedColum
     Ok(NamedColumn::new(String::from_str(alloc, name)?, kind))
 }
 
-fn people(alloc: Global) -> Result<Schema, AllocError> {
+pub(crate) fn people(alloc: Global) -> Result<Schema, AllocError> {
     let mut columns = Vec::new(alloc);
     columns.push(column(alloc, "name", Kind::Text)?)?;
     columns.push(column(alloc, "age", Kind::Num)?)?;

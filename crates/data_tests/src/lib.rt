@@ -16,6 +16,8 @@ mod distances;
 #[cfg(test)]
 mod lines_and_replies;
 #[cfg(test)]
+mod made_parts;
+#[cfg(test)]
 mod parts;
 #[cfg(test)]
 mod records;

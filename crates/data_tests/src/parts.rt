@@ -103,18 +103,19 @@ fn shown<'d>(
 }
 
 // The table of a dataset that has one.
-fn only_table(tables: &Tables) -> Option<&Table> {
+pub(crate) fn only_table(tables: &Tables) -> Option<&Table> {
     if tables.len() != 1 {
         return None;
     }
     Some(tables.table(0))
 }
 
-fn has_ages(table: Option<&Table>, ages: &[i64]) -> bool {
+// Whether the second column has just these numbers.
+pub(crate) fn has_ages(table: Option<&Table>, ages: &[i64]) -> bool {
     let Some(table) = table else {
         return false;
     };
-    if table.width() != 2 || table.len() != ages.len() {
+    if table.width() < 2 || table.len() != ages.len() {
         return false;
     }
     for row in 0..table.len() as u32 {

@@ -1,7 +1,7 @@
 -- Bytes in front of others are tokens in front of theirs.
 use Rattle.std.proofs.Common.{◌≡◌, ◌≢◌, ℕ, suc, ◌+◌, ◌<◌, ◌≤◌, ◌^◌, List, [], ◌∷◌, ◌++◌, true, refl, arith, sym, ap, ◌∙◌, subst, inl, inr, length, length-append, append_assoc, append-nil}
-use Rattle.std.specs.Prelude.{codes, decimal, Bool, false, ◌&&◌, ◌||◌, not, cond, nat_eq}
-use Rattle.std.proofs.lemmas.Bool.{cases_Bool, not-true}
+use Rattle.std.specs.Prelude.{codes, decimal, Bool, false, ◌||◌, not, cond, nat_eq}
+use Rattle.std.proofs.lemmas.Bool.{cases_Bool}
 use Rattle.fz_frac.specs.Distance.{Distance, Fin, Inf}
 use Rattle.fz_ast.specs.Types.{Ty, NumT, TextT, UnitT, TensorT, WithT, SumT, ArrowT, BangT, BagT}
 use Rattle.fz_ast.specs.Bare.{nowhere}
@@ -9,16 +9,15 @@ use Rattle.fz_ast.specs.Limits.{IsBang, TypeLimits}
 use Rattle.fz_lexer.specs.declared.token.Token.{Token}
 use Rattle.fz_lexer.specs.declared.token.Kind.{Kind}
 use Rattle.fz_lexer.specs.declared.token.Kind.TheVariants.{Number, Reserved, Punctuation}
-use Rattle.fz_lexer.specs.declared.token.Word.{Word}
 use Rattle.fz_lexer.specs.declared.token.Word.TheVariants.{Num, Text, Unit as UnitWord, Bag, Inf as InfWord}
 use Rattle.fz_lexer.specs.declared.token.Sign.{Sign}
 use Rattle.fz_lexer.specs.declared.token.Sign.TheVariants.{Yields, Arrow, Lollipop, AtMost, EqualTo, LeftParenthesis, RightParenthesis, LeftAngle, RightAngle, LeftBracket, RightBracket, Comma, Colon, Is, Bang, Bar, Plus, Minus, Star, Ampersand, Slash}
-use Rattle.fz_lexer.specs.Bytes.{begins, every_byte, is_blank, is_digit, is_letter, is_name_byte, stops, value_from}
-use Rattle.fz_lexer.specs.Signs.{IsLongest, SpellsSign, mark, may_follow}
+use Rattle.fz_lexer.specs.Bytes.{is_blank, is_digit, is_letter, is_name_byte, stops}
+use Rattle.fz_lexer.specs.Signs.{mark, may_follow}
 use Rattle.fz_lexer.specs.Tokens.{AreTokens, Cut, IsToken}
 use Rattle.fz_lexer.specs.Words.{spelling}
 use Rattle.derivation_lines.specs.Written.{type_text, amount_text, infix_text}
-use Rattle.fz_parser.specs.Printer.{Tokens, sign, word, number_token, kinds_of, in_parentheses, written_factor, written_type, type_kinds, factor_kinds}
+use Rattle.fz_parser.specs.Printer.{Tokens, sign, word, number_token, kinds_of, in_parentheses, written_factor, written_type}
 use Rattle.derivation_lines.proofs.Digits.{digits}
 
 -- before bytes that may follow, these bytes are these tokens in front, wherever they stand

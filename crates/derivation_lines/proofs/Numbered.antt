@@ -21,6 +21,9 @@ written_grows T U V m g h = record { all = h.all; numbers = numbers_grow T U V m
 pub written_at : (T U : List Ty) (m : List ℕ) (i : ℕ) → AreWritten T U m → i < length T → type_at U (slice_index m i) ≡ type_at T i
 written_at T U m i h l = let e = h.all in (h.numbers.each i (omega arith)).is
 
+pub no_numbers : (T U : List Ty) → AreNumbers T U []
+no_numbers T U = record { each = λ i l. absurd (omega (arith, l)) }
+
 pub one_number_more : (T U : List Ty) (m : List ℕ) (n : ℕ) → AreNumbers T U m → IsNumberOf U n (type_at T (length m)) → AreNumbers T U (m ++ n ∷ [])
 one_number_more T U m n h k = record { each = λ i l. go i (split_last (length m) i (let e = length_push m n in omega arith)) }
   where

@@ -1,22 +1,16 @@
 -- Bytes are one list of lines, or have one least line at fault: a derivation is judged in one way.
-use Rattle.std.proofs.Common.{◌≡◌, ◌≢◌, ◌⊎◌, ℕ, ◌+◌, ◌<◌, ◌≤◌, List, [], ◌∷◌, ◌++◌, ap, arith, inl, inr, length, refl, subst, sym, true, ◌∙◌, Bool, not, ◌==◌, ◌&&◌}
+use Rattle.std.proofs.Common.{◌≡◌, ◌≢◌, ◌⊎◌, ℕ, ◌<◌, ◌≤◌, List, [], ◌∷◌, ◌++◌, ap, arith, inl, inr, length, refl, subst, sym, true, ◌∙◌, not, ◌==◌}
 use Rattle.std.proofs.lemmas.Bool.{cases_lt}
 use Rattle.std.proofs.lemmas.List.{append-nil, length-append}
 use Rattle.std.specs.List.{slice_split}
-use Rattle.std.specs.Prelude.{None, Option, Some}
-use Rattle.fz_frac.specs.Distance.{Distance}
 use Rattle.fz_ast.proofs.SameTypes.{both_true}
-use Rattle.fz_ast.specs.Signature.{Signature}
-use Rattle.fz_ast.specs.Terms.{Name, Term}
 use Rattle.fz_ast.specs.Types.{Ty}
 use Rattle.fz_lexer.proofs.Cuts.{only}
-use Rattle.fz_lexer.specs.Bytes.{every_byte}
-use Rattle.fz_lexer.specs.declared.token.Kind.{Kind}
 use Rattle.fz_lexer.specs.declared.token.Kind.TheVariants.{Name as NameKind}
 use Rattle.fz_lexer.specs.declared.token.Token.{Token}
 use Rattle.fz_parser.proofs.Types.{one_sensitivity, one_type}
 use Rattle.fz_parser.specs.Grammar.{IsSensitivityOf, IsTypeOf}
-use Rattle.derivation_lines.specs.Lines.{Line, Said, line_at}
+use Rattle.derivation_lines.specs.Lines.{Line, Said}
 use Rattle.derivation_lines.specs.Texts.{ArePieces, AreLines, AreSaidTexts, BeginWith, IsFaultyLine, IsLineText, IsSaidText, IsTypeText, NoLine, bar, lacks, line_feed}
 
 type_once : (text : List ℕ) (A B : Ty) → IsTypeText text A → IsTypeText text B → A ≡ B

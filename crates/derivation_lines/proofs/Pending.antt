@@ -1,13 +1,11 @@
 -- Pieces that are still to be written.
-use Rattle.std.proofs.Common.{◌≡◌, ℕ, ◌+◌, ◌<◌, List, [], ◌∷◌, ◌++◌, length, refl, ap, sym, ◌∙◌, arith, append_assoc, append-nil, length-append}
-use Rattle.std.specs.Prelude.{codes}
+use Rattle.std.proofs.Common.{◌≡◌, ℕ, ◌<◌, List, [], ◌∷◌, ◌++◌, length, refl, ap, sym, ◌∙◌, arith, append_assoc, length-append}
 use Rattle.fz_ast.specs.Types.{Ty}
 use Rattle.fz_ast.specs.TypeNodes.{type_at}
-use Rattle.fz_frac.specs.Distance.{Distance}
 use Rattle.derivation_lines.specs.Pending.{AreHeldPieces, IsHeldPiece, Writes, pending, piece_text}
-use Rattle.derivation_lines.specs.Written.{amount_text, infix_text, type_text}
+use Rattle.derivation_lines.specs.Written.{infix_text, type_text}
 use Rattle.derivation_lines.specs.declared.write.Piece.{Piece}
-use Rattle.derivation_lines.specs.declared.write.Piece.TheVariants.{Part, Star, Ampersand, Plus, Lollipop, Close}
+use Rattle.derivation_lines.specs.declared.write.Piece.TheVariants.{Part, Close}
 
 pub pending_append : (T : List Ty) (ps qs : List Piece) (rest : List ℕ) → pending T (ps ++ qs) rest ≡ pending T qs (pending T ps rest)
 pending_append T [] qs rest = refl

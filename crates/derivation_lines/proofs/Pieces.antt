@@ -1,6 +1,6 @@
 -- Texts cut at bytes, and why a piece is none.
 use Rattle.std.proofs.Common.{◌≡◌, ℕ, zero, suc, ◌+◌, ◌<◌, ◌≤◌, Bool, true, false, not, eqb, List, [], ◌∷◌, ◌++◌, length, get_or, take, drop, refl, sym, ap, subst, ◌∙◌, arith, inl, inr}
-use Rattle.std.specs.Prelude.{Result, Ok, Err, ◌==◌, IfErr}
+use Rattle.std.specs.Prelude.{Result, Ok, Err, Option, Some, None, ◌==◌, IfErr, IfNone}
 use Rattle.std.specs.Result.{IsErrAnd}
 use Rattle.std.proofs.lemmas.Bool.{eqb-true, not-true, and_parts}
 use Rattle.std.proofs.lemmas.List.{drop_more, get_or-take, length-take-le, take-append-drop}
@@ -46,6 +46,10 @@ module _ (c : ℕ) (xs : List ℕ) where
 
   pub lacks_all : Nowhere (Passes (is_byte c) xs) 0 (length xs) → lacks c xs ≡ true
   lacks_all nowhere = lacks_each c xs (λ k l. off (eqb (get_or xs k 0) c) (nowhere k (omega arith) l))
+
+pub passed_over : {X : Type 0} (P : Type 0) (o : Option X) → P → IfNone o P
+passed_over P None h = h
+passed_over P (Some x) h = tt
 
 -- a text without a bar is one piece
 pub pieces_one : (text : List ℕ) → lacks bar text ≡ true → pieces_of text ≡ text ∷ []

@@ -1,9 +1,9 @@
 -- No bar and no LF stands inside what is written of a type, a name or an amount.
-use Rattle.std.proofs.Common.{◌≡◌, ◌≢◌, ℕ, ◌<◌, ◌≤◌, ◌^◌, List, [], ◌∷◌, ◌++◌, Bool, true, false, refl, arith, ap, sym, ◌∙◌, subst, cond, rules, inl, inr, length}
-use Rattle.std.specs.Prelude.{◌&&◌, ◌==◌, not, codes, decimal, nat_eq}
+use Rattle.std.proofs.Common.{◌≡◌, ℕ, ◌<◌, ◌^◌, List, [], ◌∷◌, ◌++◌, Bool, true, false, refl, arith, subst, cond, inl, inr}
+use Rattle.std.specs.Prelude.{◌&&◌, not, codes, decimal, nat_eq}
 use Rattle.std.specs.List.{All}
 use Rattle.std.proofs.lemmas.List.Elements.{All-cons}
-use Rattle.std.proofs.lemmas.Bool.{and_parts, and_from, cases_Bool, eqb-true, not-true}
+use Rattle.std.proofs.lemmas.Bool.{and_parts, and_from, cases_Bool, eqb-true}
 use Rattle.fz_frac.specs.Distance.{Distance, Fin, Inf}
 use Rattle.fz_ast.specs.Types.{Ty, NumT, TextT, UnitT, TensorT, WithT, SumT, ArrowT, BangT, BagT}
 use Rattle.fz_ast.specs.Limits.{IsBang, TypeLimits}

@@ -1,10 +1,9 @@
 -- What is written is read back.
-use Rattle.std.proofs.Common.{◌≡◌, ℕ, List, [], ◌∷◌, ◌++◌, Bool, true, false, refl, ap, sym, ◌∙◌, subst, append_assoc, append-nil, inl, inr}
+use Rattle.std.proofs.Common.{◌≡◌, ℕ, List, [], ◌∷◌, ◌++◌, true, refl, ap, sym, ◌∙◌, append_assoc, append-nil, inl}
 use Rattle.std.specs.Prelude.{◌==◌, not}
-use Rattle.std.specs.List.{All, AllByRecursion, flat_map, slice_split}
+use Rattle.std.specs.List.{AllByRecursion, flat_map, slice_split}
 use Rattle.std.proofs.lemmas.List.Splits.{slice_split_at, slice_split_none}
-use Rattle.fz_frac.specs.Distance.{Distance}
-use Rattle.fz_ast.specs.Limits.{IsBang, TypeLimits}
+use Rattle.fz_ast.specs.Limits.{TypeLimits}
 use Rattle.fz_ast.specs.Terms.{Name}
 use Rattle.fz_lexer.specs.Bytes.{every_byte, is_name_byte, is_letter, is_digit}
 use Rattle.fz_lexer.specs.Tokens.{AreTokens}
@@ -14,10 +13,10 @@ use Rattle.fz_parser.specs.Printer.{Tokens, factor_kinds, kinds_of, name_token, 
 use Rattle.fz_lexer.specs.declared.token.Token.{Token}
 use Rattle.fz_ast.specs.Types.{Ty}
 use Rattle.derivation_lines.specs.Lines.{Said, Line}
-use Rattle.derivation_lines.specs.Texts.{AreLines, AreSaidTexts, ArePieces, IsLineText, IsSaidText, IsTypeText, bar, lacks, line_feed}
-use Rattle.derivation_lines.specs.Written.{amount_text, derivation_text, line_text, said_text, type_text}
+use Rattle.derivation_lines.specs.Texts.{AreSaidTexts, IsLineText, IsSaidText, IsTypeText, bar, lacks, line_feed}
+use Rattle.derivation_lines.specs.Written.{amount_text, derivation_text, said_text, type_text}
 use Rattle.derivation_lines.specs.Readable.{IsReadable, IsSayable, IsWord, WrittenReadsBack}
-use Rattle.derivation_lines.proofs.Fronts.{Front, amount, any, no_name, one, seq, space, looser, type_front, whole}
+use Rattle.derivation_lines.proofs.Fronts.{Front, amount, no_name, one, seq, space, looser, type_front, whole}
 use Rattle.derivation_lines.proofs.Plain.{amount_plain, every_append, every_of, name_plain, no_bar, plain, type_plain, no_line_feed}
 
 -- a name's token

@@ -5,7 +5,6 @@ use Rattle.fz_ast.specs.Terms.{Name}
 use Rattle.fz_ast.specs.Limits.{IsBang, TypeLimits}
 use Rattle.fz_lexer.specs.declared.token.Kind.TheVariants.{Name as NameKind}
 use Rattle.fz_lexer.specs.Tokens.{IsNameToken}
-use Rattle.fz_parser.specs.Grammar.{IsTypeOf, IsSensitivityOf}
 use Rattle.derivation_lines.specs.Lines.{Said, Line, AreInOrder}
 use Rattle.derivation_lines.specs.Texts.{AreLines}
 use Rattle.derivation_lines.specs.Written.{derivation_text}

@@ -1,8 +1,6 @@
 -- The bytes of a derivation: lines, each ended by LF; a line is cut at each bar into a type and names with amounts.
 use Rattle.std.specs.Prelude.{◌≡◌, ◌≢◌, ◌<◌, ℕ, List, [], ◌∷◌, ◌++◌, length, Bool, true, not, ◌==◌, ◌⊎◌, ⊤}
 use Rattle.std.specs.List.{slice_split}
-use Rattle.fz_frac.specs.Distance.{Distance}
-use Rattle.fz_ast.specs.Terms.{Name}
 use Rattle.fz_ast.specs.Types.{Ty}
 use Rattle.fz_lexer.specs.Bytes.{every_byte}
 use Rattle.fz_lexer.specs.Tokens.{AreTokens}

@@ -65,7 +65,6 @@ impl From<ParseFault> for TextFault {
 }
 
 /// What stands before and behind the first such byte. None where there is none.
-#[tactic(auto, using(crate::proofs::Pieces::cut_here, crate::proofs::Pieces::lacks_before, crate::proofs::Pieces::lacks_all))]
 fn cut_at(bytes: &[u8], byte: u8) -> Option<(&[u8], &[u8])>
     ensures cut { IfSome result (λ r. bytes.now ≡ r.0.now ++ byte ∷ r.1.now) }
     ensures first { IfSome result (λ r. lacks byte r.0.now ≡ true) }
@@ -76,7 +75,6 @@ fn cut_at(bytes: &[u8], byte: u8) -> Option<(&[u8], &[u8])>
 }
 
 /// The first piece of a text, and what is left behind its bar.
-#[tactic(auto, using(crate::proofs::Pieces::pieces_one, crate::proofs::Pieces::pieces_cut))]
 fn split_piece(text: &[u8]) -> (&[u8], Option<&[u8]>)
     ensures pieces { pieces_of text.now ≡ result.0.now ∷ pieces_behind result.1 }
     ensures piece { length result.0.now ≤ length text.now }

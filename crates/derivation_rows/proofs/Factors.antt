@@ -1,5 +1,5 @@
 -- Rows with a number of their own.
-use Rattle.std.proofs.Common.{◌≡◌, ◌<◌, refl, arith, length, false, List, to_z, of_z, w64}
+use Rattle.std.proofs.Common.{◌≡◌, ◌<◌, refl, arith, length, false, List, subst, sym, to_z, of_z, w64}
 use Rattle.std.specs.Prelude.{Option, Some, ℤ}
 use Rattle.std.proofs.lemmas.Int.{ints}
 use Rattle.fz_frac.specs.Distance.{Distance, quotient, ◌≈◌}
@@ -26,6 +26,9 @@ use Rattle.derivation_rows.proofs.Amounts.{bound_alike, product_alike}
 -- a number as the code holds it
 pub held : (z : ℤ) → IsNumber z → to_z w64 (of_z w64 z) ≡ z
 held z h = omega (arith, ints)
+
+pub held_number : (z : ℤ) → IsNumber z → IsNumber (to_z w64 (of_z w64 z))
+held_number z h = subst IsNumber (sym (held z h)) h
 
 -- r is the row's number d
 pub scaled : (T : List Ty) (L : List Line) (e : Part) (r : Sens) (d : Distance) (q : Option Ruled) → q ≡ Some (record { shape = Of Num; numbers = Scaled r e.at })

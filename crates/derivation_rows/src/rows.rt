@@ -47,7 +47,7 @@ impl View<'_> {
     }
 
     // The part of this line.
-    fn part(&self, at: usize) -> Part
+    fn at(&self, at: usize) -> Part
         requires view { IsView self.now }
         requires known { at < length self.now.lines.now }
         ensures known { result.ty < length self.now.arena.now }
@@ -81,82 +81,33 @@ impl View<'_> {
             (form_row (type_at self.now.nodes.now.types) (context_in T scope.now) form.now
             (line_at L places.first) (line_at L places.second) (line_at L places.third)) }
     {
+        let (arena, lines, p) = (self.arena, self.lines, places);
         match form {
             Form::Var(x) => look(scope, x),
             Form::Num(_) => formed(TypeForm::Num, Numbers::Zero),
             Form::Text(_) => formed(TypeForm::Text, Numbers::Zero),
             Form::Unit => formed(TypeForm::Unit, Numbers::Zero),
-            Form::Unary(form, _) => unary(self.arena, *form, self.part(places.first)),
-            Form::Binary(form, _, _) => binary(
-                self.arena,
-                *form,
-                self.part(places.first),
-                self.part(places.second),
-            ),
-            Form::Times(k, _) => times(self.arena, *k, self.part(places.first)),
-            Form::Ranged(form, lo, hi, _) => ranged(
-                self.arena,
-                *form,
-                *lo,
-                *hi,
-                self.part(places.first),
-            ),
-            Form::Inject(side, _, t, _) => inject(
-                self.arena,
-                *side,
-                self.written_type(*t),
-                self.part(places.first),
-            ),
-            Form::Bang(r, _) => bang(self.arena, *r, self.part(places.first)),
-            Form::Let(x, _, _) => let_name(
-                self.arena,
-                self.lines,
-                x,
-                self.part(places.first),
-                self.part(places.second),
-            ),
-            Form::LetBang(x, _, _) => let_bang(
-                self.arena,
-                self.lines,
-                x,
-                self.part(places.first),
-                self.part(places.second),
-            ),
+            Form::Unary(form, _) => unary(arena, *form, self.at(p.first)),
+            Form::Binary(form, _, _) => binary(arena, *form, self.at(p.first), self.at(p.second)),
+            Form::Times(k, _) => times(arena, *k, self.at(p.first)),
+            Form::Ranged(form, lo, hi, _) => ranged(arena, *form, *lo, *hi, self.at(p.first)),
+            Form::Inject(side, _, t, _) => {
+                inject(arena, *side, self.written_type(*t), self.at(p.first))
+            }
+            Form::Bang(r, _) => bang(arena, *r, self.at(p.first)),
+            Form::Let(x, _, _) => let_name(arena, lines, x, self.at(p.first), self.at(p.second)),
+            Form::LetBang(x, ..) => let_bang(arena, lines, x, self.at(p.first), self.at(p.second)),
             Form::LetPair(x, y, _, _) => {
-                let_pair(
-                    self.arena,
-                    self.lines,
-                    x,
-                    y,
-                    self.part(places.first),
-                    self.part(places.second),
-                )
+                let_pair(arena, lines, x, y, self.at(p.first), self.at(p.second))
             }
-            Form::If(_, _, _) => {
-                choice(
-                    self.arena,
-                    self.part(places.first),
-                    self.part(places.second),
-                    self.part(places.third),
-                )
-            }
+            Form::If(..) => choice(arena, self.at(p.first), self.at(p.second), self.at(p.third)),
             Form::Case(_, x, _, y, _) => {
-                let (e, a, b) = (
-                    self.part(places.first),
-                    self.part(places.second),
-                    self.part(places.third),
-                );
-                cases(self.arena, self.lines, e, x, a, y, b)
+                let (a, b) = (self.at(p.second), self.at(p.third));
+                cases(arena, lines, self.at(p.first), x, a, y, b)
             }
             Form::Lambda(form, x, _, t, _) => {
-                lambda(
-                    self.arena,
-                    self.lines,
-                    *form,
-                    x,
-                    self.written_type(*t),
-                    self.part(places.first),
-                )
+                let w = self.written_type(*t);
+                lambda(arena, lines, *form, x, w, self.at(p.first))
             }
         }
     }

@@ -48,10 +48,8 @@ pub fn under(alloc: Global, scope: &[Bound], bound: Bound) -> Result<Vec<Bound>,
     if let Err(_) = inner.push(bound) {
         return Err(NoMemory);
     }
-    for outer in scope {
-        if let Err(_) = inner.push(*outer) {
-            return Err(NoMemory);
-        }
+    if let Err(_) = inner.extend_from_slice(scope) {
+        return Err(NoMemory);
     }
     Ok(inner)
 }

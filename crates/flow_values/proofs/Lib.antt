@@ -1,5 +1,5 @@
 pub mod TableParts
-pub mod Computed
+pub use Rattle.row_functions.proofs.Computed
 pub mod Gone
 pub mod Stranded
 pub mod Closures

@@ -1,6 +1,6 @@
 pub mod Held
 pub mod Depths
-pub mod Computed
+pub use Rattle.row_functions.specs.Computed
 pub mod Steps
 pub mod Codes
 pub mod Views

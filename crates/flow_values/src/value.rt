@@ -534,8 +534,8 @@ impl Value {
         }
     }
 
-    // The bytes of a text.
-    fn bytes(&self) -> &[u8]
+    /// The bytes of a text.
+    pub fn bytes(&self) -> &[u8]
         requires { IsTextValue self.now.means }
         ensures { result.now ≡ text_in self.now.means }
     {

@@ -23,11 +23,13 @@ pub mod Finite
 pub mod LeastDerived
 pub mod LeastNames
 pub mod Names
+pub mod NodeSizes
 pub mod OneAnswer
 pub mod Programs
 pub mod Segments
 pub mod TableNames
 pub mod Verdicts
+pub mod WalkSteps
 pub mod Walked
 pub mod Whole
 pub mod Making

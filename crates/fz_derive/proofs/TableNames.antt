@@ -41,6 +41,9 @@ pub record AreTables (T : List Ty) (scope : List Bound) (ts : Signature) : Type 
   pub scoped : HasKnownTypes T scope
   pub are : context_in T scope ≡ names_of ts
 
+pub no_tables : (T : List Ty) → AreTables T [] []
+no_tables T = record { scoped = record { all = tt }; are = refl }
+
 pub one_table_more : (T U : List Ty) (scope : List Bound) (ts : Signature) (i : ℕ) (b : Bound) (t : Table) → Grows T U → slice_get ts i ≡ Some (table_of t) → b.name ≡ t.name → IsNumberOf U b.ty (table_type (table_of t))
     → AreTables T scope (take i ts) → AreTables U (scope ++ b ∷ []) (take (i + 1) ts)
 one_table_more T U scope ts i b t g e n k h =

@@ -71,6 +71,10 @@ not_lines ts e bytes (AtLine k) few h = inl (fault_counted bytes (nodes_of e) k 
 pub handed_on : (ts : Signature) (e : Term) (bytes : List ℕ) (q : Result Frac JudgeFault) (f : JudgeFault) → IsErrAnd q (λ y. y ≡ f) → ExplainsJudge ts e bytes f → IfErr q (ExplainsJudge ts e bytes)
 handed_on ts e bytes q f h k = let p = err_from_is_err_and q h in rw (p.1, p.2) k
 
+pub refused_so : (P : Frac → Type 0) (Q : JudgeFault → Type 0) (q : Result Frac JudgeFault) → IsErrAnd q Q → IfOk q P
+refused_so P Q (Ok x) h = absurd h
+refused_so P Q (Err f) h = tt
+
 pub has_bound : (ts : Signature) (e : Term) (bytes : List ℕ) (r : Result Frac JudgeFault) → IsSignature ts → TermLimits e → IfOk r (λ x. IsJudged ts e bytes (Fin x.p x.q)) → IfOk r (λ x. HasBound ts e (Fin x.p x.q))
 has_bound ts e bytes (Ok x) s l h = judged_has_bound ts e bytes (Fin x.p x.q) s l h
 has_bound ts e bytes (Err f) s l h = tt

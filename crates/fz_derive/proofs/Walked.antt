@@ -110,7 +110,7 @@ module _ (L : List Line) (N : Parts) (Γ : Context) (s : Span) (k : ℕ) where
     passed (Err x) g e h i = tt
 
 -- a term has a node
-nodes_above : (e : Term) → 0 < nodes_of e
+pub nodes_above : (e : Term) → 0 < nodes_of e
 nodes_above (at s (VarE x)) = omega arith
 nodes_above (at s (NumE z)) = omega arith
 nodes_above (at s (TextE t)) = omega arith

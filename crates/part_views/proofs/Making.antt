@@ -24,7 +24,7 @@ use Rattle.part_views.specs.Partitions.{HasPart, IsPartitionOf, cell_type}
 use Rattle.part_views.specs.Views.{rows_in, rows_with_key, signature_in}
 use Rattle.part_views.specs.declared.division.Division.{Division}
 use Rattle.part_views.proofs.Lawful.{owner_partitions}
-use Rattle.part_views.proofs.Laws.{rows_at}
+use Rattle.part_views.proofs.CutLaws.{rows_at}
 
 -- ---- groups of rows
 
@@ -94,7 +94,7 @@ module _ {G : Type 0} (items : G → List ℕ) (table : List Flat) where
 
 -- ---- a partition
 
-some_columns : (x : Flat) → 0 < columns_in x
+pub some_columns : (x : Flat) → 0 < columns_in x
 some_columns (PairF a b) = omega arith
 some_columns (NumF z) = omega arith
 some_columns (TextF s) = omega arith

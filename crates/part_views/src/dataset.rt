@@ -1,13 +1,13 @@
 //! An owner's tables with their rows, and what each view shows of them.
 
-ghost use Rattle.std.specs.Prelude.{◌≡◌, ◌<◌, length, IfOk};
+ghost use Rattle.std.specs.Prelude.{◌≡◌, ◌<◌, length, slice_get, IfOk};
 ghost use Rattle.metric_values.specs.Tables.{IsDataset};
 ghost use Rattle.owner_catalog.specs.Entries.{owner_entry_at, owner_signature};
 ghost use Rattle.part_views.specs.Holding.{IsHolding};
 ghost use Rattle.part_views.specs.Partitions.{HasPart};
-ghost use Rattle.part_views.specs.Views.{rows_in, signature_in};
+ghost use Rattle.part_views.specs.Views.{alone, rows_in, signature_in};
 
-use crate::division::{Division, divide_all};
+use crate::division::{self, Division, divide_all};
 use fz_ast::{NoMemory, Sig};
 use metric_values::Tables;
 use owner_catalog::Catalog;
@@ -80,6 +80,14 @@ impl Dataset {
                 &division.sig
             }
         }
+    }
+
+    /// One of the tables alone, as a made part shows it.
+    pub fn one_table(&self, alloc: Global, table: usize) -> Result<Sig, NoMemory>
+        requires { table < length self.now.tables }
+        ensures { IfOk result (λ sig. sig ≡ alone (slice_get self.now.tables table)) }
+    {
+        division::alone(alloc, &self.sig, table)
     }
 
     /// The rows of each table that a view shows.

@@ -116,8 +116,8 @@ fn kept(alloc: Global, texts: &[&[u8]]) -> Result<Texts, NoMemory>
     Ok(copy)
 }
 
-// A table alone.
-fn alone(alloc: Global, sig: &Sig, i: usize) -> Result<Sig, NoMemory>
+/// A table alone.
+pub(crate) fn alone(alloc: Global, sig: &Sig, i: usize) -> Result<Sig, NoMemory>
     requires { i < length sig.now }
     ensures { IfOk result (λ table. table ≡ alone (slice_get sig.now i)) }
 {

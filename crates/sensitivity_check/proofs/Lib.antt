@@ -5,5 +5,6 @@ pub mod Judging
 pub mod Binders
 pub mod TableAmounts
 pub mod Programs
+pub mod Functions
 pub mod Ready
 mod Examples

@@ -24,16 +24,19 @@ use Rattle.linear_types.specs.Sensitivities.{Sensitivities}
 use Rattle.linear_types.specs.Inferred.{Fault, Inferred, Has, Untyped}
 use Rattle.linear_types.specs.Inferred as rules
 use Rattle.metric_law.proofs.Programs.{program_value, program_bound}
-use Rattle.sensitivity_check.specs.Answered.{HasBound, IsChecked, IsFirstFault}
+use Rattle.sensitivity_check.specs.Answered.{HasBound, IsChecked, IsFaultIn, IsFirstFault}
 use Rattle.typing_rows.specs.Says.{IsRowFault, IsFine, IsFaultOf, Says}
 use Rattle.sensitivity_check.specs.declared.checker.Checked.{Checked}
 use Rattle.typing_rows.specs.declared.clause.Judged.{Judged}
 use Rattle.typing_rows.specs.declared.clause.RowFault.{RowFault}
 use Rattle.typing_rows.specs.declared.clause.RowFault.TheVariants.{Unbound, Mismatch, NotGround, NotFlat, TooSensitive, Range, NoMemory}
+use Rattle.sensitivity_check.specs.declared.fault.CheckFault.{CheckFault}
 use Rattle.sensitivity_check.specs.declared.fault.CheckFault.TheVariants.{Unbounded, NotNum}
+use Rattle.sensitivity_check.specs.declared.fault.CheckFault.TheVariants.{Unbound as UnboundC, Mismatch as MismatchC, NotGround as NotGroundC, NotFlat as NotFlatC, TooSensitive as TooSensitiveC, Range as RangeC, NoMemory as NoMemoryC}
 use Rattle.sensitivity_check.proofs.TableAmounts.{finite_alike, greatest_alike, inf_alike, to_alike}
 
-fault_found : (T : List Ty) (r : RowFault) (v : Inferred) → (r ≡ NoMemory → ⊥) → IsFaultOf T r v → (f : Fault) × (v ≡ Untyped f) × IsRowFault T r f
+-- what isn't want of memory is a fault of what is inferred
+pub fault_found : (T : List Ty) (r : RowFault) (v : Inferred) → (r ≡ NoMemory → ⊥) → IsFaultOf T r v → (f : Fault) × (v ≡ Untyped f) × IsRowFault T r f
 fault_found T NoMemory v n h = absurd (n refl)
 fault_found T (Unbound s) (Untyped f) n h = (f, refl, h)
 fault_found T (Unbound s) (Has A D) n h = absurd h
@@ -49,8 +52,16 @@ fault_found T (Range s) (Untyped f) n h = (f, refl, h)
 fault_found T (Range s) (Has A D) n h = absurd h
 
 -- a term's fault is the program's
-pub first_fault_is : (ts : Signature) (e : Term) (T : List Ty) (r : RowFault) → (r ≡ NoMemory → ⊥) → IsFaultOf T r (rule (context_of ts) e) → (f : Fault) × (sensitivity_of ts e ≡ Faulty f) × IsRowFault T r f
-first_fault_is ts e T r n h = let k = fault_found T r (rule (context_of ts) e) n h in (k.0, faults_are_kept ts e k.0 k.1, k.2)
+pub first_fault : (ts : Signature) (e : Term) (fault : CheckFault) → IsFaultIn ts (rule (context_of ts) e) fault → IsFirstFault ts e fault
+first_fault ts e NoMemoryC h = tt
+first_fault ts e (UnboundC s) h = (h.0, faults_are_kept ts e h.0 h.1, h.2)
+first_fault ts e (MismatchC s T t w) h = (h.0, faults_are_kept ts e h.0 h.1, h.2)
+first_fault ts e (NotGroundC s) h = (h.0, faults_are_kept ts e h.0 h.1, h.2)
+first_fault ts e (NotFlatC s) h = (h.0, faults_are_kept ts e h.0 h.1, h.2)
+first_fault ts e (TooSensitiveC s x r) h = (h.0, faults_are_kept ts e h.0 h.1, h.2)
+first_fault ts e (RangeC s) h = (h.0, faults_are_kept ts e h.0 h.1, h.2)
+first_fault ts e (Unbounded i) h = (h.0, faults_are_kept ts e h.0 h.1, h.2)
+first_fault ts e (NotNum T t) h = (h.0, faults_are_kept ts e h.0 h.1, h.2)
 
 has : (T : List Ty) (o : Judged) (v : Inferred) → Says T (Ok o) v → (A : Ty) × (D : Sensitivities) × (v ≡ Has A D) × IsFine T o A D
 has T o (Has A D) h = (A, D, refl, h)

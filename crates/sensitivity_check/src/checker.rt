@@ -3,10 +3,10 @@ ghost use Rattle.std.specs.Prelude.{◌≡◌, IfOk, IfErr, Ok};
 ghost use Rattle.fz_ast.specs.Arena.{Grows};
 ghost use Rattle.fz_ast.specs.Limits.{TermLimits};
 ghost use Rattle.fz_ast.specs.Signature.{Signature};
-ghost use Rattle.fz_ast.specs.Terms.{Term};
+ghost use Rattle.linear_types.specs.Inferred.{Inferred};
 ghost use Rattle.linear_types.specs.Program.{context_of};
 ghost use Rattle.linear_types.specs.Rule.{rule};
-ghost use Rattle.sensitivity_check.specs.Answered.{IsChecked, IsFirstFault, HasBound};
+ghost use Rattle.sensitivity_check.specs.Answered.{IsChecked, IsFaultIn, IsFirstFault, HasBound};
 ghost use Rattle.typing_rows.specs.Says.{IsFaultOf, Says};
 
 use crate::amounts::{by_name, first_endless, greatest};
@@ -30,8 +30,8 @@ pub struct Checked<'a> {
     pub env: Env,
 }
 
-// The program's type and sensitivities, the tables being the names in scope.
-fn judged(alloc: Global, arena: &mut Arena, sig: &Sig, term: &Term) -> Result<Judged, RowFault>
+/// A term's type and sensitivities, the tables being the names in scope.
+pub fn judged(alloc: Global, arena: &mut Arena, sig: &Sig, term: &Term) -> Result<Judged, RowFault>
     ensures says { Says arena.new result (rule (context_of sig.now) term.now) }
     ensures limits { TermLimits term.now }
 {
@@ -46,9 +46,9 @@ fn judged(alloc: Global, arena: &mut Arena, sig: &Sig, term: &Term) -> Result<Ju
     walk.judge(arena, &scope, root)
 }
 
-// The fault with its types.
-fn with_types(arena: Arena, fault: RowFault) -> CheckFault
-    ensures { (ts : Signature) (e : Term) → IsFaultOf arena fault (rule (context_of ts) e) → IsFirstFault ts e result }
+/// The fault with its types.
+pub fn with_types(arena: Arena, fault: RowFault) -> CheckFault
+    ensures { (ts : Signature) (v : Inferred) → IsFaultOf arena fault v → IsFaultIn ts v result }
 {
     match fault {
         RowFault::Unbound { span } => CheckFault::Unbound { span },

@@ -4,6 +4,7 @@
 pub mod amounts;
 pub mod checker;
 pub mod fault;
+pub mod function;
 pub mod groups;
 pub mod judge;
 pub mod scope;
@@ -12,4 +13,5 @@ pub mod written;
 
 pub use checker::{Checked, check};
 pub use fault::CheckFault;
+pub use function::{CheckedFun, check_fun};
 pub use typing_rows::Wanted;

@@ -7,7 +7,7 @@ ghost use Rattle.sensitivity_check.specs.Scope.{context_in, HasKnownTypes};
 ghost use Rattle.sensitivity_check.specs.Written.{IsNumberOf};
 
 use crate::scope::Bound;
-use crate::written::interned;
+use crate::written::type_number;
 use fz_ast::{Arena, NoMemory, Sig, Ty, TypeForm};
 use std::alloc::Global;
 
@@ -16,9 +16,8 @@ fn table_type(alloc: Global, arena: &mut Arena, row: &Ty) -> Result<u32, NoMemor
     ensures grows { Grows arena.old arena.new }
     ensures is { IfOk result (λ n. IsNumberOf arena.new n (BagT row.now)) }
 {
-    let (types, root) = row.parts();
-    let numbers = interned(alloc, arena, types)?;
-    arena.intern(TypeForm::Bag(numbers[root as usize]))
+    let element = type_number(alloc, arena, row)?;
+    arena.intern(TypeForm::Bag(element))
 }
 
 /// The tables as names in scope, the first one being the innermost.

@@ -3,9 +3,9 @@ ghost use Rattle.std.specs.Prelude.{◌≡◌, ◌<◌, length, IfOk, List};
 ghost use Rattle.fz_ast.specs.Types.{Ty};
 ghost use Rattle.fz_ast.specs.TypeNodes.{type_at, type_of, HasBang, IsKnownType};
 ghost use Rattle.fz_ast.specs.Arena.{Grows};
-ghost use Rattle.sensitivity_check.specs.Written.{AreNumbers, AreWritten};
+ghost use Rattle.sensitivity_check.specs.Written.{AreNumbers, AreWritten, IsNumberOf};
 
-use fz_ast::{Arena, NoMemory, TypeForm, Types};
+use fz_ast::{Arena, NoMemory, Ty, TypeForm, Types};
 use std::alloc::Global;
 
 // The same form, its parts being numbers in the arena.
@@ -44,4 +44,14 @@ pub fn interned(alloc: Global, arena: &mut Arena, types: &Types) -> Result<Vec<u
         }
     }
     Ok(numbers)
+}
+
+/// The number in the arena of a type.
+pub fn type_number(alloc: Global, arena: &mut Arena, ty: &Ty) -> Result<u32, NoMemory>
+    ensures grows { Grows arena.old arena.new }
+    ensures is { IfOk result (λ n. IsNumberOf arena.new n ty.now) }
+{
+    let (types, root) = ty.parts();
+    let numbers = interned(alloc, arena, types)?;
+    Ok(numbers[root as usize])
 }

@@ -8,7 +8,7 @@ use Rattle.fz_ast.specs.Types.{BangT, NumT, UnitT}
 use Rattle.metric_law.specs.Worked.{name_at, numeral_at, span, split_in_halves, bang_undone, unused_names, worked_tables}
 use Rattle.shape_law.specs.Shapes.{Also, BangS, FnS, FunS, Nothing, PairS, Shape, Shapes, Wide, bang_shape, first_half, in_bang, pair_shape, second_half, shape_of, side_shape, table_shapes, walks_of, width_of, wider}
 use Rattle.shape_law.specs.Walk.{Shaped, Stops, Tally, WalkOutcome, TooDeep, TooLong, TooManyWalks, TooWide, depth_limit, shape, start, told, walk}
-use Rattle.shape_law.specs.Worked.{PassesLimit, Plans}
+use Rattle.shape_law.specs.Worked.{PassesLimit, Plans, ten_functions}
 
 -- words of shapes
 
@@ -380,22 +380,6 @@ let_of_a_bang = refl
 
 let_bang_of_a_bang : Visits (at nowhere (LetBangE (codes "x") banged x)) (FunS (codes "z") z under) 4 3 0
 let_bang_of_a_bang = refl
-
--- n times `1 * ..` over a term
-abbrev multiples : ℕ → Term → Term
-multiples zero t = t
-multiples (suc n) t = at (span 0 0) (TimesE (pos 1) (multiples n t))
-
--- n times let f = fun (x : num) => f (f x) in .., and then t
-abbrev twice_applied_in : ℕ → Term → Term
-twice_applied_in zero t = t
-twice_applied_in (suc n) t =
-    at (span 0 0) (LetE (codes "f") (at (span 0 0) (FunE (codes "x") nowhere NumT (at (span 0 0) (AppE (name_at 0 0 (codes "f")) (at (span 0 0) (AppE (name_at 0 0 (codes "f")) (name_at 0 0 (codes "x")))))))) (twice_applied_in n t))
-
--- ten functions, the first of 34 nodes, each of the others twice the one before; the last is applied under so many multiples
-abbrev ten_functions : ℕ → Term
-ten_functions n =
-    at (span 0 0) (LetE (codes "f") (at (span 0 0) (FunE (codes "x") nowhere NumT (multiples 33 (name_at 7 8 (codes "x"))))) (twice_applied_in 9 (multiples n (at (span 0 0) (AppE (name_at 0 0 (codes "f")) (numeral_at 0 0 1))))))
 
 whole_just_long : Plans (ten_functions 14) 20000 77 0 0 77
 unfolding depth_limit

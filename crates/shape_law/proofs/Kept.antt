@@ -19,7 +19,7 @@ pub record Kept (D : ℕ) (P : ℕ → Type 0) (k k' : Tally) : Type 0 where
   pub later : Later D k k'
   pub holds : (m : ℕ) → k'.depth ≤ m → P m
 
-follows : {D : ℕ} {j k l : Tally} → Later D j k → Later D k l → Later D j l
+pub follows : {D : ℕ} {j k l : Tally} → Later D j k → Later D k l → Later D j l
 follows a b = record { deeper = omega (arith, a.deeper, b.deeper); shallow = omega (arith, a.shallow, b.shallow); short = omega (arith, a.short, b.short) }
 
 up_to : {a b c : ℕ} → a ≤ b → b ≤ c → a ≤ c
@@ -77,7 +77,7 @@ bag_is D d q s before k k' h =
     (g.0, walks_before (as_before before k) k refl refl g.1)
 
 -- W gives shapes by R
-abbrev Keeps : ℕ → Walk → (ℕ → Shaping) → Type 0
+abbrev pub Keeps : ℕ → Walk → (ℕ → Shaping) → Type 0
 Keeps D W R = (σ : Shapes) (t : Term) (s : Shape) (k k' : Tally) → W σ t k ≡ Shaped s k' → Kept D (λ m. R m σ t s) k k'
 
 module _ (D : ℕ) (W : Walk) (R : ℕ → Shaping) (keeps : Keeps D W R) where
@@ -130,7 +130,7 @@ module _ (D : ℕ) (W : Walk) (R : ℕ → Shaping) (keeps : Keeps D W R) where
       let yzg = follows y.later zg in
       record { later = follows x.later yzg; holds = λ m n. (i.0, j.0, l.0, x.holds m (up_to yzg.deeper n), y.holds m (up_to zg.deeper n), z.holds m (up_to g.1.deeper n), g.0) }
 
-  entered : (c u s : Shape) (k k' : Tally) → enters W c u k ≡ Shaped s k' → Kept D (λ m. Enters (R m) c u s) k k'
+  pub entered : (c u s : Shape) (k k' : Tally) → enters W c u k ≡ Shaped s k' → Kept D (λ m. Enters (R m) c u s) k k'
   entered (FunS x e σ) u s k k' h = keeps (Also x u σ) e s k k' h
   entered (FnS x e σ) u s k k' h = keeps (Also x (in_bang u) σ) e s k k' h
   entered (Wide w i d) u s k k' h = leaf (Wide 0 0 0) s k k' h

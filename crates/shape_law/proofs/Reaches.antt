@@ -9,7 +9,7 @@ use Rattle.shape_law.specs.Walk.{Shaped, Stops, Tally, TooWide, Walk, WalkOutcom
 use Rattle.shape_law.proofs.Kept.{next_is, turn_is}
 
 -- nothing so far is evaluated deeper than the limit
-abbrev Low : Tally → Type 0
+abbrev pub Low : Tally → Type 0
 Low k = k.reach ≤ reach_limit
 
 abbrev pub LowWalk : Walk → Type 0
@@ -71,7 +71,7 @@ module _ (W : Walk) (low : LowWalk W) where
       part σ e (λ c k. next (W (τ c) a k) (λ p k. next (W (υ c) b k) (λ q. yields (wider p q)))) s k k' l
       (λ c j m i. parts (τ c) (υ c) a b (λ p q. yields (wider p q)) s j k' m (λ p q j z. yielded (wider p q) s j k' z) i) h
 
-  entered : (c u s : Shape) (k k' : Tally) → Low k → enters W c u k ≡ Shaped s k' → Low k'
+  pub entered : (c u s : Shape) (k k' : Tally) → Low k → enters W c u k ≡ Shaped s k' → Low k'
   entered (FunS x e σ) u s k k' l h = low (Also x u σ) e s k k' l h
   entered (FnS x e σ) u s k k' l h = low (Also x (in_bang u) σ) e s k k' l h
   entered (Wide w i d) u s k k' l h = yielded (Wide 0 0 0) s k k' l h

@@ -29,7 +29,7 @@ pub record Runs (n : ℕ) (γ : Env) (e : Term) (s : Shape) (A : Ty) : Type 0 wh
   pub fits : Fits s A value
 
 -- what is to be shown, at the height below
-abbrev Below : ℕ → Type 0
+abbrev pub Below : ℕ → Type 0
 Below n = (Γ : Context) → AllTypes Γ → (t : Term) (A : Ty) (D : Sensitivities) → Typing Γ t A D → (σ : Shapes) (γ : Env) (s : Shape) → FitsEnv σ Γ γ → ShapeIn n σ t s → Runs n γ t s A
 
 -- parts of ground types
@@ -86,7 +86,7 @@ sum_ground (fits_ground g t) = (g.0, g.1, t)
 -- functions
 
 -- a function that is entered without data has a result at that height
-enters_run : {n : ℕ} (c u r : Shape) (A B : Ty) (v w : Value) → Below n → Enters (ShapeIn n) c u r → Fits c (ArrowT A B) v → Fits u A w → (t : Value) × Applies (MeansIn n) v w t × Fits r B t
+pub enters_run : {n : ℕ} (c u r : Shape) (A B : Ty) (v w : Value) → Below n → Enters (ShapeIn n) c u r → Fits c (ArrowT A B) v → Fits u A w → (t : Value) × Applies (MeansIn n) v w t × Fits r B t
 enters_run c u r A B v w rec h (fits_ground g t) a = absurd g
 enters_run _ u r A B _ w rec h (fits_fun {e = e} k p f) a =
     let q = rec _ k e B _ p _ _ r (fits_also a f) h in (q.value, apply q.does, q.fits)
@@ -116,7 +116,7 @@ if_run {n} {o} {γ} {e} {a} {b} {C} {c} {p} {q} g r i j = let t = typed_run (tt,
 
 -- bag primitives
 
-flat_ground : (A : Ty) → IsFlat A → Ground A
+pub flat_ground : (A : Ty) → IsFlat A → Ground A
 flat_ground NumT g = tt
 flat_ground TextT g = tt
 flat_ground UnitT g = tt

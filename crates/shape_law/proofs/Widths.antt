@@ -24,7 +24,7 @@ mutual
 
 -- words of shapes
 
-none : Narrow (Wide 0 0 0)
+pub none : Narrow (Wide 0 0 0)
 none = narrow_ground (omega arith)
 
 width_narrow : (s : Shape) → Narrow s → width_of s ≤ width_limit
@@ -94,7 +94,7 @@ tables_narrow (t ∷ ts) = narrow_also (narrow_ground (omega arith)) (tables_nar
 -- walks
 
 -- neither the shape nor any so far is wider than the limit
-abbrev Stays : Shape → Tally → Type 0
+abbrev pub Stays : Shape → Tally → Type 0
 Stays s k = Narrow s × (k.width ≤ width_limit)
 
 -- where the names' shapes stay within the limit, so do W's
@@ -164,7 +164,7 @@ module _ (W : Walk) (narrow : NarrowWalk W) where
       → next (W σ a k) (λ p k. next (W τ b k) (λ q. yields (wider p q))) ≡ Shaped s k' → Stays s k'
   branches σ τ a b s k k' n m l h = parts σ τ a b (λ p q. yields (wider p q)) s k k' n m l (λ p q j x y z. yielded (wider p q) s j k' (wider_narrow p q x y) z) h
 
-  entered : (c u s : Shape) (k k' : Tally) → Narrow c → Narrow u → k.width ≤ width_limit → enters W c u k ≡ Shaped s k' → Stays s k'
+  pub entered : (c u s : Shape) (k k' : Tally) → Narrow c → Narrow u → k.width ≤ width_limit → enters W c u k ≡ Shaped s k' → Stays s k'
   entered (FunS x e σ) u s k k' (narrow_fun c) n l h = narrow (Also x u σ) e s k k' (narrow_also n c) l h
   entered (FnS x e σ) u s k k' (narrow_fn c) n l h = narrow (Also x (in_bang u) σ) e s k k' (narrow_also (held_narrow u n) c) l h
   entered (Wide w i d) u s k k' c n l h = yielded (Wide 0 0 0) s k k' none l h

@@ -4,12 +4,9 @@ use Rattle.fz_ast.specs.declared.span.Span.{Span}
 use Rattle.fz_ast.specs.Signature.{Signature}
 use Rattle.fz_ast.specs.Terms.{AppE, BangE, CaseE, ClipE, EqE, FilterE, FnE, FstE, FunE, GreatestE, IfE, InlE, InrE, LeE, LeastE, LetBangE, LetE, LetPairE}
 use Rattle.fz_ast.specs.Terms.{MapE, MinusE, NumE, PairE, PlusE, SizeE, SndE, SplitE, SumE, Term, TextE, TimesE, UnionE, UnitE, VarE, WithE, at, span_of}
+unfoldable pub use Rattle.row_functions.specs.RowFunctions.{depth_limit}
 use Rattle.shape_law.specs.Shapes.{Shape, Wide, FunS, FnS, Shapes, Also, shape_of, width_of, wider, pair_shape, first_half, second_half, bang_shape, in_bang}
-use Rattle.shape_law.specs.Shapes.{height_of, side_shape, table_shapes, walks_of}
-
--- it doesn't unfold by itself, since `walk 128` would unfold 128 times in each goal
-unfoldable pub depth_limit : ℕ
-depth_limit = 128
+use Rattle.shape_law.specs.Shapes.{Nothing, height_of, side_shape, table_shapes, walks_of}
 
 abbrev pub turn_limit : ℕ
 turn_limit = 20000
@@ -176,3 +173,8 @@ told o = o
 -- a whole program over the tables of a signature: the program's node has depth 1
 abbrev pub shape : Signature → Term → WalkOutcome
 shape ts t = told (walk depth_limit 1 (table_shapes ts) t start)
+
+-- A function of rows, applied to a row, which is ground and holds no bag: its term has depth 1, and then the body of the function that it gives has depth 2.
+-- The application is no node, and takes no turn.
+abbrev pub applied_shape : Term → WalkOutcome
+applied_shape t = told (next (walk depth_limit 1 Nothing t start) (λ c. enters (walk (depth_limit - 1) 2) c (Wide 0 0 0)))

@@ -21,8 +21,9 @@ use fz_ast::{NoMemory, Sig, Term};
 use std::alloc::Global;
 
 // How deep a run may be.
-fn limit() -> u32
+pub fn limit() -> u32
     ensures is { result ≡ depth_limit }
+    ensures some { 0 < result }
     ensures small { result < 1000 }
 {
     128

@@ -171,9 +171,9 @@ fn visit_sides(
     )
 }
 
-// The body of a function that is entered.
+/// The body of a function that is entered.
 #[cycle(visiting)]
-fn enter(
+pub fn enter(
     nodes: &Nodes,
     store: &mut Store,
     count: &mut Count,

@@ -1,9 +1,5 @@
-use Rattle.std.proofs.Common.{ℕ, List, refl, subst, length, inl, inr}
-use Rattle.std.specs.Prelude.{codes, ◌⊎◌}
-use Rattle.fz_ast.specs.declared.types.TypeForm.{TypeForm}
-use Rattle.fz_ast.specs.TypeNodes.{type_at, type_of, IsKnownType}
-use Rattle.derivation_lines.specs.Counted.{IsCount}
-use Rattle.derivation_lines.specs.Written.{type_text}
+use Rattle.std.proofs.Common.{refl, inl, inr}
+use Rattle.std.specs.Prelude.{codes}
 use Rattle.derivation_lines.proofs.count.form_length.Goals as goal
 
 pub returns-in-Arrow : goal.returns-in-Arrow

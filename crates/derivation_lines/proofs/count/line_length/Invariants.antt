@@ -1,4 +1,4 @@
-use Rattle.std.proofs.Common.{ℕ, List, [], ◌∷◌, ◌++◌, take}
+use Rattle.std.proofs.Common.{List, [], ◌∷◌, ◌++◌, take}
 use Rattle.std.specs.List.{flat_map}
 use Rattle.fz_ast.specs.Types.{Ty}
 use Rattle.fz_ast.specs.TypeNodes.{type_at}

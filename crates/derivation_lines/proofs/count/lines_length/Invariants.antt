@@ -1,4 +1,4 @@
-use Rattle.std.proofs.Common.{ℕ, List, take}
+use Rattle.std.proofs.Common.{List, take}
 use Rattle.fz_ast.specs.Types.{Ty}
 use Rattle.derivation_lines.specs.Counted.{AreCounts, IsCount}
 use Rattle.derivation_lines.specs.Held.{lines_in}

@@ -1,4 +1,4 @@
-use Rattle.std.proofs.Common.{List, append_assoc}
+use Rattle.std.proofs.Common.{append_assoc}
 use Rattle.derivation_lines.proofs.Pending.{writes_infix}
 use Rattle.derivation_lines.proofs.write.put_infix.Goals as goal
 

@@ -1,6 +1,5 @@
-use Rattle.std.proofs.Common.{◌≡◌, ◌++◌, ◌∷◌, [], List, subst}
+use Rattle.std.proofs.Common.{subst}
 use Rattle.derivation_lines.specs.Pending.{AreHeldPieces}
-use Rattle.derivation_lines.specs.declared.write.Piece.{Piece}
 use Rattle.derivation_lines.proofs.Pending.{held_last, writes_on}
 use Rattle.derivation_lines.proofs.write.put_type.Goals as goal
 

@@ -1,11 +1,18 @@
-use Rattle.std.proofs.Common.{◌+◌, ◌≤◌, length, sym, ap, ◌∙◌, arith, IfErr}
+use Rattle.std.proofs.Common.{◌+◌, ◌≤◌, ◌≡◌, length, sym, ap, ◌∙◌, arith, IfErr}
 use Rattle.fz_ast.proofs.Arenas.{grows_trans}
 use Rattle.fz_ast.specs.TermNodes.{term_at}
 use Rattle.derivation_rows.specs.Nodes.{nodes_of}
 use Rattle.derivation_rows.specs.Scoped.{context_in}
 use Rattle.derivation_lines.proofs.Numbered.{written_grows}
 use Rattle.derivation_rows.proofs.Scopes.{scope_grows}
-use Rattle.fz_derive.proofs.Verdicts.{all_lines, handed_on, has_bound, judged, misjudged, not_lines, tables_grow}
+use Rattle.fz_derive.proofs.Verdicts.{all_lines, handed_on, has_bound, judged, misjudged, not_lines, refused_so, tables_grow}
+use Rattle.fz_frac.specs.declared.frac.Frac.{Frac}
+use Rattle.fz_frac.specs.Distance.{Fin}
+use Rattle.derivation_lines.specs.declared.line.JudgeFault.{JudgeFault}
+use Rattle.derivation_lines.specs.declared.line.JudgeFault.TheVariants.{NoMemory}
+use Rattle.fz_derive.specs.Bound.{HasBound}
+use Rattle.fz_derive.specs.Judged.{IsJudged}
+use Rattle.fz_derive.proofs.Walked.{nodes_above}
 use Rattle.fz_derive.proofs.judge.judge_in.Goals as goal
 
 pub returns-in_err-lines-clause-fault : goal.returns-in_err-lines-clause-fault
@@ -71,3 +78,57 @@ returns-clause-fault c =
     misjudged c.args.sig.now c.args.term.now t c.args.bytes.now V (context_in V c.deref-5.result.now) ls c.parts-root.ensures.is
     (tables_grow c.args.sig.now c.tables_in_scope.new.arena c.interned.new.arena V c.in_ok-scope.scope.items c.deref-5.result.now c.in_ok-written.ensures.grows c.in_ok-lines.ensures.grows c.in_ok-scope.ensures.scope c.in_ok-scope.ensures.are c.deref-5.ensures.value)
     (rw c.deref-3.ensures.value c.in_ok-lines.ensures.lines) (rw c.deref-3.ensures.value (counted.0 ∙ ap nodes_of c.parts-root.ensures.is)) c.verdict.result c.verdict.ensures.fault
+
+pub returns-in_err-scope-clause-ok : goal.returns-in_err-scope-clause-ok
+returns-in_err-scope-clause-ok c = refused_so (λ (r : Frac). IsJudged c.args.sig.now c.args.term.now c.args.bytes.now (Fin r.p r.q)) (λ (y : JudgeFault). y ≡ NoMemory) c.from_residual.result c.from_residual.ensures.1
+
+pub returns-in_err-scope-clause-bound : goal.returns-in_err-scope-clause-bound
+returns-in_err-scope-clause-bound c = refused_so (λ (r : Frac). HasBound c.args.sig.now c.args.term.now (Fin r.p r.q)) (λ (y : JudgeFault). y ≡ NoMemory) c.from_residual.result c.from_residual.ensures.1
+
+pub returns-in_err-scope-clause-fault : goal.returns-in_err-scope-clause-fault
+returns-in_err-scope-clause-fault c = handed_on c.args.sig.now c.args.term.now c.args.bytes.now c.from_residual.result NoMemory c.from_residual.ensures.1 tt
+
+pub returns-in_err-written-clause-ok : goal.returns-in_err-written-clause-ok
+returns-in_err-written-clause-ok c = refused_so (λ (r : Frac). IsJudged c.args.sig.now c.args.term.now c.args.bytes.now (Fin r.p r.q)) (λ (y : JudgeFault). y ≡ NoMemory) c.from_residual-in_err-written.result c.from_residual-in_err-written.ensures.1
+
+pub returns-in_err-written-clause-bound : goal.returns-in_err-written-clause-bound
+returns-in_err-written-clause-bound c = refused_so (λ (r : Frac). HasBound c.args.sig.now c.args.term.now (Fin r.p r.q)) (λ (y : JudgeFault). y ≡ NoMemory) c.from_residual-in_err-written.result c.from_residual-in_err-written.ensures.1
+
+pub returns-in_err-written-clause-fault : goal.returns-in_err-written-clause-fault
+returns-in_err-written-clause-fault c = handed_on c.args.sig.now c.args.term.now c.args.bytes.now c.from_residual-in_err-written.result NoMemory c.from_residual-in_err-written.ensures.1 tt
+
+pub returns-in_err-sizes-clause-ok : goal.returns-in_err-sizes-clause-ok
+returns-in_err-sizes-clause-ok c = refused_so (λ (r : Frac). IsJudged c.args.sig.now c.args.term.now c.args.bytes.now (Fin r.p r.q)) (λ (y : JudgeFault). y ≡ NoMemory) c.from_residual-in_err-sizes.result c.from_residual-in_err-sizes.ensures.1
+
+pub returns-in_err-sizes-clause-bound : goal.returns-in_err-sizes-clause-bound
+returns-in_err-sizes-clause-bound c = refused_so (λ (r : Frac). HasBound c.args.sig.now c.args.term.now (Fin r.p r.q)) (λ (y : JudgeFault). y ≡ NoMemory) c.from_residual-in_err-sizes.result c.from_residual-in_err-sizes.ensures.1
+
+pub returns-in_err-sizes-clause-fault : goal.returns-in_err-sizes-clause-fault
+returns-in_err-sizes-clause-fault c = handed_on c.args.sig.now c.args.term.now c.args.bytes.now c.from_residual-in_err-sizes.result NoMemory c.from_residual-in_err-sizes.ensures.1 tt
+
+pub returns-in_err-lines-clause-ok : goal.returns-in_err-lines-clause-ok
+returns-in_err-lines-clause-ok c = refused_so (λ (r : Frac). IsJudged c.args.sig.now c.args.term.now c.args.bytes.now (Fin r.p r.q)) (λ (y : JudgeFault). y ≡ c.in_err-lines.field-0.0) c.from_residual-in_err-lines.result c.from_residual-in_err-lines.ensures.1
+
+pub returns-in_err-lines-clause-bound : goal.returns-in_err-lines-clause-bound
+returns-in_err-lines-clause-bound c = refused_so (λ (r : Frac). HasBound c.args.sig.now c.args.term.now (Fin r.p r.q)) (λ (y : JudgeFault). y ≡ c.in_err-lines.field-0.0) c.from_residual-in_err-lines.result c.from_residual-in_err-lines.ensures.1
+
+pub count-requires-clause-known : goal.count-requires-clause-known
+count-requires-clause-known c = rw c.deref.ensures.value (let h = c.in_ok-sizes.ensures.all in omega (arith, h))
+
+pub count-requires-clause-sizes : goal.count-requires-clause-sizes
+count-requires-clause-sizes c = rw c.deref.ensures.value c.in_ok-sizes.ensures.are
+
+pub sizes-requires : goal.sizes-requires
+sizes-requires c = c.parts-root.ensures.known
+
+pub verdict-requires-clause-known : goal.verdict-requires-clause-known
+verdict-requires-clause-known c = rw c.deref-4.ensures.value (let h = c.in_ok-sizes.ensures.all in omega (arith, h))
+
+pub read_lines-requires : goal.read_lines-requires
+read_lines-requires c = let h = c.requires in omega (arith, h)
+
+pub verdict-requires-clause-some : goal.verdict-requires-clause-some
+verdict-requires-clause-some c =
+    let t = term_at c.parts-root.result.0.now.terms c.parts-root.result.1 in
+    let counted = all_lines c.args.bytes.now c.read_lines.new.arena c.in_ok-lines.lines.items (nodes_of t) c.requires c.in_ok-lines.ensures.lines (c.in_ok-lines.ensures.count ∙ c.count.ensures) in
+    rw c.deref-3.ensures.value (let e = counted.0 in let m = nodes_above t in omega (arith, e, m))

@@ -1,7 +1,7 @@
 -- A signature's table keeps what tables keep.
 use Rattle.std.proofs.Common.{◌∙◌, ap}
 use Rattle.fz_ast.specs.Types.{formed, is_flat}
-use Rattle.part_views.proofs.Laws.{signature_at}
+use Rattle.part_views.proofs.CutLaws.{signature_at}
 use Rattle.part_views.proofs.division.alone.Goals as goal
 
 pub push-requires-clause-flat : goal.push-requires-clause-flat

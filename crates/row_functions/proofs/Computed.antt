@@ -6,7 +6,7 @@ use Rattle.metric_law.specs.Means.{Applies, Maps, Meaning, MeansIn, Rules, Split
 use Rattle.metric_values.specs.Values.{BagV, BangV, Bind, Env, Flat, InlV, InrV, NumF, NumV, PairV, TextV, UnitV, Value}
 use Rattle.run_values.specs.Flats.{flat_of}
 use Rattle.run_values.proofs.Bags.{flat_of_value}
-use Rattle.flow_values.specs.Computed.{Computing, applied, chosen, computed, computed_form, flat_number, given, images, is_true, value_or_unit}
+use Rattle.row_functions.specs.Computed.{Computing, applied, chosen, computed, computed_form, flat_number, given, images, is_true, value_or_unit}
 
 numbers_of : (zs : List ℤ) → map flat_number (map NumF zs) ≡ zs
 numbers_of [] = refl

@@ -1,0 +1,4 @@
+pub mod Outline
+pub mod Outcomes
+pub mod Numbers
+pub mod Texts

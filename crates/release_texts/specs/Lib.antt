@@ -1,0 +1,7 @@
+pub mod Bared
+pub mod Releases
+pub mod Words
+pub mod Fronts
+pub mod Slices
+pub mod Numbers
+pub mod Texts

@@ -1,0 +1,4 @@
+pub mod Computed
+pub mod Inferences
+pub mod Texts
+pub mod Examples

@@ -1,0 +1,5 @@
+use Rattle.row_functions.proofs.Inferences.{inferred}
+use Rattle.row_functions.proofs.functions_are_inferred.Goals as goal
+
+pub returns : goal.returns
+returns c = inferred
